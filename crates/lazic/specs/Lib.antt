@@ -1,0 +1,4 @@
+pub mod Answer
+pub mod Outcome
+pub mod Report
+pub mod Words

@@ -1,0 +1,4 @@
+pub mod Grammar
+pub mod Line
+pub mod RunFile
+pub mod ThinRun
