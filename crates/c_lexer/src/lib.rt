@@ -11,3 +11,6 @@ mod token;
 
 pub use lexer::lex;
 pub use token::{Mark, NumberForm, Token, TokenKind};
+
+#[cfg(test)]
+mod tests;
