@@ -12,11 +12,11 @@ mod words;
 use crate::top::run_words;
 use lv_outside::{FreeGate, HostFolder, HostSink, Sink};
 use std::alloc::AllocError;
-use std::env;
 use std::process::ExitCode;
 use std::random::RandomSource;
 use std::rt::{Clock, Env, Files};
 use std::time::SystemTime;
+use std::{env, io};
 
 const LAST_MOMENT: u64 = 253370764799;
 
@@ -30,8 +30,10 @@ where
     R: AllocGlobal + Env + Clock + Files + Print + RandomSource + Clone + Drop,
 {
     let alloc = rt.alloc();
-    let Ok(args) = env::args(rt) else {
-        return 16;
+    let args = match env::args(rt) {
+        Ok(args) => args,
+        Err(fail) if fail.kind() == io::ErrorKind::OutOfMemory => return no_memory(rt),
+        Err(_) => return 16,
     };
     let mut owned = Vec::new(alloc);
     for arg in args.skip(1) {

@@ -1,8 +1,10 @@
 ghost use Rattle.std.specs.Prelude.{◌≡◌, ◌≢◌, ◌⊎◌, ◌++◌, ℕ, List, map, pos, ◌≤ℤ◌, IsNone};
 ghost use Rattle.lazic.specs.Words.{request_of};
 ghost use Rattle.lv_outside.specs.Counts.{Rose};
-ghost use Rattle.lazic.specs.Outcome.{status_of};
-ghost use Rattle.lazic.specs.Answer.{outcome_of};
+ghost use Rattle.lv_outside.specs.Bytes.{GrewByFront};
+ghost use Rattle.lazic.specs.declared.outcome.Outcome.{Outcome};
+ghost use Rattle.lazic.specs.Outcome.{status_of, text_of};
+ghost use Rattle.lazic.specs.Answer.{outcome_of, IsCaused};
 ghost use Rattle.lazic.specs.Report.{kept_of, told_text, IsFree};
 
 use crate::answer::decide;
@@ -34,6 +36,9 @@ pub fn run_words<F: Folder, S: Sink, G: Gate>(
 
     // The text grows by the line of the answer.
     ensures printed { F.tells folder.old → S.tells out.new → result.status ≢ 14 → S.text out.new ≡ S.text out.old ++ told_text result.status (outcome_of (map (λ w. w.now) words.now) (F.file folder.old)) }
+
+    // Where the put fails, a first part of the line of some answer that has its cause was appended.
+    ensures cut { S.tells out.new → result.status ≡ 14 → (answer : Outcome) × IsCaused (Rose (F.read_faults folder.old) (F.read_faults folder.new)) (F.tells folder.old) (outcome_of (map (λ w. w.now) words.now) (F.file folder.old)) answer × GrewByFront (S.text out.old) (S.text out.new) (text_of answer) }
 
     // USAGE comes where the words ask for nothing, and only there; printing may fail there too.
     ensures usage { result.status ≡ 10 → IsNone (request_of (map (λ w. w.now) words.now)) }
