@@ -1,0 +1,5 @@
+pub mod Pieces
+pub mod Trues
+pub mod Sets
+pub mod Sound
+pub mod All

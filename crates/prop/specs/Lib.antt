@@ -1,0 +1,4 @@
+pub mod Logic
+pub mod Pieces
+pub mod Trues
+pub mod Steps
