@@ -3,6 +3,7 @@
 #![tactic(auto)]
 
 mod grammar;
+mod laws;
 mod line;
 mod run_file;
 mod thin;
@@ -10,6 +11,7 @@ mod thin_run;
 mod values;
 
 pub use grammar::parse;
+pub use laws::{run_text_is_read, thin_is_found};
 pub use run_file::read_run;
 pub use thin::{Compare, Piece, Thin};
 pub use thin_run::{Ending, run};
