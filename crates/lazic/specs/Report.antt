@@ -1,6 +1,7 @@
 -- What a report says of an answer.
 use Rattle.std.specs.Prelude.{ℕ, ◌≡◌, ◌⊎◌, List, ◌==◌, if◌then◌else◌}
-use Rattle.lazic.specs.Outcome.{text_of}
+use Rattle.lazic.specs.Meaning.{Means}
+use Rattle.lazic.specs.Outcome.{status_of, text_of}
 use Rattle.lazic.specs.declared.outcome.Outcome.{Outcome}
 use Rattle.lazic.specs.declared.outcome.Outcome.TheVariants.{Usage, ReadFault, Over, Faulty, BadRun, Reached, Ended, NeedsMore, BadValue, NoMemory}
 use Rattle.lazic.specs.declared.report.Kept.{Kept}
@@ -25,3 +26,7 @@ IsFree status = (status ≡ 13) ⊎ ((status ≡ 14) ⊎ (status ≡ 15))
 -- the line that goes with a status, where this is the right answer
 abbrev pub told_text : ℕ → Outcome → List ℕ
 told_text status right = if status == 13 then text_of ReadFault else if status == 15 then text_of NoMemory else text_of right
+
+-- the status and what is kept are those of the answer that is meant
+abbrev pub MeansReport : List (List ℕ) → (List ℕ → List ℕ) → ℕ → Kept → Type 0
+MeansReport words file status kept = (answer : Outcome) × Means words file answer × (status ≡ status_of answer) × (kept ≡ kept_of answer)

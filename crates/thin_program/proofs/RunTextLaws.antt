@@ -5,7 +5,8 @@ use Rattle.std.proofs.lemmas.Bool.Decides.{nat_tests}
 use Rattle.std.specs.Str.{bytes_eq}
 use Rattle.std.proofs.lemmas.Slice.Eq.{bytes_eq-Decides}
 use Rattle.std.specs.Int.Digits.{digits_of}
-use Rattle.std.proofs.lemmas.Int.Digits.{digits_of_step}
+use Rattle.std.proofs.lemmas.Int.Digits.{digits_of_step, length-digits_of-le}
+use Rattle.std.proofs.lemmas.List.{length-map}
 use Rattle.thin_program.specs.declared.line.Line.{Line}
 use Rattle.thin_program.specs.Line.{line_of, fresh_line, is_fresh, line_step, line_value}
 use Rattle.thin_program.specs.RunFile.{values_from, values_of}
@@ -48,6 +49,7 @@ digit_text (suc d) small =
   where
     zero_div : (n : ℕ) → n < 10 → n / 10 ≡ 0
     zero_div n small = omega arith
+
     same_mod : (n : ℕ) → n < 10 → n % 10 ≡ n
     same_mod n small = omega arith
 
@@ -84,8 +86,8 @@ first_digit neg val byte zero_ low high =
     record {
       good = record { none = λ e. absurd (cc e); short = omega arith };
       text = ap (λ (n : ℕ). sign ++ number_text n) value
-      ∙ ap (λ (l : List ℕ). sign ++ l) (digit_text (byte - 48) small ∙ ap (λ (b : ℕ). b ∷ []) digit)
-      ∙ ap (λ (l : List ℕ). l ++ byte ∷ []) (sym (append-nil sign));
+          ∙ ap (λ (l : List ℕ). sign ++ l) (digit_text (byte - 48) small ∙ ap (λ (b : ℕ). b ∷ []) digit)
+          ∙ ap (λ (l : List ℕ). l ++ byte ∷ []) (sym (append-nil sign));
     }
 
 later_digit : (neg : Bool) (val byte : ℕ) → 0 < val → val < 10 ^ 19 → 48 ≤ byte → byte ≤ 57 → Steps (line_of neg false val) (line_of neg false (val * 10 + (byte - 48))) byte
@@ -96,7 +98,7 @@ later_digit neg val byte some room low high =
     record {
       good = record { none = λ e. absurd (cc e); short = omega arith };
       text = ap (λ (l : List ℕ). sign ++ l) (longer_text val (byte - 48) some small ∙ ap (λ (b : ℕ). number_text val ++ b ∷ []) digit)
-      ∙ sym (append_assoc sign (number_text val) (byte ∷ []));
+          ∙ sym (append_assoc sign (number_text val) (byte ∷ []));
     }
 
 digit_step : (neg emp : Bool) (val byte : ℕ) (next : Line) → IsGood (line_of neg emp val) → 48 ≤ byte → byte ≤ 57 → (if (not emp && (val == 0)) || nat_le 10000000000000000000 val then None else Some (line_of neg false (val * 10 + (byte - 48)))) ≡ Some next → Steps (line_of neg emp val) next byte
@@ -320,3 +322,23 @@ pub run_text_reads : (file : List ℕ) (values : List ℤ) → IsRunText values 
 run_text_reads file values text =
     let few : length values ≤ 1000 = text.2 in
     ap values_of text.0 ∙ lines_read values [] text.1 (omega arith)
+
+number_length : (n : ℕ) → n < 10 ^ 20 → length (number_text n) ≤ 20
+number_length n short = by_test (n == 0) refl
+  where
+    by_test : (b : Bool) → b ≡ (n == 0) → length (if b then codes "0" else map (λ d. 48 + d) (digits_of 10 n)) ≤ 20
+    by_test true e = lit≤ tt
+    by_test false e = omega (arith, length-map (digits_of 10 n) (λ d. 48 + d), length-digits_of-le 10 20 n (lit≤ tt) short)
+
+value_length : (v : ℤ) → unsigned_abs v < 10 ^ 20 → length (value_text v) ≤ 21
+value_length (pos n) short = omega (arith, number_length n short)
+value_length (negsuc n) short = omega (arith, number_length (suc n) short)
+
+lines_length : (vs : List ℤ) → AreShort vs → length (lines_text vs) ≤ 22 * length vs
+lines_length [] short = lit≤ tt
+lines_length (v ∷ vs) short = omega (arith, length-append (value_text v) (10 ∷ lines_text vs), value_length v short.0, lines_length vs short.1)
+
+pub run_text_short : (file : List ℕ) (values : List ℤ) → IsRunText values file → length file ≤ 22006
+run_text_short file values text =
+    let few : length values ≤ 1000 = text.2 in
+    omega (arith, ap length text.0, lines_length values text.1)

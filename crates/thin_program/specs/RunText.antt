@@ -30,3 +30,7 @@ IsRunText values file = (file ≡ run_text values) × AreShort values × (length
 -- a file is the run text of at most one list of values, and `values_of` finds it exactly where there is one
 abbrev pub RunTextIsRead : Type 0
 RunTextIsRead = (file : List ℕ) (values : List ℤ) → (values_of file ≡ Some values) ↔ IsRunText values file
+
+-- a run file has at most 22,006 bytes
+abbrev pub RunTextIsShort : Type 0
+RunTextIsShort = (file : List ℕ) (values : List ℤ) → IsRunText values file → length file ≤ 22006
