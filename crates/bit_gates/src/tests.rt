@@ -319,7 +319,7 @@ fn sizes(rt: HostRuntime) -> Result<(), Fail> {
         (Gate::Multiplier, 32, 27_535, 8_311, 1_520),
         (Gate::Multiplier, 64, 113_407, 34_023, 6_112),
         (Gate::Divider, 32, 70_529, 20_865, 3_201),
-        (Gate::Divider, 64, 280_321, 82_625, 12_545),
+        (Gate::Divider, 64, 280_321, 82_689, 12_545),
         (Gate::Shifter(Shift::Left), 32, 2_945, 1_041, 218),
         (Gate::Shifter(Shift::Logical), 32, 2_945, 1_041, 218),
         (Gate::Shifter(Shift::Arithmetic), 32, 3_638, 1_230, 218),
