@@ -21,14 +21,14 @@ rising_at from (e ∷ es) n r (suc k) h =
     let ih = rising_at e es n r.1 k q in
     (subst (λ x. x ≤ get_or es k 0) (sym (start-more from e es k)) ih.0, ih.1)
 
-pub piece_at : (from : ℕ) (es : List ℕ) (xs : List Lit) (k : ℕ) → k < length es → slice_get (pieces from es xs) k ≡ Some (take (get_or es k 0 - start_of from es k) (drop (start_of from es k) xs))
+pub piece_at : {A : Type 0} (from : ℕ) (es : List ℕ) (xs : List A) (k : ℕ) → k < length es → slice_get (pieces from es xs) k ≡ Some (take (get_or es k 0 - start_of from es k) (drop (start_of from es k) xs))
 piece_at from [] xs k h = absurd (omega arith)
 piece_at from (e ∷ es) xs zero h = refl
 piece_at from (e ∷ es) xs (suc k) h =
     let q : k < length es = omega arith in
     subst (λ x. slice_get (pieces e es xs) k ≡ Some (take (get_or es k 0 - x) (drop x xs))) (sym (start-more from e es k)) (piece_at e es xs k q)
 
-pub length-pieces : (from : ℕ) (es : List ℕ) (xs : List Lit) → length (pieces from es xs) ≡ length es
+pub length-pieces : {A : Type 0} (from : ℕ) (es : List ℕ) (xs : List A) → length (pieces from es xs) ≡ length es
 length-pieces from [] xs = refl
 length-pieces from (e ∷ es) xs = ap suc (length-pieces e es xs)
 
@@ -46,7 +46,7 @@ pub rising-push : (from : ℕ) (es : List ℕ) (n m : ℕ) → Rising from es n 
 rising-push from [] n m r le = (omega (arith, r), refl)
 rising-push from (e ∷ es) n m r le = (r.0, rising-push e es n m r.1 le)
 
-pub pieces-push : (from : ℕ) (es : List ℕ) (xs c : List Lit) (m : ℕ) → Rising from es (length xs) → m ≡ length xs + length c
+pub pieces-push : {A : Type 0} (from : ℕ) (es : List ℕ) (xs c : List A) (m : ℕ) → Rising from es (length xs) → m ≡ length xs + length c
     → pieces from (es ++ m ∷ []) (xs ++ c) ≡ pieces from es xs ++ c ∷ []
 pieces-push from [] xs c m r e =
     let a : drop from (xs ++ c) ≡ drop from xs ++ c = drop-append-le from xs c (omega (arith, r)) in
@@ -64,14 +64,19 @@ pieces-push from (f ∷ es) xs c m r e =
     ap (λ z. z ∷ pieces f (es ++ m ∷ []) (xs ++ c)) g ∙ ap (λ z. take (f - from) (drop from xs) ∷ z) h
 
 -- what a push leaves
+pub rows_keep : {A : Type 0} (es es2 : List ℕ) (xs c xs2 : List A) (m : ℕ) → xs2 ≡ xs ++ c → es2 ≡ es ++ m ∷ [] → m ≡ length xs + length c → Rising 0 es (length xs) → Rising 0 es2 (length xs2)
+rows_keep es es2 xs c xs2 m a b e r =
+    let n : length xs2 ≡ m = ap length a ∙ length-append xs c ∙ sym e in
+    let r2 : Rising 0 es2 m = subst (λ w. Rising 0 w m) (sym b) (rising-push 0 es (length xs) m r (omega (arith, e))) in
+    subst (Rising 0 es2) (sym n) r2
+
 pub push_keeps : (es es2 : List ℕ) (xs c xs2 : List Lit) (m : ℕ) → xs2 ≡ xs ++ c → es2 ≡ es ++ m ∷ [] → m ≡ length xs + length c → Rising 0 es (length xs) → m ≤ 67108864 → length es < 4294967295
     → Rising 0 es2 (length xs2) × (length xs2 ≤ 67108864) × (length es2 < 4294967296)
 push_keeps es es2 xs c xs2 m a b e r le few =
     let n : length xs2 ≡ m = ap length a ∙ length-append xs c ∙ sym e in
     let k : length es2 ≡ length es + 1 = ap length b ∙ length-append es (m ∷ []) in
-    let r2 : Rising 0 es2 m = subst (λ w. Rising 0 w m) (sym b) (rising-push 0 es (length xs) m r (omega (arith, e))) in
-    (subst (Rising 0 es2) (sym n) r2, omega (arith, n, le), omega (arith, k, few))
+    (rows_keep es es2 xs c xs2 m a b e r, omega (arith, n, le), omega (arith, k, few))
 
-pub push_view : (es es2 : List ℕ) (xs c xs2 : List Lit) (m : ℕ) (view : List (List Lit)) → xs2 ≡ xs ++ c → es2 ≡ es ++ m ∷ [] → m ≡ length xs + length c → Rising 0 es (length xs) → pieces 0 es xs ≡ view
+pub push_view : {A : Type 0} (es es2 : List ℕ) (xs c xs2 : List A) (m : ℕ) (view : List (List A)) → xs2 ≡ xs ++ c → es2 ≡ es ++ m ∷ [] → m ≡ length xs + length c → Rising 0 es (length xs) → pieces 0 es xs ≡ view
     → pieces 0 es2 xs2 ≡ view ++ c ∷ []
 push_view es es2 xs c xs2 m view a b e r v = rw (a, b) (pieces-push 0 es xs c m r e ∙ ap (λ w. w ++ c ∷ []) v)

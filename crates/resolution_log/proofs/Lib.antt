@@ -1,0 +1,10 @@
+pub mod Results
+pub mod Propagates
+pub mod Pushes
+pub mod Sames
+pub mod Exact
+pub mod Cones
+pub mod Places
+pub mod MarkLaws
+pub mod StepLaws
+pub mod RowLaws

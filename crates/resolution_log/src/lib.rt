@@ -1,0 +1,143 @@
+//! Refutations: logs of resolution steps, their checker, and what makes a learned clause worth its place.
+//!
+//! A SAFE answer rests on refutations that anyone may have made; [`check_log`] accepts exactly those that are valid.
+//! The definitions of new logs and lean refutations, and their laws, are those that the solver's answers cite.
+#![tactic(auto)]
+
+ghost use Rattle.std.specs.Prelude.{◌≡◌, ℕ, ◌+◌, ◌<◌, ◌≤◌, ◌^◌, List, [], ◌∷◌, ◌++◌, length, IfOk, OnErr, MatchResult};
+
+mod check;
+pub mod laws;
+mod marks;
+mod numbering;
+mod rows;
+#[cfg(test)]
+mod tests;
+
+pub use check::check_log;
+pub use numbering::{code, coded, number_of, variables};
+pub use rows::Rows;
+use std::alloc::{AllocError, Global};
+use thiserror::Error;
+
+/// The pairs of a chain in order: a pivot variable, and the number of the clause to resolve with. Contracts see the
+/// list.
+#[derive(Drop)]
+pub struct Pairs {
+    items: Vec<(u32, u32)>,
+}
+
+impl std::marker::Model for Pairs {
+    ghost use Rattle.std.specs.Prelude.{ℕ, List};
+
+    ghost Value = { List (ℕ × ℕ) };
+
+    ghost view = { λ s. s.items.items };
+}
+
+impl Pairs {
+    /// No pair. It takes no memory.
+    pub fn new(alloc: Global) -> Pairs
+        ensures { result ≡ [] }
+    {
+        Pairs {
+            items: Vec::new(alloc),
+        }
+    }
+
+    /// Adds a pair at the end.
+    pub fn push(&mut self, pivot: u32, clause: u32) -> Result<(), AllocError>
+        ensures pushed { IfOk result (λ _. self.new ≡ self.old ++ (pivot, clause) ∷ []) }
+        ensures kept { OnErr result (self.new ≡ self.old) }
+    {
+        self.items.push((pivot, clause))?;
+        Ok(())
+    }
+
+    /// The pairs.
+    pub fn as_slice(&self) -> &[(u32, u32)]
+        ensures { result.now ≡ self.now }
+    {
+        self.items.as_slice()
+    }
+}
+
+/// A chain of resolution steps: the clause with the number `first` is resolved with the clause of each pair in turn,
+/// on the pair's pivot. Clauses are numbered from 0: first those that are given, then the results of the chains.
+#[derive(Drop)]
+pub struct Chain {
+    /// The clause to begin with.
+    pub first: u32,
+    /// The steps.
+    pub pairs: Pairs,
+}
+
+/// A list of chains, fewer than 2^32. Contracts see the list.
+#[derive(Drop)]
+pub struct Log {
+    chains: Vec<Chain>,
+}
+
+impl std::marker::Model for Log {
+    ghost use Rattle.std.specs.Prelude.{List, length, ◌<◌};
+    ghost use Rattle.resolution_log.specs.declared.Chain.{Chain};
+
+    ghost Value = { List Chain };
+
+    ghost view = { λ s. s.chains.items };
+
+    ghost invariant = { λ s. length s.chains.items < 4294967296 };
+}
+
+impl Log {
+    /// No chain. It takes no memory.
+    pub fn new(alloc: Global) -> Log
+        ensures { result ≡ [] }
+    {
+        Log {
+            chains: Vec::new(alloc),
+        }
+    }
+
+    /// The log of these chains. It takes no memory.
+    pub fn from_chains(chains: Vec<Chain>) -> Log
+        requires { length chains.items < 4294967296 }
+        ensures { result ≡ chains.items }
+    {
+        Log { chains }
+    }
+
+    /// Adds a chain at the end. It fails where memory runs out, or a number of 32 bits for the chain does.
+    pub fn push(&mut self, chain: Chain) -> Result<(), AllocError>
+        ensures pushed { IfOk result (λ _. self.new ≡ self.old ++ chain ∷ []) }
+        ensures kept { OnErr result (self.new ≡ self.old) }
+    {
+        if self.chains.len() >= 0xffff_ffff {
+            return Err(AllocError);
+        }
+        self.chains.push(chain)?;
+        Ok(())
+    }
+
+    /// The chains.
+    pub fn chains(&self) -> &[Chain]
+        ensures value { result.now ≡ self.now }
+        ensures few { length self.now < 4294967296 }
+    {
+        self.chains.as_slice()
+    }
+}
+
+/// Why a log is not accepted.
+#[derive(Debug, Drop, Error)]
+pub enum LogFail {
+    /// The chain with this number, counted from 0, is the first that is not valid.
+    #[error("chain {0} is not valid")]
+    BadStep(u32),
+    /// All chains are valid, and there is none or the last result is not empty.
+    #[error("the last result is not the empty clause")]
+    NoEmpty,
+    /// Memory ran out.
+    #[error("out of memory")]
+    Memory,
+}

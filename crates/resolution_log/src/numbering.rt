@@ -1,0 +1,103 @@
+//! Dense numbers for the variables that occur, so that memory is linear in the literals whatever the variables are.
+
+ghost use Rattle.std.specs.Prelude.{◌≡◌, ℕ, ◌+◌, ◌*◌, ◌<◌, ◌≤◌, List, [], ◌∷◌, ◌++◌, length, IfOk, MatchOption, true, false, Some, slice_get};
+ghost use Rattle.std.specs.List.Sorted.{IsStrictlyIncreasing};
+ghost use Rattle.prop.specs.Trues.{listed};
+ghost use Rattle.resolution_log.specs.Codes.{vars_of, all_vars, place, code_of, codes_of, all_codes, Covers, CoversAll};
+
+use crate::Rows;
+use prop::{Clauses, Lit};
+use std::alloc::{AllocError, Global};
+
+fn add_vars(vars: &mut Vec<u32>, clause: &[Lit]) -> Result<(), AllocError>
+    ensures { IfOk result (λ _. vars.new.items ≡ vars.old.items ++ vars_of clause.now) }
+{
+    for l in clause {
+        vars.push(l.var)?;
+    }
+    Ok(())
+}
+
+fn collect_vars(alloc: Global, clauses: &Clauses) -> Result<Vec<u32>, AllocError>
+    ensures items { IfOk result (λ vars. vars.items ≡ all_vars clauses.now) }
+    ensures few { IfOk result (λ vars. length vars.items ≤ 67108864) }
+{
+    let _ = clauses.literals();
+    let mut vars = Vec::new(alloc);
+    for number in 0..clauses.len() {
+        add_vars(&mut vars, clauses.clause(number))?;
+    }
+    Ok(vars)
+}
+
+/// The variables that occur in clauses, each once and rising. A variable's number is its place.
+pub fn variables(alloc: Global, clauses: &Clauses) -> Result<Vec<u32>, AllocError>
+    ensures rising { IfOk result (λ vars. IsStrictlyIncreasing vars.items) }
+    ensures covers { IfOk result (λ vars. CoversAll vars.items clauses.now) }
+    ensures few { IfOk result (λ vars. length vars.items ≤ 67108864) }
+{
+    let mut vars = collect_vars(alloc, clauses)?;
+    vars.sort_unstable();
+    vars.dedup();
+    Ok(vars)
+}
+
+/// The number of a variable, where it occurs. It is found at once where no smaller variable is missing, and else by
+/// binary search.
+pub fn number_of(vars: &[u32], var: u32) -> Option<u32>
+    requires rising { IsStrictlyIncreasing vars.now }
+    requires few { length vars.now ≤ 67108864 }
+    ensures { MatchOption result (listed vars.now var ≡ false) (λ k. (listed vars.now var ≡ true) × (k ≡ place vars.now var) × (k < length vars.now)) }
+{
+    let at = var as usize;
+    if at < vars.len() && vars[at] == var {
+        return Some(var);
+    }
+    match vars.binary_search(&var) {
+        Ok(k) => Some(k as u32),
+        Err(_) => None,
+    }
+}
+
+/// The code of a literal whose variable occurs.
+pub fn code(vars: &[u32], l: Lit) -> u32
+    requires rising { IsStrictlyIncreasing vars.now }
+    requires few { length vars.now ≤ 67108864 }
+    requires occurs { listed vars.now l.var ≡ true }
+    ensures value { result ≡ code_of vars.now l }
+    ensures below { code_of vars.now l < 2 * length vars.now }
+{
+    let Some(number) = number_of(vars, l.var) else {
+        unreachable!()
+    };
+    2 * number + if l.positive { 0 } else { 1 }
+}
+
+fn add_codes(vars: &[u32], row: &mut Vec<u32>, clause: &[Lit]) -> Result<(), AllocError>
+    requires rising { IsStrictlyIncreasing vars.now }
+    requires few { length vars.now ≤ 67108864 }
+    requires covers { Covers vars.now clause.now }
+    ensures { IfOk result (λ _. row.new.items ≡ row.old.items ++ codes_of vars.now clause.now) }
+{
+    for l in clause {
+        row.push(code(vars, *l))?;
+    }
+    Ok(())
+}
+
+/// The clauses as lists of codes.
+pub fn coded(alloc: Global, vars: &[u32], clauses: &Clauses) -> Result<Rows, AllocError>
+    requires rising { IsStrictlyIncreasing vars.now }
+    requires few { length vars.now ≤ 67108864 }
+    requires covers { CoversAll vars.now clauses.now }
+    ensures { IfOk result (λ rows. rows ≡ all_codes vars.now clauses.now) }
+{
+    let mut rows = Rows::new(alloc);
+    let mut row = Vec::new(alloc);
+    for number in 0..clauses.len() {
+        row.clear();
+        add_codes(vars, &mut row, clauses.clause(number))?;
+        rows.push(row.as_slice())?;
+    }
+    Ok(rows)
+}
