@@ -72,6 +72,15 @@ impl Tree {
         self.terms.put(term)
     }
 
+    /// An equal tree.
+    pub fn copy(&self, alloc: Global) -> Result<Tree, Memory>
+        ensures { IfOk result (λ t. t ≡ self.now) }
+    {
+        let vertices = copy_of_vertices(alloc, &self.vertices)?;
+        let terms = self.terms.copy()?;
+        Ok(Tree { vertices, terms })
+    }
+
     /// Whether a vertex of this number is there, without children, and at a plain node of the graph.
     pub fn may_expand(&self, graph: &Graph, v: VertexId) -> bool
         ensures { IsTrue result → MayExpand graph.now self.now v }
@@ -202,4 +211,30 @@ fn is_plain(nodes: &[Node], node: NodeId) -> bool
         Node::Plain => true,
         Node::Error(_, _) | Node::End | Node::Call(_, _) => false,
     }
+}
+
+fn copy_of_vertices(alloc: Global, vertices: &[Vertex]) -> Result<Vec<Vertex>, Memory>
+    ensures { IfOk result (λ v. v.items ≡ vertices.now) }
+{
+    let mut copies = Vec::new(alloc);
+    for vertex in vertices {
+        let copy = vertex_copy(alloc, vertex)?;
+        copies.push(copy)?;
+    }
+    Ok(copies)
+}
+
+fn vertex_copy(alloc: Global, vertex: &Vertex) -> Result<Vertex, Memory>
+    ensures { IfOk result (λ v. v ≡ vertex.now) }
+{
+    let label = vertex.label.as_slice().to_vec(alloc)?;
+    let children = vertex.children.as_slice().to_vec(alloc)?;
+    Ok(Vertex {
+        parent: vertex.parent,
+        by: vertex.by,
+        node: vertex.node,
+        label: Label::new(label),
+        version: vertex.version,
+        children: Children::new(children),
+    })
 }
