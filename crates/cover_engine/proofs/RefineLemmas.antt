@@ -36,9 +36,9 @@ path-climbs vs (suc n) v p lt e =
     let z : suc n - 1 ≡ n = omega arith in
     ap (λ (xs : List ℕ). v ∷ xs) (up (vertex_at vs v).parent e ∙ ap (λ (m : ℕ). path_up vs m p.0) (sym z))
   where
-  up : (r : Option VertexId) → Some p ≡ r → elim r [ None ↦ [] | Some q ↦ path_up vs n q.0 ] ≡ path_up vs n p.0
-  up None q = absurd (cc)
-  up (Some x) q = let same : x ≡ p = cc in ap (λ (y : VertexId). path_up vs n y.0) same
+    up : (r : Option VertexId) → Some p ≡ r → elim r [ None ↦ [] | Some q ↦ path_up vs n q.0 ] ≡ path_up vs n p.0
+    up None q = absurd (cc)
+    up (Some x) q = let same : x ≡ p = cc in ap (λ (y : VertexId). path_up vs n y.0) same
 
 pub path-more : (vs : List Vertex) (acc new whole : List ℕ) (n v : ℕ) (p : VertexId) → 0 < n → Some p ≡ (vertex_at vs v).parent
     → new ≡ acc ++ v ∷ [] → acc ++ path_up vs n v ≡ whole → new ++ path_up vs (n - 1) p.0 ≡ whole
