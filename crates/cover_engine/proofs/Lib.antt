@@ -1,0 +1,4 @@
+pub mod Climbing
+pub mod Legality
+pub mod UnitLemmas
+pub mod RefineLemmas

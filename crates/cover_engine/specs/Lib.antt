@@ -1,0 +1,5 @@
+pub mod Reads
+pub mod Unwindings
+pub mod Units
+pub mod WellLabelled
+pub mod Steering

@@ -1,0 +1,187 @@
+//! Look-ups over the parts of an unwinding. They take no memory.
+ghost use Rattle.std.specs.Prelude.{◌≡◌, ◌<◌, ◌||◌, length, false, slice_get, IfOk};
+ghost use Rattle.cover_engine.specs.Units.{apart_now, pairs_but_under};
+ghost use Rattle.reach_tree.specs.Trees.{vertex_at};
+ghost use Rattle.cover_engine.specs.Unwindings.{any_of, has, is_end, is_false_term, is_left, path_up, some_false, stays_apart, yes_since};
+
+use crate::unit::{Apart, UnitDone};
+use bv_term::{Term, TermId, Terms};
+use c_graph::Node;
+use lv_base::Memory;
+use reach_tree::{Vertex, VertexId};
+use std::alloc::Global;
+
+/// The parent of the vertex of this number, none past the end.
+pub fn parent_of(vertices: &[Vertex], v: usize) -> Option<VertexId>
+    ensures { result ≡ (vertex_at vertices.now v).parent }
+{
+    if v < vertices.len() {
+        vertices[v].parent
+    } else {
+        None
+    }
+}
+
+/// Whether the vertex of this number is the left side of a pair.
+pub fn is_left_side(pairs: &[(VertexId, VertexId)], v: usize) -> bool
+    ensures { result ≡ is_left pairs.now v }
+{
+    for pair in pairs {
+        if pair.0.0 as usize == v {
+            return true;
+        }
+    }
+    false
+}
+
+/// Whether the vertex of this number or an ancestor is the left side of a pair.
+#[tactic(auto, using(crate::proofs::Climbing::climbing))]
+pub fn covered_at(vertices: &[Vertex], pairs: &[(VertexId, VertexId)], v: usize) -> bool
+    ensures { result ≡ any_of (is_left pairs.now) (path_up vertices.now (length vertices.now) v) }
+{
+    let mut at = v;
+    let mut left = vertices.len();
+    while left > 0 {
+        if is_left_side(pairs, at) {
+            return true;
+        }
+        match parent_of(vertices, at) {
+            None => return false,
+            Some(parent) => at = parent.0 as usize,
+        }
+        left -= 1;
+    }
+    false
+}
+
+/// Whether the vertex u is the vertex of the second number or an ancestor of it.
+#[tactic(auto, using(crate::proofs::Climbing::climbing))]
+pub fn above_at(vertices: &[Vertex], u: usize, v: usize) -> bool
+    ensures { result ≡ has u (path_up vertices.now (length vertices.now) v) }
+{
+    let mut at = v;
+    let mut left = vertices.len();
+    while left > 0 {
+        if at == u {
+            return true;
+        }
+        match parent_of(vertices, at) {
+            None => return false,
+            Some(parent) => at = parent.0 as usize,
+        }
+        left -= 1;
+    }
+    false
+}
+
+/// Whether a CoverYes of the pair stands since the last Refine.
+pub fn yes_stands(journal: &[UnitDone], v: VertexId, w: VertexId) -> bool
+    ensures { result ≡ yes_since false journal.now v w }
+{
+    let mut stands = false;
+    for unit in journal {
+        match unit {
+            UnitDone::Expand(_) | UnitDone::CoverNo(_, _, _) => {}
+            UnitDone::Refine(_, _) => stands = false,
+            UnitDone::CoverYes(x, y) => stands = stands || (x.0 == v.0 && y.0 == w.0),
+        }
+    }
+    stands
+}
+
+/// Whether the pair was kept apart, with both labels as they are.
+pub fn is_apart(apart: &[Apart], vertices: &[Vertex], v: VertexId, w: VertexId) -> bool
+    requires left { v.0 < length vertices.now }
+    requires right { w.0 < length vertices.now }
+    ensures { result ≡ stays_apart apart.now vertices.now v w }
+{
+    let left = vertices[v.0 as usize].version;
+    let right = vertices[w.0 as usize].version;
+    for entry in apart {
+        if entry.left.0 == v.0
+            && entry.right.0 == w.0
+            && entry.left_version == left
+            && entry.right_version == right
+        {
+            return true;
+        }
+    }
+    false
+}
+
+/// Whether the term is false, a constant 0 of width 1.
+fn is_false(terms: &Terms, term: TermId) -> bool
+    ensures { result ≡ is_false_term terms.now term }
+{
+    if term.0 >= terms.count() {
+        return false;
+    }
+    match terms.get(term) {
+        Term::Constant(width, value) => width == 1 && value == 0,
+        _ => false,
+    }
+}
+
+/// Whether the label has the conjunct false.
+fn has_false(terms: &Terms, label: &[TermId]) -> bool
+    ensures { result ≡ some_false terms.now label.now }
+{
+    for conjunct in label {
+        if is_false(terms, *conjunct) {
+            return true;
+        }
+    }
+    false
+}
+
+/// Whether the node of this number is an end.
+fn ends(nodes: &[Node], node: usize) -> bool
+    ensures { result ≡ is_end (slice_get nodes.now node) }
+{
+    if node >= nodes.len() {
+        return false;
+    }
+    match nodes[node] {
+        Node::End => true,
+        Node::Plain | Node::Error(_, _) | Node::Call(_, _) => false,
+    }
+}
+
+/// Whether the vertex's label has the conjunct false or its node is an end.
+pub fn closed_at(nodes: &[Node], terms: &Terms, vertex: &Vertex) -> bool
+    ensures { result ≡ (some_false terms.now vertex.now.label || is_end (slice_get nodes.now vertex.now.node.0)) }
+{
+    has_false(terms, vertex.label.as_slice()) || ends(nodes, vertex.node.0 as usize)
+}
+
+/// The pair as it is kept apart now.
+pub fn entry_of(vertices: &[Vertex], v: VertexId, w: VertexId) -> Apart
+    requires left { v.0 < length vertices.now }
+    requires right { w.0 < length vertices.now }
+    ensures { result ≡ apart_now vertices.now v w }
+{
+    Apart {
+        left: v,
+        right: w,
+        left_version: vertices[v.0 as usize].version,
+        right_version: vertices[w.0 as usize].version,
+    }
+}
+
+/// The pairs whose right side is neither the vertex nor below it.
+pub fn pairs_kept(
+    alloc: Global,
+    vertices: &[Vertex],
+    v: VertexId,
+    pairs: &[(VertexId, VertexId)],
+) -> Result<Vec<(VertexId, VertexId)>, Memory>
+    ensures { IfOk result (λ r. r.items ≡ pairs_but_under vertices.now v pairs.now) }
+{
+    let mut kept = Vec::new(alloc);
+    for pair in pairs {
+        if !above_at(vertices, v.0 as usize, pair.1.0 as usize) {
+            kept.push(*pair)?;
+        }
+    }
+    Ok(kept)
+}

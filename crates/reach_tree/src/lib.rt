@@ -1,0 +1,11 @@
+//! Trees of paths through a graph, with a label of conjuncts at each vertex.
+#![tactic(auto)]
+
+mod tree;
+mod vertex;
+
+pub use tree::Tree;
+pub use vertex::{Children, Label, Vertex, VertexId};
+
+#[cfg(test)]
+mod tests;
