@@ -106,3 +106,10 @@ pub blank : (n k : ℕ) → get_or (replicate n false) k false ≡ false
 blank zero k = refl
 blank (suc n) zero = refl
 blank (suc n) (suc k) = blank n k
+
+pub nil_of : (c : List Lit) → length c ≡ 0 → c ≡ []
+nil_of [] h = refl
+nil_of (l ∷ c) h = absurd (omega arith)
+
+pub round_index : (known : List (List Lit)) (k : ℕ) (c : List Lit) → slice_get known k ≡ Some c → k < length known
+round_index known k c g = get-below known k c g

@@ -275,20 +275,23 @@ fn start(alloc: Global, clauses: &Clauses, learn: u64, limit: u64) -> Result<Sol
     requires some { (c : List Lit) → In clauses.now c → c ≡ [] → ⊥ }
     ensures state { IfOk result (StateOf clauses.now learn limit) }
 {
+    let _ = clauses.len();
     let vars = variables(alloc, clauses)?;
     let truth = vec![in alloc; false; 2 * vars.len()]?;
     let levels = vec![in alloc; 0usize; vars.len()]?;
     let known = copy_all(alloc, clauses)?;
+    let entries = Vec::new(alloc);
+    let log = Log::new(alloc);
     Ok(Solver {
         known,
         trail: Trail {
             vars,
-            entries: Vec::new(alloc),
+            entries,
             truth,
             levels,
         },
         level: 0,
-        log: Log::new(alloc),
+        log,
         pairs: 0,
     })
 }
@@ -301,11 +304,9 @@ fn search(alloc: Global, clauses: &Clauses, learn: u64, limit: u64) -> Result<En
     ensures { IfOk result (IsEnding clauses.now learn limit) }
 {
     if let Some(first) = find_empty(clauses) {
+        let pairs = Pairs::new(alloc);
         let mut log = Log::new(alloc);
-        log.push(Chain {
-            first,
-            pairs: Pairs::new(alloc),
-        })?;
+        log.push(Chain { first, pairs })?;
         return Ok(Ending::Refuted(log));
     }
     let mut s = start(alloc, clauses, learn, limit)?;
