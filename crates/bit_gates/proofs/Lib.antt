@@ -1,0 +1,14 @@
+pub mod Nets
+pub mod Cuts
+pub mod Puts
+pub mod Within
+pub mod Exacts
+pub mod SingleLaws
+pub mod AddLaws
+pub mod ProductLaws
+pub mod DivideLaws
+pub mod OrderLaws
+pub mod Lengths
+pub mod ShiftLaws
+pub mod Weights
+pub mod Gates

@@ -1,0 +1,26 @@
+use Rattle.std.proofs.Common.{◌≡◌, ◌+◌, length, ◌++◌, arith}
+use Rattle.std.proofs.lemmas.Grind.{common_steps}
+use Rattle.bit_gates.specs.Net.{net_clauses}
+use Rattle.bit_gates.specs.Orders.{less_of}
+use Rattle.bit_gates.proofs.Gates.{less_exact, less_scope}
+use Rattle.bit_gates.proofs.Weights.{count_after, less_of-weights}
+use Rattle.bit_gates.proofs.comparisons.less.Goals as goal
+
+pub returns-clause-law : goal.returns-clause-law
+returns-clause-law c =
+    let m = less_of c.args.next.now c.args.signed c.args.a.now c.args.b.now in
+    let o : c.in-Ok.made ≡ m.out = grind (arith, common_steps) in
+    rw o (less_exact c.args.next.now c.args.signed c.args.a.now c.args.b.now c.requires.some c.requires.same_length c.requires.a_below c.requires.b_below)
+
+pub returns-clause-scope : goal.returns-clause-scope
+returns-clause-scope c =
+    let m = less_of c.args.next.now c.args.signed c.args.a.now c.args.b.now in
+    let o : c.in-Ok.made ≡ m.out = grind (arith, common_steps) in
+    let e : c.close.new.next ≡ c.args.next.now + length m.defs = grind (arith, common_steps) in
+    rw (o, e) (less_scope c.args.next.now c.args.signed c.args.a.now c.args.b.now c.requires.some c.requires.same_length)
+
+pub returns-clause-size : goal.returns-clause-size
+returns-clause-size c =
+    let m = less_of c.args.next.now c.args.signed c.args.a.now c.args.b.now in
+    let e : c.close.new.clauses ≡ c.args.clauses.now ++ net_clauses c.args.next.now m.defs = grind (arith, common_steps) in
+    omega (arith, count_after c.args.clauses.now c.close.new.clauses c.args.next.now m.defs e, less_of-weights c.args.next.now c.args.signed c.args.a.now c.args.b.now c.requires.some c.requires.same_length)

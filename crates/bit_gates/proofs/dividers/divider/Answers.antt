@@ -1,0 +1,28 @@
+use Rattle.std.proofs.Common.{◌≡◌, ◌+◌, length, ◌++◌, arith}
+use Rattle.std.proofs.lemmas.Grind.{common_steps}
+use Rattle.bit_gates.specs.Net.{net_clauses}
+use Rattle.bit_gates.specs.Quotients.{quotient}
+use Rattle.bit_gates.proofs.Gates.{quotient_exact, quotient_scope}
+use Rattle.bit_gates.proofs.Weights.{count_after, quotient-weights}
+use Rattle.bit_gates.proofs.dividers.divider.Goals as goal
+
+pub returns-clause-law : goal.returns-clause-law
+returns-clause-law c =
+    let m = quotient c.args.next.now c.args.a.now c.args.b.now in
+    let o : c.in-Ok.made.0.items ≡ m.quot = grind (arith, common_steps) in
+    let k : c.in-Ok.made.1.items ≡ m.rest = grind (arith, common_steps) in
+    rw (o, k) (quotient_exact c.args.next.now c.args.a.now c.args.b.now c.requires.a_below c.requires.b_below)
+
+pub returns-clause-scope : goal.returns-clause-scope
+returns-clause-scope c =
+    let m = quotient c.args.next.now c.args.a.now c.args.b.now in
+    let o : c.in-Ok.made.0.items ≡ m.quot = grind (arith, common_steps) in
+    let k : c.in-Ok.made.1.items ≡ m.rest = grind (arith, common_steps) in
+    let e : c.close.new.next ≡ c.args.next.now + length m.defs = grind (arith, common_steps) in
+    rw (o, k, e) (quotient_scope c.args.next.now c.args.a.now c.args.b.now)
+
+pub returns-clause-size : goal.returns-clause-size
+returns-clause-size c =
+    let m = quotient c.args.next.now c.args.a.now c.args.b.now in
+    let e : c.close.new.clauses ≡ c.args.clauses.now ++ net_clauses c.args.next.now m.defs = grind (arith, common_steps) in
+    omega (arith, count_after c.args.clauses.now c.close.new.clauses c.args.next.now m.defs e, quotient-weights c.args.next.now c.args.a.now c.args.b.now c.requires.same_length)

@@ -1,0 +1,4 @@
+use Rattle.bit_gates.proofs.emission.push_carry.Goals as goal
+
+pub returns : goal.returns
+returns c = rw (c.negate-no.ensures, c.negate-na.ensures, c.negate-nb.ensures, c.negate-nc.ensures) at c.push_each.ensures

@@ -1,0 +1,9 @@
+pub mod Net
+pub mod Cut
+pub mod Singles
+pub mod Sums
+pub mod Products
+pub mod Quotients
+pub mod Orders
+pub mod Shifts
+pub mod Laws

@@ -1,0 +1,5 @@
+pub mod Narrow
+pub mod Growing
+pub mod Rows
+pub mod Bounds
+pub mod Staying

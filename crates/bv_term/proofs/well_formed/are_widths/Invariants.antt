@@ -1,0 +1,6 @@
+use Rattle.std.proofs.Common.{◌<◌, slice_index, ℕ}
+use Rattle.bv_term.specs.WellFormed.{IsWidth}
+use Rattle.bv_term.proofs.well_formed.are_widths.Given as goal
+
+abbrev pub invariant-loop-cell : goal.invariant-loop-cell
+invariant-loop-cell l = (k : ℕ) → k < l.cell-index → IsWidth (slice_index l.cells k)

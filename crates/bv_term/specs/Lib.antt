@@ -1,0 +1,5 @@
+pub mod Numbers
+pub mod WellFormed
+pub mod Values
+pub mod Keys
+pub mod Laws

@@ -1,0 +1,17 @@
+use Rattle.std.proofs.Common.{⊎_elim, inl, inr}
+use Rattle.lazic.specs.declared.outcome.Outcome.TheVariants.{NoMemory}
+use Rattle.lazic.proofs.MeaningLaws.{computed_is_meant, meant_is_computed, report_means}
+use Rattle.lazic.proofs.top.run_words.Goals as goal
+
+pub returns-clause-cut : goal.returns-clause-cut
+returns-clause-cut g c told fourteen = elim (c.print.ensures.cut told fourteen) [
+  | inl grew ↦ (c.decide-outcome.result, c.decide-outcome.ensures.caused, grew)
+  | inr grew ↦ (NoMemory, tt, grew)
+]
+
+pub returns-clause-one_answer : goal.returns-clause-one_answer
+returns-clause-one_answer g c words file answer = (computed_is_meant words file answer, meant_is_computed words file answer)
+
+pub returns-clause-means : goal.returns-clause-means
+returns-clause-means g c told =
+    report_means _ _ _ _ c.decide-outcome.result c.print.result.status c.print.result.kept c.decide-outcome.ensures.caused told c.print.ensures.status

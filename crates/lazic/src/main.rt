@@ -1,0 +1,102 @@
+//! `lazic replay SOURCE RUN` answers what a thin program does with given values.
+#![tactic(auto)]
+
+ghost use Rattle.std.specs.Prelude.{pos, ◌≤ℤ◌};
+
+mod answer;
+mod outcome;
+mod report;
+mod top;
+mod words;
+
+use crate::top::run_words;
+use lv_outside::{FreeGate, HostFolder, HostSink, Sink};
+use std::alloc::AllocError;
+use std::process::ExitCode;
+use std::random::RandomSource;
+use std::rt::{Clock, Env, Files};
+use std::time::SystemTime;
+use std::{env, io};
+
+const LAST_MOMENT: u64 = 253370764799;
+
+fn main(rt: HostRuntime) -> ExitCode {
+    ExitCode::from(run_host(&rt))
+}
+
+// The status that the program ends with.
+fn run_host<R>(rt: &R) -> u8
+where
+    R: AllocGlobal + Env + Clock + Files + Print + RandomSource + Clone + Drop,
+{
+    let alloc = rt.alloc();
+    let args = match env::args(rt) {
+        Ok(args) => args,
+        Err(fail) if fail.kind() == io::ErrorKind::OutOfMemory => return no_memory(rt),
+        Err(_) => return 16,
+    };
+    let mut owned = Vec::new(alloc);
+    for arg in args.skip(1) {
+        if owned.push(arg).is_err() {
+            return no_memory(rt);
+        }
+    }
+    let mut words = Vec::new(alloc);
+    for word in &owned {
+        if words.push(word.as_str()).is_err() {
+            return no_memory(rt);
+        }
+    }
+    let mut random = [0u8; 16];
+    if rt.fill_bytes(&mut random).is_err() {
+        random = [0u8; 16];
+    }
+    let files: Result<R, AllocError> = rt.clone();
+    let Ok(files) = files else {
+        return no_memory(rt);
+    };
+    let prints: Result<R, AllocError> = rt.clone();
+    let Ok(prints) = prints else {
+        return no_memory(rt);
+    };
+    let mut folder = HostFolder::new(files);
+    let mut out = HostSink::new(prints);
+    run_words(
+        alloc,
+        &words,
+        &mut folder,
+        &mut out,
+        moment(rt),
+        random,
+        &FreeGate,
+    )
+    .status
+}
+
+fn no_memory<R: Print + Clone + Drop>(rt: &R) -> u8 {
+    let prints: Result<R, AllocError> = rt.clone();
+    let Ok(prints) = prints else {
+        return 14;
+    };
+    match HostSink::new(prints).put(b"NO MEMORY\n") {
+        Ok(()) => 15,
+        Err(_) => 14,
+    }
+}
+
+// The seconds since 1970, or the nearer bound, or 0 where the clock cannot be read.
+fn moment(clock: &impl Clock) -> i64
+    ensures from { pos 0 ≤ℤ result }
+    ensures to { result ≤ℤ pos 253370764799 }
+{
+    let Ok(now) = SystemTime::now(clock) else {
+        return 0;
+    };
+    match now.duration_since(SystemTime::UNIX_EPOCH) {
+        Ok(since) => since.as_secs().min(LAST_MOMENT) as i64,
+        Err(_) => 0,
+    }
+}
+
+#[cfg(test)]
+mod tests;

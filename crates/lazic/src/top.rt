@@ -1,0 +1,55 @@
+ghost use Rattle.std.specs.Prelude.{◌≡◌, ◌≢◌, ◌⊎◌, ◌++◌, ℕ, List, map, pos, ◌≤ℤ◌, IsNone};
+ghost use Rattle.lazic.specs.Words.{request_of};
+ghost use Rattle.lv_outside.specs.Counts.{Rose};
+ghost use Rattle.lv_outside.specs.Bytes.{GrewByFront};
+ghost use Rattle.lazic.specs.declared.outcome.Outcome.{Outcome};
+ghost use Rattle.lazic.specs.Outcome.{status_of, text_of};
+ghost use Rattle.lazic.specs.Answer.{outcome_of, IsCaused};
+ghost use Rattle.lazic.specs.Meaning.{OneAnswer};
+ghost use Rattle.lazic.specs.Report.{MeansReport, kept_of, told_text, IsFree};
+
+use crate::answer::decide;
+use crate::report::{Kept, Report, print};
+use lv_outside::{Folder, Gate, Sink};
+use std::alloc::Global;
+
+/// Answers the words, over these files, and prints one line.
+pub fn run_words<F: Folder, S: Sink, G: Gate>(
+    alloc: Global,
+    words: &[&str],
+    folder: &mut F,
+    out: &mut S,
+    moment: i64,
+    _random: [u8; 16],
+    _gate: &G,
+) -> Report
+    requires from { pos 0 ≤ℤ moment }
+    requires to { moment ≤ℤ pos 253370764799 }
+
+    // Some words over some files have exactly one answer, by what is written in them. Each answer but a fault of the
+    // outside and want of memory is that one.
+    ensures one_answer { OneAnswer }
+    ensures means { F.tells folder.old → IsFree result.status ⊎ MeansReport (map (λ w. w.now) words.now) (F.file folder.old) result.status result.kept }
+    ensures status { F.tells folder.old → IsFree result.status ⊎ (result.status ≡ status_of (outcome_of (map (λ w. w.now) words.now) (F.file folder.old))) }
+    ensures kept { F.tells folder.old → IsFree result.status ⊎ (result.kept ≡ kept_of (outcome_of (map (λ w. w.now) words.now) (F.file folder.old))) }
+    ensures free { IsFree result.status → result.kept ≡ Kept.Nothing }
+
+    // A fault of the outside is answered only where its count rose in this call.
+    ensures read_fault { result.status ≡ 13 → Rose (F.read_faults folder.old) (F.read_faults folder.new) }
+    ensures print_fault { result.status ≡ 14 → Rose (S.faults out.old) (S.faults out.new) }
+
+    // The text grows by the line of the answer.
+    ensures printed { F.tells folder.old → S.tells out.new → result.status ≢ 14 → S.text out.new ≡ S.text out.old ++ told_text result.status (outcome_of (map (λ w. w.now) words.now) (F.file folder.old)) }
+
+    // Where the put fails, a first part of the line of some answer that has its cause was appended.
+    ensures cut { S.tells out.new → result.status ≡ 14 → (answer : Outcome) × IsCaused (Rose (F.read_faults folder.old) (F.read_faults folder.new)) (F.tells folder.old) (outcome_of (map (λ w. w.now) words.now) (F.file folder.old)) answer × GrewByFront (S.text out.old) (S.text out.new) (text_of answer) }
+
+    // USAGE comes where the words ask for nothing, and only there; printing may fail there too.
+    ensures usage { result.status ≡ 10 → IsNone (request_of (map (λ w. w.now) words.now)) }
+    ensures only_usage { IsNone (request_of (map (λ w. w.now) words.now)) → (result.status ≡ 10) ⊎ ((result.status ≡ 14) ⊎ (result.status ≡ 15)) }
+
+    ensures files { (n : List ℕ) → F.file folder.new n ≡ F.file folder.old n }
+{
+    let outcome = decide(alloc, words, folder);
+    print(alloc, outcome, out)
+}

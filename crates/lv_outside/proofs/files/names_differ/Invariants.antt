@@ -1,0 +1,6 @@
+use Rattle.std.proofs.Common.{drop}
+use Rattle.lv_outside.specs.Mem.{NamesDiffer}
+use Rattle.lv_outside.proofs.files.names_differ.Given as goal
+
+abbrev pub invariant-loop-i : goal.invariant-loop-i
+invariant-loop-i l = NamesDiffer (drop l.i l.files) → NamesDiffer l.files
