@@ -4,7 +4,7 @@
 //! The definitions of new logs and lean refutations, and their laws, are those that the solver's answers cite.
 #![tactic(auto)]
 
-ghost use Rattle.std.specs.Prelude.{◌≡◌, ℕ, ◌+◌, ◌<◌, ◌≤◌, ◌^◌, List, [], ◌∷◌, ◌++◌, length, IfOk, OnErr, MatchResult};
+ghost use Rattle.std.specs.Prelude.{◌≡◌, ◌↔◌, true, ℕ, ◌+◌, ◌<◌, ◌≤◌, ◌^◌, List, [], ◌∷◌, ◌++◌, length, IfOk, OnErr, MatchResult};
 
 mod check;
 pub mod laws;
@@ -52,6 +52,21 @@ impl Pairs {
     {
         self.items.push((pivot, clause))?;
         Ok(())
+    }
+
+    /// How many pairs there are.
+    pub fn len(&self) -> usize
+        ensures value { result ≡ length self.now }
+        ensures fits { length self.now < 2 ^ 63 }
+    {
+        self.items.len()
+    }
+
+    /// Whether there is no pair.
+    pub fn is_empty(&self) -> bool
+        ensures { result ≡ true ↔ (length self.now ≡ 0) }
+    {
+        self.len() == 0
     }
 
     /// The pairs.
@@ -117,6 +132,20 @@ impl Log {
         }
         self.chains.push(chain)?;
         Ok(())
+    }
+
+    /// How many chains there are.
+    pub fn len(&self) -> u32
+        ensures { result ≡ length self.now }
+    {
+        self.chains.len() as u32
+    }
+
+    /// Whether there is no chain.
+    pub fn is_empty(&self) -> bool
+        ensures { result ≡ true ↔ (length self.now ≡ 0) }
+    {
+        self.len() == 0
     }
 
     /// The chains.

@@ -1,0 +1,12 @@
+pub mod TrailLaws
+pub mod AnalysisLaws
+pub mod JumpLaws
+pub mod ScanLaws
+pub mod SettleLaws
+pub mod GhostLaws
+pub mod StoreLaws
+pub mod TurnLaws
+pub mod StateLaws
+pub mod CoverLaws
+pub mod ConflictLaws
+pub mod RoundLaws
