@@ -10,6 +10,7 @@ ghost use Rattle.cdcl_solver.specs.Covers.{RisesFrom, last_level};
 ghost use Rattle.cdcl_solver.specs.Solve.{StateOf, IsTurn, IsEnding, IsLonger, IsStop, IsAnswer, IsFail, trues_of};
 
 use crate::analysis::{all_below, analyze};
+use crate::cone::trimmed;
 use crate::scan::scan;
 use crate::trail::{Entry, Found, Trail};
 use crate::{Answer, Known, SolveFail};
@@ -330,16 +331,26 @@ fn trues(alloc: Global, entries: &[Entry]) -> Result<Vec<u32>, AllocError>
     Ok(vars)
 }
 
-// The answer that an ending is.
-fn answer_of(alloc: Global, ending: Ending) -> Result<Answer, SolveFail>
-    ensures { (clauses : List (List Lit)) (learn limit : ℕ) → IsEnding clauses learn limit ending → MatchResult result (IsAnswer clauses learn) (IsFail clauses learn limit) }
+// The answer that an ending is. A refutation is cut to what it needs.
+fn answer_of(
+    alloc: Global,
+    clauses: &Clauses,
+    learn: u64,
+    limit: u64,
+    ending: Ending,
+) -> Result<Answer, SolveFail>
+    requires { IsEnding clauses.now learn limit ending }
+    ensures { MatchResult result (IsAnswer clauses.now learn) (IsFail clauses.now learn limit) }
 {
     match ending {
         Ending::Met(trail) => match trues(alloc, trail.entries.as_slice()) {
             Ok(vars) => Ok(Answer::Sat(Assignment::from_trues(vars))),
             Err(_) => Err(SolveFail::Memory),
         },
-        Ending::Refuted(log) => Ok(Answer::Unsat(log)),
+        Ending::Refuted(log) => match trimmed(alloc, clauses, &log) {
+            Ok(needed) => Ok(Answer::Unsat(needed)),
+            Err(_) => Err(SolveFail::Memory),
+        },
         Ending::Learned(log) => Ok(Answer::Spent(log)),
         Ending::Heavy(log) => Err(SolveFail::OverLog(log)),
     }
@@ -358,7 +369,7 @@ pub fn solve_within(
     ensures answer { MatchResult result (IsAnswer clauses.now learn) (IsFail clauses.now learn limit) }
 {
     match search(alloc, clauses, learn, limit) {
-        Ok(ending) => answer_of(alloc, ending),
+        Ok(ending) => answer_of(alloc, clauses, learn, limit, ending),
         Err(_) => Err(SolveFail::Memory),
     }
 }
