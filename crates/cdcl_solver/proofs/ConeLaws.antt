@@ -165,7 +165,6 @@ cut_needed f n so_far ch chs all y e = append_assoc so_far (renamed (rank f) ch 
 pub cut_passed : (f : ℕ → Bool) (n : ℕ) (so_far : List Chain) (ch : Chain) (chs all : List Chain) → f n ≡ false → so_far ++ cut_from f n (ch ∷ chs) ≡ all → so_far ++ cut_from f (suc n) chs ≡ all
 cut_passed f n so_far ch chs all y e = let q : cut_from f n (ch ∷ chs) ≡ cut_from f (suc n) chs = rw y refl in ap (λ w. so_far ++ w) (sym q) ∙ e
 
-
 pub kept_cut : (f : ℕ → Bool) (n : ℕ) (chs : List Chain) → Closes f n chs → Kept f n chs (cut_from f n chs)
 kept_cut f n [] c = kept_none
 kept_cut f n (ch ∷ chs) c = elim (f n) as (λ b. f n ≡ b → Kept f n (ch ∷ chs) (cond b (renamed (rank f) ch ∷ cut_from f (suc n) chs) (cut_from f (suc n) chs))) [

@@ -104,6 +104,18 @@ fn jump(trail: &mut Trail, low: usize)
     }
 }
 
+// The number of the next clause, which has 32 bits.
+fn next_number(known: &Known) -> Result<u32, AllocError>
+    ensures value { IfOk result (λ n. n ≡ length known.now) }
+    ensures few { IfOk result (λ n. n < 4294967295) }
+{
+    let number = known.len();
+    if number >= MOST_CLAUSES {
+        return Err(AllocError);
+    }
+    Ok(number as u32)
+}
+
 // Learns from the conflict in the clause with this number.
 fn on_conflict(
     alloc: Global,
@@ -139,14 +151,11 @@ fn on_conflict(
     };
     let low = least_level(level, &trail, u, a.clause.as_slice());
     jump(&mut trail, low);
-    let number = known.len();
-    if number >= MOST_CLAUSES {
-        return Err(AllocError);
-    }
+    let number = next_number(&known)?;
     trail.push(Entry {
         lit: u,
         level: low,
-        reason: Some(number as u32),
+        reason: Some(number),
     })?;
     known.push(a.clause.as_slice())?;
     log.push(chain)?;
