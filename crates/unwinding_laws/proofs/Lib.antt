@@ -6,3 +6,4 @@ pub mod Units
 pub mod Refinement
 pub mod Expansion
 pub mod Journals
+pub mod Tables
