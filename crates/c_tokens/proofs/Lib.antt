@@ -1,0 +1,16 @@
+mod Classes
+mod Comments
+mod ConstantLaws
+mod ExactSights
+mod Flags
+mod Letters
+mod Lexemes
+mod Markers
+mod Marks
+mod Numbers
+mod Quotes
+mod Sights
+mod SoundSights
+mod SpanLemmas
+mod Suffixes
+mod Whole
