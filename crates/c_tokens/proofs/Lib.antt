@@ -14,3 +14,4 @@ mod SoundSights
 mod SpanLemmas
 mod Suffixes
 mod Whole
+mod ListedSpans

@@ -4,7 +4,7 @@
 mod laws;
 mod reader;
 
-pub use laws::{has_no_other, has_one, is_lexed};
+pub use laws::{has_no_other, has_one, has_spans, is_lexed};
 pub use reader::tokens_of;
 
 #[cfg(test)]
