@@ -5,6 +5,7 @@ mod ExactSights
 mod Flags
 mod Letters
 mod Lexemes
+mod ListedSpans
 mod Markers
 mod Marks
 mod Numbers
@@ -13,5 +14,4 @@ mod Sights
 mod SoundSights
 mod SpanLemmas
 mod Suffixes
-mod Whole
-mod ListedSpans
+pub mod Whole

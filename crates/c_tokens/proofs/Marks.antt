@@ -164,7 +164,7 @@ mark_no_number mark.CaretAssign = refl
 mark_no_number mark.BarAssign = refl
 mark_no_number mark.Comma = refl
 
--- no byte of a mark but its first ends a line
+-- no byte ends a line
 abbrev pub is_one_line : List ℕ → Bool
 is_one_line [] = true
 is_one_line (b ∷ bytes) = not (is_line_end b) && is_one_line bytes
@@ -217,7 +217,7 @@ mark_one_line mark.CaretAssign = refl
 mark_one_line mark.BarAssign = refl
 mark_one_line mark.Comma = refl
 
--- no byte of a mark is 0
+-- no byte is 0
 abbrev pub no_zero : List ℕ → Bool
 no_zero [] = true
 no_zero (b ∷ bytes) = not (b == 0) && no_zero bytes
