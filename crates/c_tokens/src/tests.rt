@@ -1,4 +1,4 @@
-use crate::tokens_of;
+use crate::{has_no_other, has_one, has_spans, is_lexed, tokens_of};
 use lv_base::{SourceFail, SourceFault};
 use std::process::Abort;
 use std::test::Fail;
@@ -76,6 +76,10 @@ fn sources_have_their_tokens_or_their_fault(rt: HostRuntime) {
             _ => assert!(rt; false, "{source}"),
         }
     }
+    has_one();
+    has_no_other();
+    has_spans();
+    is_lexed();
 }
 
 // A byte so many times, with the limit that it passes.
