@@ -1,0 +1,295 @@
+-- Evaluation of expressions, from left to right (C11 6.5; the order is left open by 6.5 p3).
+use Rattle.std.specs.Prelude.{ℕ, Bool, true, false, if◌then◌else◌, List, [], ◌∷◌, ◌++◌, Option, Some, None, bytes_eq, position, ℤ, pos, negsuc}
+use Rattle.lv_base.specs.declared.kind.Kind.{Kind}
+use Rattle.lv_base.specs.declared.kind.Model.{Model}
+use Rattle.lv_base.specs.declared.kind.Op.{Op}
+use Rattle.lv_base.specs.declared.kind.Op.TheVariants as arith
+use Rattle.lv_base.specs.declared.fault.ErrorKind.TheVariants as error
+use Rattle.lv_base.specs.Integers.{converted, truth, is_zero}
+use Rattle.c_tree.specs.declared.symbol.BinaryOp.{BinaryOp}
+use Rattle.c_tree.specs.declared.symbol.BinaryOp.TheVariants as op
+use Rattle.c_tree.specs.declared.symbol.AssignOp.{AssignOp}
+use Rattle.c_tree.specs.declared.symbol.AssignOp.TheVariants as to
+use Rattle.c_tree.specs.declared.symbol.Crement.{Crement}
+use Rattle.c_tree.specs.declared.symbol.Crement.TheVariants as by
+use Rattle.c_tree.specs.declared.tree.PrefixOp.{PrefixOp}
+use Rattle.c_tree.specs.declared.tree.PrefixOp.TheVariants as pre
+use Rattle.c_tree.specs.Tree.{Ex, eName, eNumber, eLetter, eParen, eCall, eIndex, ePostfix, ePrefix, eSizeof, eCast, eBinary, eCond, eAssign, eComma, Parts, no_parts, parts_and}
+use Rattle.c_run.specs.Run.{Run, give, ◌>>=◌, ◌>>◌, choose, fail, stop, Ended, Element, read, write, scalar, located, draw, Compute, computed, is_true}
+use Rattle.c_run.specs.Loops.{Calls}
+use Rattle.c_meaning.specs.Kinds.{CType, tKind, promoted, operation_kind, right_kind, size_of, kind_of, as_type, result_type}
+use Rattle.c_meaning.specs.Bindings.{Env, Entity, anObjectOf, aFunctionOf, aConstantOf, entity_of, object_number, count_of, words_type}
+use Rattle.c_meaning.specs.Known.{Known, reaches, aborts, draws, known_of}
+use Rattle.c_meaning.specs.Types.{type_of}
+
+-- Whether the value of a call is used. It is not where the call is a whole expression statement, the first or third part of a
+-- `for`, the left operand of a comma, or cast to void.
+pub data Use : Type 0 where
+  used : Use
+  dropped : Use
+
+-- What a meaning is asked in: the declarations, the data model, how a program computes, the inputs, what calls of functions
+-- with a body mean, and the names of these functions in their order.
+pub record Context : Type 0 where
+  pub env : Env
+  pub model : Model
+  pub compute : Compute
+  pub inputs : List ℤ
+  pub call : Calls
+  pub bodies : List (List ℕ)
+
+-- ---- Operators
+
+-- `a > b` is `b < a`, and `a != b` is `!(a == b)`; these meet no error
+abbrev pub op_of : BinaryOp → Op
+op_of op.OrElse = arith.Or
+op_of op.AndAlso = arith.And
+op_of op.BitOr = arith.Or
+op_of op.BitXor = arith.Xor
+op_of op.BitAnd = arith.And
+op_of op.Equal = arith.Equal
+op_of op.NotEqual = arith.Equal
+op_of op.Less = arith.Less
+op_of op.Greater = arith.Less
+op_of op.LessEqual = arith.LessEqual
+op_of op.GreaterEqual = arith.LessEqual
+op_of op.ShiftLeft = arith.Shl
+op_of op.ShiftRight = arith.Shr
+op_of op.Add = arith.Add
+op_of op.Subtract = arith.Sub
+op_of op.Multiply = arith.Mul
+op_of op.Divide = arith.Div
+op_of op.Remainder = arith.Rem
+
+abbrev pub is_turned : BinaryOp → Bool
+is_turned op.Greater = true
+is_turned op.GreaterEqual = true
+is_turned _ = false
+
+abbrev pub is_negated : BinaryOp → Bool
+is_negated op.NotEqual = true
+is_negated _ = false
+
+abbrev pub negated : Bool → ℤ → ℤ
+negated true v = truth (is_zero v)
+negated false v = v
+
+abbrev pub is_logical : BinaryOp → Bool
+is_logical op.OrElse = true
+is_logical op.AndAlso = true
+is_logical _ = false
+
+-- the operation of `E1 op= E2`
+abbrev pub assigned_op : AssignOp → BinaryOp
+assigned_op to.Plain = op.Add
+assigned_op to.Multiply = op.Multiply
+assigned_op to.Divide = op.Divide
+assigned_op to.Remainder = op.Remainder
+assigned_op to.Add = op.Add
+assigned_op to.Subtract = op.Subtract
+assigned_op to.ShiftLeft = op.ShiftLeft
+assigned_op to.ShiftRight = op.ShiftRight
+assigned_op to.BitAnd = op.BitAnd
+assigned_op to.BitXor = op.BitXor
+assigned_op to.BitOr = op.BitOr
+
+abbrev pub is_plain : AssignOp → Bool
+is_plain to.Plain = true
+is_plain _ = false
+
+abbrev pub crement_op : Crement → Op
+crement_op by.Increment = arith.Add
+crement_op by.Decrement = arith.Sub
+
+-- ---- Arguments (C11 6.5.2.2 p7)
+
+abbrev pub to_parameters : Model → List Kind → List ℤ → List ℤ
+to_parameters model (k ∷ ks) (v ∷ vs) = converted k model v ∷ to_parameters model ks vs
+to_parameters model ks vs = []
+
+-- the value of a call; a function with a result that ended without `return` has none to be used (C11 6.9.1 p12)
+abbrev pub called_value : Use → CType → ℕ → Option ℤ → Run ℤ
+called_value u type at (Some v) = give v
+called_value used (tKind k) at None = fail error.Missing at
+called_value u type at None = give (pos 0)
+
+-- the object of a scalar or an array, through round brackets and `__extension__`
+abbrev pub base_of : Env → Ex → Option ℕ
+base_of env (eName n at) = object_number (entity_of env n at)
+base_of env (eParen a e b) = base_of env e
+base_of env (ePrefix pre.Extension at e) = base_of env e
+base_of env _ = None
+
+module _ (c : Context) where
+  abbrev pub to_kind : Kind → ℤ → ℤ
+  to_kind k v = converted k c.model v
+
+  abbrev pub typed : Ex → CType
+  typed e = type_of c.env c.model e
+
+  abbrev pub kind_at : Ex → Kind
+  kind_at e = kind_of (typed e)
+
+  -- an operation in a kind, on values that are converted to it first; the right side of a shift is promoted alone
+  abbrev pub applied : ℕ → BinaryOp → Kind → Kind → ℤ → ℤ → Run ℤ
+  applied at o k l x y =
+      let left = to_kind (operation_kind c.model o k l) x in
+      let right = to_kind (right_kind c.model o k l) y in do
+        v ← computed at (if is_turned o then c.compute (op_of o) (operation_kind c.model o k l) right left else c.compute (op_of o) (operation_kind c.model o k l) left right)
+        give (negated (is_negated o) v)
+
+  -- C11 6.5.3.3: `-` is a difference from 0, and `~` turns each bit
+  abbrev pub prefixed : ℕ → PrefixOp → Kind → ℤ → Run ℤ
+  prefixed at pre.Minus k v = computed at (c.compute arith.Sub (promoted k) (pos 0) (to_kind (promoted k) v))
+  prefixed at pre.Complement k v = computed at (c.compute arith.Xor (promoted k) (to_kind (promoted k) v) (to_kind (promoted k) (negsuc 0)))
+  prefixed at pre.Not k v = give (truth (is_zero v))
+  prefixed at pre.Plus k v = give (to_kind (promoted k) v)
+  prefixed at o k v = give v
+
+  -- `++` and `--` compute in the promoted kind and convert back; the postfix forms give the old value (C11 6.5.2.4, 6.5.3.1)
+  abbrev pub stepped : ℕ → Crement → Kind → Element → ℤ → Run ℤ
+  stepped at by k e v = do
+    new ← computed at (c.compute (crement_op by) (promoted k) (to_kind (promoted k) v) (pos 1))
+    write e (to_kind k new)
+
+  -- an object, an array whose value is not used, or an enumeration's constant
+  abbrev pub named_value : Entity → Run ℤ
+  named_value (anObjectOf number) = read (scalar number)
+  named_value (aConstantOf v) = give v
+  named_value _ = give (pos 0)
+
+  abbrev pub element_at : ℕ → Option ℕ → ℤ → Run Element
+  element_at at None v = fail error.Index at
+  element_at at (Some object) v = located at object (count_of c.env object) v
+
+  abbrev pub target_at : Option ℕ → Run Element
+  target_at (Some object) = give (scalar object)
+  target_at None = give (scalar 0)
+
+  -- a call of a function that has neither a body nor a meaning of its own is refused by the rules
+  abbrev pub call_body : Use → CType → ℕ → Option ℕ → List ℤ → Run ℤ
+  call_body u type at None vs = stop Ended
+  call_body u type at (Some number) vs = do
+    v ← c.call number at vs
+    called_value u type at v
+
+  abbrev pub function_number : List ℕ → Option ℕ
+  function_number name = position (λ n. bytes_eq n name) c.bodies
+
+  -- a call of `reach_error` takes no turn, and its body is not entered
+  abbrev pub call_known : Use → ℕ → List ℕ → Option Kind → Option Known → List ℤ → Run ℤ
+  call_known u at name result (Some reaches) vs = fail error.Reach at
+  call_known u at name result (Some aborts) vs = stop Ended
+  call_known u at name result (Some (draws k)) vs = do
+    v ← draw c.inputs c.model k
+    give (as_type c.model (result_type result) v)
+  call_known u at name result None vs = call_body u (result_type result) at (function_number name) vs
+
+  -- the arguments are bound after all of them were evaluated
+  abbrev pub call_named : Use → Entity → ℕ → List ℕ → List ℤ → Run ℤ
+  call_named u (aFunctionOf result parameters) at name vs = call_known u at name result (known_of name) (to_parameters c.model parameters vs)
+  call_named u _ at name vs = stop Ended
+
+  abbrev pub call_of : Use → Ex → List ℤ → Run ℤ
+  call_of u (eName n at) vs = call_named u (entity_of c.env n at) at n vs
+  call_of u _ vs = stop Ended
+
+  -- a cast converts, and one to void drops (C11 6.5.4)
+  abbrev pub cast_to : CType → Run ℤ → Run ℤ → Run ℤ
+  cast_to (tKind k) kept gone = do
+    v ← kept
+    give (to_kind k v)
+  cast_to _ kept gone = do
+    gone
+    give (pos 0)
+
+  abbrev mutual
+    pub value : Use → Ex → Run ℤ
+    value u (eName n at) = named_value (entity_of c.env n at)
+    value u (eNumber v f at) = give (pos v)
+    value u (eLetter v at) = give v
+    value u (eParen a e b) = value u e
+    value u (eCall f a es b) = do
+      vs ← values es
+      call_of u f vs
+    value u (eIndex a x i y) = do
+      v ← value used i
+      e ← element_at x (base_of c.env a) v
+      read e
+    value u (ePostfix e by at) = do
+      target ← target_of e
+      old ← read target
+      stepped at by (kind_at e) target old
+      give old
+    value u (ePrefix pre.Increment at e) = do
+      target ← target_of e
+      old ← read target
+      stepped at by.Increment (kind_at e) target old
+    value u (ePrefix pre.Decrement at e) = do
+      target ← target_of e
+      old ← read target
+      stepped at by.Decrement (kind_at e) target old
+    value u (ePrefix pre.Extension at e) = value u e
+    value u (ePrefix pre.Sizeof at e) = give (pos (size_of c.model (typed e)))
+    value u (ePrefix o at e) = do
+      v ← value used e
+      prefixed at o (kind_at e) v
+    value u (eSizeof at a ws b) = give (pos (size_of c.model (words_type c.env ws)))
+    value u (eCast a ws b e) = cast_to (words_type c.env ws) (value used e) (value dropped e)
+    value u (eBinary a op.AndAlso at b) = do
+      x ← value used a
+      choose (is_true x) (do y ← value used b; give (truth (is_true y))) (give (pos 0))
+    value u (eBinary a op.OrElse at b) = do
+      x ← value used a
+      choose (is_true x) (give (pos 1)) (do y ← value used b; give (truth (is_true y)))
+    value u (eBinary a o at b) = do
+      x ← value used a
+      y ← value used b
+      applied at o (kind_at a) (kind_at b) x y
+    value u (eCond t x a y b) = do
+      v ← value used t
+      r ← choose (is_true v) (value used a) (value used b)
+      give (as_type c.model (typed (eCond t x a y b)) r)
+    value u (eAssign a to.Plain at b) = do
+      target ← target_of a
+      v ← value used b
+      write target (to_kind (kind_at a) v)
+    value u (eAssign a o at b) = do
+      target ← target_of a
+      x ← read target
+      y ← value used b
+      v ← applied at (assigned_op o) (kind_at a) (kind_at b) x y
+      write target (to_kind (kind_at a) v)
+    value u (eComma es) = last_value es
+
+    -- the left operands of a comma are dropped (C11 6.5.17 p2)
+    pub last_value : Parts → Run ℤ
+    last_value no_parts = give (pos 0)
+    last_value (parts_and es x e) = do
+      drop_values es
+      value used e
+
+    pub drop_values : Parts → Run (Unit {0})
+    drop_values no_parts = give tt
+    drop_values (parts_and es x e) = do
+      drop_values es
+      value dropped e
+      give tt
+
+    -- the values of a list, in its order
+    pub values : Parts → Run (List ℤ)
+    values no_parts = give []
+    values (parts_and es x e) = do
+      vs ← values es
+      v ← value used e
+      give (vs ++ v ∷ [])
+
+    -- The object or element that is assigned to. An index is evaluated and tested here, before the right side.
+    pub target_of : Ex → Run Element
+    target_of (eParen a e b) = target_of e
+    target_of (ePrefix pre.Extension at e) = target_of e
+    target_of (eName n at) = target_at (object_number (entity_of c.env n at))
+    target_of (eIndex a x i y) = do
+      v ← value used i
+      element_at x (base_of c.env a) v
+    target_of _ = give (scalar 0)
