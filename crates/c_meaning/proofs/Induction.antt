@@ -14,10 +14,11 @@ use Rattle.c_tree.specs.Tree.{Ex, eName, eNumber, eLetter, eParen, eCall, eIndex
 use Rattle.c_run.specs.Run.{Run, Element, scalar, draw, Compute, is_true}
 use Rattle.c_run.specs.Loops.{toLabel, From, Start, Seek, Exit, Normal, Broke, Continued, Jumped, Absent, Calls, leave_switch}
 use Rattle.c_run.proofs.Related.{Kept, chosen, then_next, after_value, computes, locates, draws, then_kept, else_kept, found_kept, next_kept, loop_kept, switch_kept}
-use Rattle.c_meaning.specs.Kinds.{CType, tKind, result_type}
+use Rattle.c_meaning.specs.Kinds.{CType, tKind}
 use Rattle.c_meaning.specs.Bindings.{Env, Entity, anObjectOf, aFunctionOf, aConstantOf, entity_of, object_number, count_of, words_type}
 use Rattle.c_meaning.specs.Known.{Known, reaches, aborts, draws as draws_known, known_of}
-use Rattle.c_meaning.specs.Value.{Context, Use, used, dropped, value, values, last_value, drop_values, target_of, kind_at, to_kind, applied, prefixed, stepped, named_value, element_at, target_at, call_body, call_known, call_named, call_of, called_value, function_number, base_of, cast_to, to_parameters, assigned_op}
+use Rattle.c_run.specs.Operators.{Use, used, dropped, called_value, assigned_op}
+use Rattle.c_meaning.specs.Value.{Context, value, values, last_value, drop_values, target_of, kind_at, to_kind, applied, prefixed, stepped, named_value, element_at, target_at, call_body, call_known, call_named, call_of, function_number, base_of, cast_to, to_parameters}
 use Rattle.c_meaning.specs.Execution.{exec, exec_all, declared, begin_object, begin_objects, effect_of, test_of, condition, keyword, start_for, for_start, for_test, for_step, for_keyword, returned, is_case, is_default, is_this_label}
 use Rattle.c_meaning.specs.Places.{AtName, AtEach, AtEachPart, InOption, InInitial, InDeclarators, InDeclaration, InHead, InStart, InFor, InStatement, InStatements}
 
@@ -33,9 +34,9 @@ module _ (R : (A : Type 0) → Run A → Run A → Type 0) (P : ℕ → Type 0) 
 
   -- ---- Words of expressions
 
-  called_kept : (u : Use) (t : CType) (at : ℕ) (r : Option ℤ) → P at → R ℤ (called_value u t at r) (called_value u t at r)
+  called_kept : (u : Use) (t : Option Kind) (at : ℕ) (r : Option ℤ) → P at → R ℤ (called_value u t at r) (called_value u t at r)
   called_kept u t at (Some v) p = k.gives ℤ v
-  called_kept used (tKind kind) at None p = k.fails ℤ error.Missing at p
+  called_kept used (Some kind) at None p = k.fails ℤ error.Missing at p
   called_kept u t at None p = k.gives ℤ (pos 0)
 
   applied_kept : (at : ℕ) (o : BinaryOp) (a b : Kind) (x y : ℤ) → P at → R ℤ (applied c at o a b x y) (applied c' at o a b x y)
@@ -64,7 +65,7 @@ module _ (R : (A : Type 0) → Run A → Run A → Type 0) (P : ℕ → Type 0) 
   scalar_kept (Some object) = k.gives Element (scalar object)
   scalar_kept None = k.gives Element (scalar 0)
 
-  body_kept : (u : Use) (t : CType) (at : ℕ) (f : Option ℕ) (vs : List ℤ) → P at → R ℤ (call_body c u t at f vs) (call_body c' u t at f vs)
+  body_kept : (u : Use) (t : Option Kind) (at : ℕ) (f : Option ℕ) (vs : List ℤ) → P at → R ℤ (call_body c u t at f vs) (call_body c' u t at f vs)
   body_kept u t at None vs p = k.stops ℤ
   body_kept u t at (Some number) vs p = k.binds (Option ℤ) ℤ _ _ _ _ (hc number at vs) (λ r. called_kept u t at r p)
 
@@ -72,7 +73,7 @@ module _ (R : (A : Type 0) → Run A → Run A → Type 0) (P : ℕ → Type 0) 
   known_kept u at name result (Some reaches) vs p = k.fails ℤ error.Reach at p
   known_kept u at name result (Some aborts) vs p = k.stops ℤ
   known_kept u at name result (Some (draws_known kind)) vs p = k.binds ℤ ℤ _ _ _ _ (hd kind) (λ v. k.gives ℤ _)
-  known_kept u at name result None vs p = body_kept u (result_type result) at (function_number c name) vs p
+  known_kept u at name result None vs p = body_kept u result at (function_number c name) vs p
 
   entity_kept : (u : Use) (e : Entity) (at : ℕ) (name : List ℕ) (vs : List ℤ) → P at → R ℤ (call_named c u e at name vs) (call_named c' u e at name vs)
   entity_kept u (aFunctionOf result ps) at name vs p = known_kept u at name result (known_of name) (to_parameters model ps vs) p

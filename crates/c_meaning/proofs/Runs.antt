@@ -5,11 +5,11 @@ use Rattle.lv_base.specs.declared.kind.Model.{Model}
 use Rattle.lv_base.specs.declared.fault.ErrorKind.{ErrorKind}
 use Rattle.c_tree.specs.Tree.{Ex, eName, eNumber, eLetter, eParen, eCall, eIndex, ePostfix, ePrefix, eSizeof, eCast, eBinary, eCond, eAssign, eComma, Parts, no_parts, parts_and, named, Initial, iNothing, iValue, iList, Decs, no_declarators, declarators_and, Declaration, declares, Head, head, ForStart, forDeclares, forExpr, ForHead, for_head, St, sDeclaration, sBlock, sEmpty, sExpr, sIf, sIfElse, sWhile, sSwitch, sDo, sFor, sCase, sDefault, sLabel, sGoto, sBreak, sContinue, sReturn, Sts, no_statements, statements_and, bBlock, bSkipped, tSkipped, tFunction, tDeclaration, tEmpty, Items, no_items, items_and}
 use Rattle.c_run.specs.Run.{End, Error, Ended, NoInput, BadInput, Spent, Got, Value, Stop, Run, draw, Compute}
-use Rattle.c_run.specs.Loops.{Start, Calls}
+use Rattle.c_run.specs.Loops.{Start, Calls, bind_parameters}
 use Rattle.c_run.proofs.Related.{Kept, then_next, enter_kept}
 use Rattle.c_run.proofs.Relations.{More, IsSpentEnd, IsSpentGot, Follows, more_kept, more_draw, Alike, Beyond, alike_kept, alike_draw, Placed, AtPlace, placed_kept, placed_draw}
 use Rattle.c_meaning.specs.Bindings.{Env}
-use Rattle.c_meaning.specs.Program.{Function, functions_of, env_of, main_number, bind_parameters, body_of, call_at, run_main, end_of_run}
+use Rattle.c_meaning.specs.Program.{Function, functions_of, env_of, main_number, body_of, call_at, run_main, end_of_run}
 use Rattle.c_meaning.specs.Places.{AtName, AtEach, AtEachPart, InOption, InInitial, InDeclarators, InDeclaration, InHead, InStart, InFor, InStatement, InStatements, InItems}
 use Rattle.c_meaning.specs.Laws.{IsSpent, MoreTurns, DrawnInputs, ErrorPlaces}
 use Rattle.c_meaning.proofs.Induction.{all_kept}

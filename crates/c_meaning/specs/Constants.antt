@@ -9,7 +9,8 @@ use Rattle.c_meaning.specs.Kinds.{is_kind}
 use Rattle.c_meaning.specs.Scope.{Declared, What, anObject, aParameter, aFunction, aTypedef, anEnumerator, aTag, aName, is_tag, is_file}
 use Rattle.c_meaning.specs.Bindings.{Object, Entity, anObjectOf, aFunctionOf, aConstantOf, aTypeOf, aTagOf, aNameOf, Env, entity_of, entity_of_entry, declared_at, constant_value, enum_kind, words_type, has_const, kind_in, kind_or_int, parameter_kinds}
 use Rattle.c_meaning.specs.Types.{type_of}
-use Rattle.c_meaning.specs.Value.{Context, used, value}
+use Rattle.c_run.specs.Operators.{used}
+use Rattle.c_meaning.specs.Value.{Context, value}
 
 -- ---- Which expressions are constant
 

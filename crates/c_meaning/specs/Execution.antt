@@ -7,7 +7,8 @@ use Rattle.c_run.specs.Loops.{Place, toLabel, toCase, toDefault, From, Start, Se
 use Rattle.c_meaning.specs.Kinds.{promoted}
 use Rattle.c_meaning.specs.Bindings.{object_number, declared_at, count_of, kind_of_object}
 use Rattle.c_meaning.specs.Constants.{constant_of, or_zero}
-use Rattle.c_meaning.specs.Value.{Context, used, dropped, value, values, kind_at, to_kind}
+use Rattle.c_run.specs.Operators.{used, dropped}
+use Rattle.c_meaning.specs.Value.{Context, value, values, kind_at, to_kind}
 use Rattle.std.specs.Prelude.{slice_get}
 
 abbrev pub is_equal : ℤ → ℤ → Bool

@@ -8,7 +8,8 @@ use Rattle.c_tree.specs.declared.tree.PrefixOp.TheVariants as pre
 use Rattle.c_tree.specs.Tree.{Ex, eName, eNumber, eLetter, eParen, eCall, eIndex, ePostfix, ePrefix, eSizeof, eCast, eBinary, eCond, eAssign, eComma, Parts, no_parts, parts_and, Initial, iNothing, iValue, iList, Decs, no_declarators, declarators_and, Declaration, declares, Head, head, ForStart, forDeclares, forExpr, ForHead, for_head, St, sDeclaration, sBlock, sExpr, sIf, sIfElse, sWhile, sSwitch, sDo, sFor, sCase, sDefault, sLabel, sGoto, sBreak, sContinue, sReturn, Sts, no_statements, statements_and}
 use Rattle.c_meaning.specs.Scope.{holds, Declared, What, anObject}
 use Rattle.c_meaning.specs.Bindings.{Env, Entity, aFunctionOf, object_of, entity_of}
-use Rattle.c_meaning.specs.Value.{base_of, is_logical, is_plain}
+use Rattle.c_run.specs.Operators.{is_logical, is_plain}
+use Rattle.c_meaning.specs.Value.{base_of}
 use Rattle.c_meaning.specs.Rules.{Broken, line}
 use Rattle.c_meaning.specs.Program.{Function}
 

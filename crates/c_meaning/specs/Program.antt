@@ -5,8 +5,8 @@ use Rattle.lv_base.specs.declared.kind.Model.{Model}
 use Rattle.lv_base.specs.declared.fault.ErrorKind.{ErrorKind}
 use Rattle.lv_base.specs.Integers.{arith_of, converted}
 use Rattle.c_tree.specs.Tree.{Parts, no_parts, parts_and, named, Params, no_params, params_and, Parameters, pSome, Initial, iNothing, iValue, iList, Sts, bBlock, tFunction, Items, no_items, items_and}
-use Rattle.c_run.specs.Run.{End, Error, Ended, Got, Value, Stop, Run, give, ◌>>◌, spent, turn, store_all, padded, Compute}
-use Rattle.c_run.specs.Loops.{Start, Calls, enter}
+use Rattle.c_run.specs.Run.{End, Error, Ended, Got, Value, Stop, Run, give, ◌>>◌, spent, turn, padded, Compute}
+use Rattle.c_run.specs.Loops.{Start, Calls, enter, bind_parameters}
 use Rattle.c_meaning.specs.Tokens.{first_of_words}
 use Rattle.c_meaning.specs.Scope.{What, anObject, in_items}
 use Rattle.c_meaning.specs.Bindings.{Object, Entity, anObjectOf, Entry, Env, object_number, declared_at, size_of_object, words_type, kind_in}
@@ -84,12 +84,6 @@ start_store env model number [] = []
 start_store env model number (o ∷ os) = start_values env model number o ∷ start_store env model (suc number) os
 
 -- ---- Calls
-
-abbrev pub bind_parameters : List ℕ → List ℤ → Run (Unit {0})
-bind_parameters (object ∷ objects) (v ∷ vs) = do
-  store_all object (v ∷ [])
-  bind_parameters objects vs
-bind_parameters _ _ = give tt
 
 module _ (env : Env) (model : Model) (compute : Compute) (inputs : List ℤ) (functions : List Function) where
   -- what the statements of a body are executed in

@@ -1,14 +1,12 @@
 -- Evaluation of expressions, from left to right (C11 6.5; the order is left open by 6.5 p3).
-use Rattle.std.specs.Prelude.{ℕ, Bool, true, false, if◌then◌else◌, List, [], ◌∷◌, ◌++◌, Option, Some, None, bytes_eq, position, ℤ, pos, negsuc}
+use Rattle.std.specs.Prelude.{ℕ, if◌then◌else◌, List, [], ◌∷◌, ◌++◌, Option, Some, None, bytes_eq, position, ℤ, pos, negsuc}
 use Rattle.lv_base.specs.declared.kind.Kind.{Kind}
 use Rattle.lv_base.specs.declared.kind.Model.{Model}
-use Rattle.lv_base.specs.declared.kind.Op.{Op}
 use Rattle.lv_base.specs.declared.kind.Op.TheVariants as arith
 use Rattle.lv_base.specs.declared.fault.ErrorKind.TheVariants as error
 use Rattle.lv_base.specs.Integers.{converted, truth, is_zero}
 use Rattle.c_tree.specs.declared.symbol.BinaryOp.{BinaryOp}
 use Rattle.c_tree.specs.declared.symbol.BinaryOp.TheVariants as op
-use Rattle.c_tree.specs.declared.symbol.AssignOp.{AssignOp}
 use Rattle.c_tree.specs.declared.symbol.AssignOp.TheVariants as to
 use Rattle.c_tree.specs.declared.symbol.Crement.{Crement}
 use Rattle.c_tree.specs.declared.symbol.Crement.TheVariants as by
@@ -17,16 +15,11 @@ use Rattle.c_tree.specs.declared.tree.PrefixOp.TheVariants as pre
 use Rattle.c_tree.specs.Tree.{Ex, eName, eNumber, eLetter, eParen, eCall, eIndex, ePostfix, ePrefix, eSizeof, eCast, eBinary, eCond, eAssign, eComma, Parts, no_parts, parts_and}
 use Rattle.c_run.specs.Run.{Run, give, ◌>>=◌, ◌>>◌, choose, fail, stop, Ended, Element, read, write, scalar, located, draw, Compute, computed, is_true}
 use Rattle.c_run.specs.Loops.{Calls}
+use Rattle.c_run.specs.Operators.{Use, used, dropped, called_value, op_of, is_turned, is_negated, negated, assigned_op, crement_op}
 use Rattle.c_meaning.specs.Kinds.{CType, tKind, promoted, operation_kind, right_kind, size_of, kind_of, as_type, result_type}
 use Rattle.c_meaning.specs.Bindings.{Env, Entity, anObjectOf, aFunctionOf, aConstantOf, entity_of, object_number, count_of, words_type}
 use Rattle.c_meaning.specs.Known.{Known, reaches, aborts, draws, known_of}
 use Rattle.c_meaning.specs.Types.{type_of}
-
--- Whether the value of a call is used. It is not where the call is a whole expression statement, the first or third part of a
--- `for`, the left operand of a comma, or cast to void.
-pub data Use : Type 0 where
-  used : Use
-  dropped : Use
 
 -- What a meaning is asked in: the declarations, the data model, how a program computes, the inputs, what calls of functions
 -- with a body mean, and the names of these functions in their order.
@@ -38,80 +31,11 @@ pub record Context : Type 0 where
   pub call : Calls
   pub bodies : List (List ℕ)
 
--- ---- Operators
-
--- `a > b` is `b < a`, and `a != b` is `!(a == b)`; these meet no error
-abbrev pub op_of : BinaryOp → Op
-op_of op.OrElse = arith.Or
-op_of op.AndAlso = arith.And
-op_of op.BitOr = arith.Or
-op_of op.BitXor = arith.Xor
-op_of op.BitAnd = arith.And
-op_of op.Equal = arith.Equal
-op_of op.NotEqual = arith.Equal
-op_of op.Less = arith.Less
-op_of op.Greater = arith.Less
-op_of op.LessEqual = arith.LessEqual
-op_of op.GreaterEqual = arith.LessEqual
-op_of op.ShiftLeft = arith.Shl
-op_of op.ShiftRight = arith.Shr
-op_of op.Add = arith.Add
-op_of op.Subtract = arith.Sub
-op_of op.Multiply = arith.Mul
-op_of op.Divide = arith.Div
-op_of op.Remainder = arith.Rem
-
-abbrev pub is_turned : BinaryOp → Bool
-is_turned op.Greater = true
-is_turned op.GreaterEqual = true
-is_turned _ = false
-
-abbrev pub is_negated : BinaryOp → Bool
-is_negated op.NotEqual = true
-is_negated _ = false
-
-abbrev pub negated : Bool → ℤ → ℤ
-negated true v = truth (is_zero v)
-negated false v = v
-
-abbrev pub is_logical : BinaryOp → Bool
-is_logical op.OrElse = true
-is_logical op.AndAlso = true
-is_logical _ = false
-
--- the operation of `E1 op= E2`
-abbrev pub assigned_op : AssignOp → BinaryOp
-assigned_op to.Plain = op.Add
-assigned_op to.Multiply = op.Multiply
-assigned_op to.Divide = op.Divide
-assigned_op to.Remainder = op.Remainder
-assigned_op to.Add = op.Add
-assigned_op to.Subtract = op.Subtract
-assigned_op to.ShiftLeft = op.ShiftLeft
-assigned_op to.ShiftRight = op.ShiftRight
-assigned_op to.BitAnd = op.BitAnd
-assigned_op to.BitXor = op.BitXor
-assigned_op to.BitOr = op.BitOr
-
-abbrev pub is_plain : AssignOp → Bool
-is_plain to.Plain = true
-is_plain _ = false
-
-abbrev pub crement_op : Crement → Op
-crement_op by.Increment = arith.Add
-crement_op by.Decrement = arith.Sub
-
 -- ---- Arguments (C11 6.5.2.2 p7)
 
 abbrev pub to_parameters : Model → List Kind → List ℤ → List ℤ
 to_parameters model (k ∷ ks) (v ∷ vs) = converted k model v ∷ to_parameters model ks vs
 to_parameters model ks vs = []
-
--- the value of a call; a function with a result that ended without `return` has none to be used (C11 6.9.1 p12)
-abbrev pub called_value : Use → CType → ℕ → Option ℤ → Run ℤ
-called_value u type at (Some v) = give v
-called_value used (tKind k) at None = fail error.Missing at
-called_value u type at None = give (pos 0)
 
 -- the object of a scalar or an array, through round brackets and `__extension__`
 abbrev pub base_of : Env → Ex → Option ℕ
@@ -167,11 +91,11 @@ module _ (c : Context) where
   target_at None = give (scalar 0)
 
   -- a call of a function that has neither a body nor a meaning of its own is refused by the rules
-  abbrev pub call_body : Use → CType → ℕ → Option ℕ → List ℤ → Run ℤ
-  call_body u type at None vs = stop Ended
-  call_body u type at (Some number) vs = do
+  abbrev pub call_body : Use → Option Kind → ℕ → Option ℕ → List ℤ → Run ℤ
+  call_body u result at None vs = stop Ended
+  call_body u result at (Some number) vs = do
     v ← c.call number at vs
-    called_value u type at v
+    called_value u result at v
 
   abbrev pub function_number : List ℕ → Option ℕ
   function_number name = position (λ n. bytes_eq n name) c.bodies
@@ -183,7 +107,7 @@ module _ (c : Context) where
   call_known u at name result (Some (draws k)) vs = do
     v ← draw c.inputs c.model k
     give (as_type c.model (result_type result) v)
-  call_known u at name result None vs = call_body u (result_type result) at (function_number name) vs
+  call_known u at name result None vs = call_body u result at (function_number name) vs
 
   -- the arguments are bound after all of them were evaluated
   abbrev pub call_named : Use → Entity → ℕ → List ℕ → List ℤ → Run ℤ

@@ -1,3 +1,4 @@
 pub mod Run
+pub mod Operators
 pub mod Loops
 pub mod Laws

@@ -1,7 +1,7 @@
 -- How statements are entered and left (C11 6.8), and what loops, switches and calls make of it.
-use Rattle.std.specs.Prelude.{ℕ, zero, suc, List, Option, None, ℤ}
+use Rattle.std.specs.Prelude.{ℕ, zero, suc, List, [], ◌∷◌, Option, None, ℤ}
 use Rattle.lv_base.specs.declared.kind.Kind.{Kind}
-use Rattle.c_run.specs.Run.{Run, give, ◌>>=◌, ◌>>◌, choose, spent, turn, is_true}
+use Rattle.c_run.specs.Run.{Run, give, ◌>>=◌, ◌>>◌, choose, spent, turn, is_true, store_all}
 
 -- where a jump goes: to a label by its name, or into a switch, to the case of this value once converted to this kind, or
 -- to `default`
@@ -100,3 +100,10 @@ enter zero body from = spent 0
 enter (suc n) body from = do
   exit ← body from
   left_by exit (λ label. enter n body (Seek (toLabel label)))
+
+-- the arguments become the values of the parameters, each an object
+abbrev pub bind_parameters : List ℕ → List ℤ → Run (Unit {0})
+bind_parameters (object ∷ objects) (v ∷ vs) = do
+  store_all object (v ∷ [])
+  bind_parameters objects vs
+bind_parameters _ _ = give tt
