@@ -1,0 +1,2 @@
+//! From source trees to typed trees.
+#![tactic(auto)]
