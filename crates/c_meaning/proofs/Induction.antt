@@ -18,7 +18,7 @@ use Rattle.c_meaning.specs.Kinds.{CType, tKind}
 use Rattle.c_meaning.specs.Bindings.{Env, Entity, anObjectOf, aFunctionOf, aConstantOf, entity_of, object_number, count_of, words_type}
 use Rattle.c_meaning.specs.Known.{Known, reaches, aborts, draws as draws_known, known_of}
 use Rattle.c_run.specs.Operators.{Use, used, dropped, called_value, assigned_op}
-use Rattle.c_meaning.specs.Value.{Context, value, values, last_value, drop_values, target_of, kind_at, to_kind, applied, prefixed, stepped, named_value, element_at, target_at, call_body, call_known, call_named, call_of, function_number, base_of, cast_to, to_parameters}
+use Rattle.c_meaning.specs.Value.{arguments, parameters_of, Context, value, values, last_value, drop_values, target_of, kind_at, to_kind, applied, prefixed, stepped, named_value, element_at, target_at, call_body, call_known, call_named, call_of, function_number, base_of, cast_to}
 use Rattle.c_meaning.specs.Execution.{exec, exec_all, declared, begin_object, begin_objects, effect_of, test_of, condition, keyword, start_for, for_start, for_test, for_step, for_keyword, returned, is_case, is_default, is_this_label}
 use Rattle.c_meaning.specs.Places.{AtName, AtEach, AtEachPart, InOption, InInitial, InDeclarators, InDeclaration, InHead, InStart, InFor, InStatement, InStatements}
 
@@ -76,7 +76,7 @@ module _ (R : (A : Type 0) → Run A → Run A → Type 0) (P : ℕ → Type 0) 
   known_kept u at name result None vs p = body_kept u result at (function_number c name) vs p
 
   entity_kept : (u : Use) (e : Entity) (at : ℕ) (name : List ℕ) (vs : List ℤ) → P at → R ℤ (call_named c u e at name vs) (call_named c' u e at name vs)
-  entity_kept u (aFunctionOf result ps) at name vs p = known_kept u at name result (known_of name) (to_parameters model ps vs) p
+  entity_kept u (aFunctionOf result ps) at name vs p = known_kept u at name result (known_of name) vs p
   entity_kept u e at name vs p = k.stops ℤ
 
   call_kept : (u : Use) (f : Ex) (vs : List ℤ) → AtName P f → R ℤ (call_of c u f vs) (call_of c' u f vs)
@@ -95,7 +95,7 @@ module _ (R : (A : Type 0) → Run A → Run A → Type 0) (P : ℕ → Type 0) 
     value_kept u (eNumber v f at) p = k.gives ℤ (pos v)
     value_kept u (eLetter v at) p = k.gives ℤ v
     value_kept u (eParen a e b) p = value_kept u e p
-    value_kept u (eCall f a es b) p = k.binds (List ℤ) ℤ _ _ _ _ (values_kept es p.1) (λ vs. call_kept u f vs p.0)
+    value_kept u (eCall f a es b) p = k.binds (List ℤ) ℤ _ _ _ _ (arguments_kept (parameters_of env f) es p.1) (λ vs. call_kept u f vs p.0)
     value_kept u (eIndex a x i y) p = k.binds ℤ ℤ _ _ _ _ (value_kept used i p.1) (λ v. k.binds Element ℤ _ _ _ _ (element_kept x (base_of env a) v p.0) (λ e. k.reads e))
     value_kept u (ePostfix e b at) p =
         k.binds Element ℤ _ _ _ _ (target_kept e p.1) (λ t. k.binds ℤ ℤ _ _ _ _ (k.reads t) (λ old. after_value R P k ℤ _ _ _ _ (stepped_kept at b (kind_at c e) t old p.0) (k.gives ℤ old)))
@@ -131,6 +131,10 @@ module _ (R : (A : Type 0) → Run A → Run A → Type 0) (P : ℕ → Type 0) 
     pub values_kept : (es : Parts) → AtEachPart P es → R (List ℤ) (values c es) (values c' es)
     values_kept no_parts p = k.gives (List ℤ) []
     values_kept (parts_and es x e) p = k.binds (List ℤ) (List ℤ) _ _ _ _ (values_kept es p.0) (λ vs. k.binds ℤ (List ℤ) _ _ _ _ (value_kept used e p.1) (λ v. k.gives (List ℤ) _))
+
+    pub arguments_kept : (kinds : List Kind) (es : Parts) → AtEachPart P es → R (List ℤ) (arguments c kinds es) (arguments c' kinds es)
+    arguments_kept kinds no_parts p = k.gives (List ℤ) []
+    arguments_kept kinds (parts_and es x e) p = k.binds (List ℤ) (List ℤ) _ _ _ _ (arguments_kept kinds es p.0) (λ vs. k.binds ℤ (List ℤ) _ _ _ _ (value_kept used e p.1) (λ v. k.gives (List ℤ) _))
 
     pub target_kept : (e : Ex) → AtEach P e → R Element (target_of c e) (target_of c' e)
     target_kept (eParen a e b) p = target_kept e p

@@ -1,10 +1,11 @@
 -- Constant expressions (C11 6.6), and what the declarations of a source bind their names to.
-use Rattle.std.specs.Prelude.{ℕ, ◌+◌, Bool, true, false, ◌&&◌, not, if◌then◌else◌, List, [], ◌∷◌, ◌++◌, length, Option, Some, None, bytes_eq, find, ℤ, pos, ◌+ℤ◌, int_le, unsigned_abs}
+use Rattle.std.specs.Prelude.{ℕ, Bool, true, false, ◌&&◌, not, if◌then◌else◌, List, [], ◌∷◌, ◌++◌, length, Option, Some, None, bytes_eq, find, ℤ, pos, ◌+ℤ◌, int_le, unsigned_abs}
 use Rattle.lv_base.specs.declared.kind.Model.{Model}
 use Rattle.lv_base.specs.Integers.{arith_of}
 use Rattle.c_tree.specs.declared.tree.PrefixOp.TheVariants as pre
-use Rattle.c_tree.specs.Tree.{Ex, eName, eNumber, eLetter, eParen, eCall, eIndex, ePostfix, ePrefix, eSizeof, eCast, eBinary, eCond, eAssign, eComma, Parts, no_parts, parts_and, Ens, no_enumerators, plain_and, valued_and, Form, fArray, Initial, iList}
+use Rattle.c_tree.specs.Tree.{Ex, eName, eNumber, eLetter, eParen, eCall, eIndex, ePostfix, ePrefix, eSizeof, eCast, eBinary, eCond, eAssign, eComma, Ens, no_enumerators, plain_and, valued_and, Form, fArray, Initial, iList}
 use Rattle.c_run.specs.Run.{State, Got, Value, Stop, stop, Ended}
+use Rattle.c_meaning.specs.Tokens.{count_parts}
 use Rattle.c_meaning.specs.Kinds.{is_kind}
 use Rattle.c_meaning.specs.Scope.{Declared, What, anObject, aParameter, aFunction, aTypedef, anEnumerator, aTag, aName, is_tag, is_file}
 use Rattle.c_meaning.specs.Bindings.{Object, Entity, anObjectOf, aFunctionOf, aConstantOf, aTypeOf, aTagOf, aNameOf, Env, entity_of, entity_of_entry, declared_at, constant_value, enum_kind, words_type, has_const, kind_in, kind_or_int, parameter_kinds}
@@ -84,10 +85,6 @@ enumerator_value env model (plain_and es c n at) = next_constant (last_constant 
 enumerator_value env model (valued_and es c n at a e) = or_zero (constant_of env model e)
 
 -- ---- Arrays (C11 6.7.6.2, 6.7.9 p22)
-
-abbrev pub count_parts : Parts → ℕ
-count_parts no_parts = 0
-count_parts (parts_and es c e) = count_parts es + 1
 
 abbrev pub listed : Initial → ℕ
 listed (iList at a es c b) = count_parts es

@@ -1,5 +1,5 @@
 -- Where parts of a tree begin and end: offsets of their tokens.
-use Rattle.std.specs.Prelude.{ℕ}
+use Rattle.std.specs.Prelude.{ℕ, suc}
 use Rattle.c_tree.specs.declared.tree.PrefixOp.TheVariants as pre
 use Rattle.c_tree.specs.Tree.{attribute, Ex, eName, eNumber, eLetter, eParen, eCall, eIndex, ePostfix, ePrefix, eSizeof, eCast, eBinary, eCond, eAssign, eComma, Parts, no_parts, parts_and, Words, no_words, words_and, Word, wType, wStorage, wConst, wExtension, wAttribute, wTypedef, wTag, wEnum, wTagEnum, Parameters, pUnknown, pVoid, pSome, Declaration, declares, St, sDeclaration, sBlock, sEmpty, sExpr, sIf, sIfElse, sWhile, sSwitch, sDo, sFor, sCase, sDefault, sLabel, sGoto, sBreak, sContinue, sReturn}
 
@@ -118,3 +118,8 @@ end_of (sGoto at n x b) = b
 end_of (sBreak at b) = b
 end_of (sContinue at b) = b
 end_of (sReturn at e b) = b
+
+-- how many parts a list has
+abbrev pub count_parts : Parts → ℕ
+count_parts no_parts = 0
+count_parts (parts_and es c e) = suc (count_parts es)

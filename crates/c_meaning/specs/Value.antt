@@ -1,6 +1,7 @@
 -- Evaluation of expressions, from left to right (C11 6.5; the order is left open by 6.5 p3).
-use Rattle.std.specs.Prelude.{ℕ, if◌then◌else◌, List, [], ◌∷◌, ◌++◌, Option, Some, None, bytes_eq, position, ℤ, pos, negsuc}
+use Rattle.std.specs.Prelude.{slice_index_or, ℕ, if◌then◌else◌, List, [], ◌∷◌, ◌++◌, Option, Some, None, bytes_eq, position, ℤ, pos, negsuc}
 use Rattle.lv_base.specs.declared.kind.Kind.{Kind}
+use Rattle.lv_base.specs.declared.kind.Kind.TheVariants as kind
 use Rattle.lv_base.specs.declared.kind.Model.{Model}
 use Rattle.lv_base.specs.declared.kind.Op.TheVariants as arith
 use Rattle.lv_base.specs.declared.fault.ErrorKind.TheVariants as error
@@ -17,6 +18,7 @@ use Rattle.c_run.specs.Run.{Run, give, ◌>>=◌, ◌>>◌, choose, fail, stop, 
 use Rattle.c_run.specs.Loops.{Calls}
 use Rattle.c_run.specs.Operators.{Use, used, dropped, called_value, op_of, is_turned, is_negated, negated, assigned_op, crement_op}
 use Rattle.c_meaning.specs.Kinds.{CType, tKind, promoted, operation_kind, right_kind, size_of, kind_of, as_type, result_type}
+use Rattle.c_meaning.specs.Tokens.{count_parts}
 use Rattle.c_meaning.specs.Bindings.{Env, Entity, anObjectOf, aFunctionOf, aConstantOf, entity_of, object_number, count_of, words_type}
 use Rattle.c_meaning.specs.Known.{Known, reaches, aborts, draws, known_of}
 use Rattle.c_meaning.specs.Types.{type_of}
@@ -31,11 +33,16 @@ pub record Context : Type 0 where
   pub call : Calls
   pub bodies : List (List ℕ)
 
--- ---- Arguments (C11 6.5.2.2 p7)
+-- ---- Calls (C11 6.5.2.2)
 
-abbrev pub to_parameters : Model → List Kind → List ℤ → List ℤ
-to_parameters model (k ∷ ks) (v ∷ vs) = converted k model v ∷ to_parameters model ks vs
-to_parameters model ks vs = []
+-- the parameters' kinds of what is called
+abbrev pub entity_parameters : Entity → List Kind
+entity_parameters (aFunctionOf result parameters) = parameters
+entity_parameters _ = []
+
+abbrev pub parameters_of : Env → Ex → List Kind
+parameters_of env (eName n at) = entity_parameters (entity_of env n at)
+parameters_of env _ = []
 
 -- the object of a scalar or an array, through round brackets and `__extension__`
 abbrev pub base_of : Env → Ex → Option ℕ
@@ -111,7 +118,7 @@ module _ (c : Context) where
 
   -- the arguments are bound after all of them were evaluated
   abbrev pub call_named : Use → Entity → ℕ → List ℕ → List ℤ → Run ℤ
-  call_named u (aFunctionOf result parameters) at name vs = call_known u at name result (known_of name) (to_parameters c.model parameters vs)
+  call_named u (aFunctionOf result parameters) at name vs = call_known u at name result (known_of name) vs
   call_named u _ at name vs = stop Ended
 
   abbrev pub call_of : Use → Ex → List ℤ → Run ℤ
@@ -134,7 +141,7 @@ module _ (c : Context) where
     value u (eLetter v at) = give v
     value u (eParen a e b) = value u e
     value u (eCall f a es b) = do
-      vs ← values es
+      vs ← arguments (parameters_of c.env f) es
       call_of u f vs
     value u (eIndex a x i y) = do
       v ← value used i
@@ -207,6 +214,14 @@ module _ (c : Context) where
       vs ← values es
       v ← value used e
       give (vs ++ v ∷ [])
+
+    -- the values of arguments, each converted to the kind of its parameter (C11 6.5.2.2 p7)
+    pub arguments : List Kind → Parts → Run (List ℤ)
+    arguments kinds no_parts = give []
+    arguments kinds (parts_and es x e) = do
+      vs ← arguments kinds es
+      v ← value used e
+      give (vs ++ to_kind (slice_index_or kinds (count_parts es) kind.Int) v ∷ [])
 
     -- The object or element that is assigned to. An index is evaluated and tested here, before the right side.
     pub target_of : Ex → Run Element

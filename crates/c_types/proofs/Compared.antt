@@ -1,18 +1,17 @@
 -- On these sources the run of the typed tree is the run of the source, and both break the same rule of jumps, effects and
 -- calls first. Each tree was read from the text above it.
-use Rattle.std.specs.Prelude.{◌≡◌, ℕ, Bool, true, false, List, [], ◌∷◌, Option, Some, None, codes, ℤ, pos, negsuc}
+use Rattle.std.specs.Prelude.{◌≡◌, ℕ, Bool, true, false, [], ◌∷◌, Some, None, codes, pos}
 use Rattle.std.proofs.Common.{refl}
 use Rattle.lv_base.specs.declared.kind.Model.TheVariants.{Ilp32, Lp64}
 use Rattle.lv_base.specs.declared.fault.SourceFault.TheVariants as fault
 use Rattle.c_lexer.specs.declared.token.NumberForm.{NumberForm}
 use Rattle.c_tree.specs.declared.symbol.TypeWord.TheVariants as type
 use Rattle.c_tree.specs.declared.symbol.StorageWord.TheVariants as storage
-use Rattle.c_tree.specs.declared.symbol.ConstWord.TheVariants as cw
 use Rattle.c_tree.specs.declared.symbol.BinaryOp.TheVariants as op
 use Rattle.c_tree.specs.declared.symbol.AssignOp.TheVariants as to
 use Rattle.c_tree.specs.declared.symbol.Crement.TheVariants as by
 use Rattle.c_tree.specs.declared.tree.PrefixOp.TheVariants as pre
-use Rattle.c_tree.specs.Tree.{Raw, no_raw, raw_and, Ats, no_attributes, Ex, eName, eNumber, eLetter, eParen, eCall, eIndex, ePostfix, ePrefix, eSizeof, eCast, eBinary, eCond, eAssign, eComma, Parts, no_parts, parts_and, Words, no_words, words_and, Word, wType, wStorage, wConst, wExtension, wAttribute, wTypedef, wTag, wEnum, wTagEnum, Ens, no_enumerators, plain_and, valued_and, Name, named, Params, no_params, params_and, Parameters, pUnknown, pVoid, pSome, Form, fPlain, fArray, fFunction, Initial, iNothing, iValue, iList, Decs, no_declarators, declarators_and, Declaration, declares, Head, head, ForStart, forDeclares, forExpr, ForHead, for_head, St, sDeclaration, sBlock, sEmpty, sExpr, sIf, sIfElse, sWhile, sSwitch, sDo, sFor, sCase, sDefault, sLabel, sGoto, sBreak, sContinue, sReturn, Sts, no_statements, statements_and, Body, bBlock, bSkipped, Item, tSkipped, tFunction, tDeclaration, tEmpty, Items, no_items, items_and}
+use Rattle.c_tree.specs.Tree.{no_raw, no_attributes, eName, eNumber, eParen, eCall, eIndex, ePostfix, ePrefix, eSizeof, eCast, eBinary, eCond, eAssign, eComma, no_parts, parts_and, no_words, words_and, wType, wStorage, wTypedef, wTag, wEnum, wTagEnum, no_enumerators, plain_and, valued_and, named, no_params, params_and, pUnknown, pVoid, pSome, fPlain, fArray, fFunction, iNothing, iValue, iList, no_declarators, declarators_and, declares, head, forDeclares, for_head, sDeclaration, sBlock, sEmpty, sExpr, sIf, sWhile, sSwitch, sDo, sFor, sCase, sDefault, sLabel, sGoto, sBreak, sContinue, sReturn, no_statements, statements_and, bBlock, bSkipped, tFunction, tDeclaration, Items, no_items, items_and}
 use Rattle.c_meaning.specs.Program.{run}
 use Rattle.c_typed.specs.Run as typed
 use Rattle.c_typed.specs.Rules as rules
@@ -612,4 +611,3 @@ good_call_in_sizeof_unbroken = (items_and (items_and no_items (tFunction (words_
 
 pub good_call_in_sizeof_none : rules.broken (elaborated good_call_in_sizeof_unbroken Ilp32) ≡ []
 good_call_in_sizeof_none = refl
-

@@ -1,21 +1,21 @@
 -- The typed tree of a source tree: names become numbers, each value gets its kind, and each conversion becomes a node.
-use Rattle.std.specs.Prelude.{ℕ, suc, Bool, true, false, List, [], ◌∷◌, ◌++◌, map, length, Option, Some, None, slice_get, slice_index_or, ℤ, pos}
+use Rattle.std.specs.Prelude.{ℕ, suc, true, false, List, [], ◌∷◌, map, length, Option, Some, None, slice_get, slice_index_or, ℤ, pos}
 use Rattle.lv_base.specs.declared.kind.Kind.{Kind}
 use Rattle.lv_base.specs.declared.kind.Kind.TheVariants as kind
 use Rattle.lv_base.specs.declared.kind.Model.{Model}
-use Rattle.c_tree.specs.declared.symbol.BinaryOp.{BinaryOp}
 use Rattle.c_tree.specs.declared.symbol.BinaryOp.TheVariants as op
 use Rattle.c_tree.specs.declared.symbol.AssignOp.TheVariants as to
 use Rattle.c_tree.specs.declared.symbol.Crement.TheVariants as by
 use Rattle.c_tree.specs.declared.tree.PrefixOp.TheVariants as pre
-use Rattle.c_tree.specs.Tree.{Ex, eName, eNumber, eLetter, eParen, eCall, eIndex, ePostfix, ePrefix, eSizeof, eCast, eBinary, eCond, eAssign, eComma, Parts, no_parts, parts_and, Name, named, Initial, iNothing, iValue, iList, Decs, no_declarators, declarators_and, Declaration, declares, Head, head, ForStart, forDeclares, forExpr, ForHead, for_head, St, sDeclaration, sBlock, sEmpty, sExpr, sIf, sIfElse, sWhile, sSwitch, sDo, sFor, sCase, sDefault, sLabel, sGoto, sBreak, sContinue, sReturn, Sts, no_statements, statements_and, Items}
+use Rattle.c_tree.specs.Tree.{Ex, eName, eNumber, eLetter, eParen, eCall, eIndex, ePostfix, ePrefix, eSizeof, eCast, eBinary, eCond, eAssign, eComma, Parts, no_parts, parts_and, named, Initial, iNothing, iValue, iList, Decs, no_declarators, declarators_and, Declaration, declares, Head, head, ForStart, forDeclares, forExpr, ForHead, for_head, St, sDeclaration, sBlock, sEmpty, sExpr, sIf, sIfElse, sWhile, sSwitch, sDo, sFor, sCase, sDefault, sLabel, sGoto, sBreak, sContinue, sReturn, Sts, no_statements, statements_and, Items}
 use Rattle.c_run.specs.Operators.{assigned_op}
-use Rattle.c_meaning.specs.Kinds.{CType, tKind, tVoid, tArray, tFunction, tNone, promoted, operation_kind, right_kind, number_kind, size_kind, size_of, kind_of}
+use Rattle.c_meaning.specs.Kinds.{CType, tKind, promoted, operation_kind, right_kind, number_kind, size_kind, size_of, kind_of}
 use Rattle.c_meaning.specs.Bindings.{Env, Entity, anObjectOf, aFunctionOf, aConstantOf, Object, entity_of, object_number, declared_at, kind_of_object, words_type}
 use Rattle.c_meaning.specs.Known.{Known, reaches, aborts, draws, known_of}
 use Rattle.c_meaning.specs.Types.{type_of}
-use Rattle.c_meaning.specs.Value.{base_of}
-use Rattle.c_meaning.specs.Constants.{constant_of, or_zero, count_parts}
+use Rattle.c_meaning.specs.Value.{base_of, parameters_of}
+use Rattle.c_meaning.specs.Tokens.{count_parts}
+use Rattle.c_meaning.specs.Constants.{constant_of, or_zero}
 use Rattle.c_meaning.specs.Program.{Function, functions_of, env_of, start_values}
 use Rattle.c_typed.specs.Tree.{Val, vConstant, vRead, vElement, vWhole, vNothing, vConvert, vDiscard, vNegate, vComplement, vNot, vBinary, vBoth, vEither, vCond, vAssign, vUpdate, vChange, vCall, vReach, vAbort, vDraw, vComma, Goal, gObject, gElement, Vals, no_values, values_and, Step, pDraw, pBegin, pBlock, pEmpty, pEffect, pIf, pIfElse, pWhile, pSwitch, pDo, pFor, pCase, pDefault, pLabel, pGoto, pBreak, pContinue, pReturn, Steps, no_steps, steps_and, Owner, static, local, Program}
 use Rattle.c_typed.specs.Tree as t
@@ -30,9 +30,13 @@ abbrev pub or_first : Option ℕ → ℕ
 or_first None = 0
 or_first (Some object) = object
 
+abbrev pub scalar_or_array : ℕ → Kind → Option ℕ → Val
+scalar_or_array number k None = vRead k number
+scalar_or_array number k (Some n) = vWhole number
+
 abbrev pub object_value : ℕ → Option Object → Val
 object_value number None = vRead kind.Int number
-object_value number (Some o) = elim (o.length) [ None ↦ vRead o.kind number | Some n ↦ vWhole number ]
+object_value number (Some o) = scalar_or_array number o.kind o.length
 
 abbrev pub named_value : Env → Entity → Val
 named_value env (anObjectOf number) = object_value number (slice_get env.objects number)
@@ -74,21 +78,13 @@ module _ (env : Env) (model : Model) (bodies : List (List ℕ)) where
   called_name (eName n at) bracket vs = called_entity (entity_of env n at) n at bracket vs
   called_name f bracket vs = vAbort
 
-  abbrev pub kinds_of : Entity → List Kind
-  kinds_of (aFunctionOf result parameters) = parameters
-  kinds_of _ = []
-
-  abbrev pub parameters_of : Ex → List Kind
-  parameters_of (eName n at) = kinds_of (entity_of env n at)
-  parameters_of _ = []
-
   abbrev mutual
     pub value : Ex → Val
     value (eName n at) = named_value env (entity_of env n at)
     value (eNumber v f at) = vConstant (number_kind model v f) (pos v)
     value (eLetter v at) = vConstant kind.Int v
     value (eParen a e b) = value e
-    value (eCall f a es b) = called_name f a (arguments (parameters_of f) es)
+    value (eCall f a es b) = called_name f a (arguments (parameters_of env f) es)
     value (eIndex a x i y) = vElement (kind_at (eIndex a x i y)) x (or_none env (base_of env a)) (value i)
     value (ePostfix e c at) = vChange false c (kind_at e) at (goal e)
     value (ePrefix pre.Increment at e) = vChange true by.Increment (kind_at e) at (goal e)
@@ -186,7 +182,7 @@ module _ (env : Env) (model : Model) (bodies : List (List ℕ)) where
     abbrev mutual
       pub step : St → Step
       step (sDeclaration d) = pBlock (declared no_steps d)
-      step (sBlock a ss b) = pBlock (steps no_steps ss)
+      step (sBlock a ss b) = pBlock (steps ss)
       step (sEmpty at) = pEmpty
       step (sExpr e at) = pEffect (value e)
       step (sIf h s) = pIf (condition h) (step s)
@@ -204,10 +200,10 @@ module _ (env : Env) (model : Model) (bodies : List (List ℕ)) where
       step (sReturn at e b) = pReturn at (returned result e)
 
       -- the declarations of a block are steps of it
-      pub steps : Steps → Sts → Steps
-      steps before no_statements = before
-      steps before (statements_and ss (sDeclaration d)) = declared (steps before ss) d
-      steps before (statements_and ss s) = steps_and (steps before ss) (step s)
+      pub steps : Sts → Steps
+      steps no_statements = no_steps
+      steps (statements_and ss (sDeclaration d)) = declared (steps ss) d
+      steps (statements_and ss s) = steps_and (steps ss) (step s)
 
 -- ---- Programs
 
@@ -230,7 +226,7 @@ objects_from env model number (o ∷ os) =
     (record { name = o.name; at = o.at; kind = o.kind; length = length_of o.length; owner = owner_of o.owner; first = first_of o.owner (start_values env model number o) }) ∷ objects_from env model (suc number) os
 
 abbrev pub function_of : Env → Model → List (List ℕ) → Function → t.Function
-function_of env model bodies f = record { name = f.name; at = f.at; result = f.result; parameters = f.parameters; body = steps env model bodies f.result no_steps f.body }
+function_of env model bodies f = record { name = f.name; at = f.at; result = f.result; parameters = f.parameters; body = steps env model bodies f.result f.body }
 
 abbrev pub program_of : Env → Model → List Function → Program
 program_of env model functions =
