@@ -11,7 +11,8 @@ use Rattle.c_tree.specs.declared.symbol.BinaryOp.TheVariants as op
 use Rattle.c_tree.specs.declared.symbol.AssignOp.TheVariants as to
 use Rattle.c_tree.specs.declared.symbol.Crement.TheVariants as by
 use Rattle.c_tree.specs.declared.tree.PrefixOp.TheVariants as pre
-use Rattle.c_meaning.specs.Good.{broken, first_broken, Good}
+use Rattle.c_run.specs.Breaking.{first_broken}
+use Rattle.c_meaning.specs.Good.{broken, Good}
 use Rattle.c_tree.specs.Tree.{no_raw, no_attributes, eName, eNumber, eParen, eCall, eIndex, ePostfix, ePrefix, eSizeof, eCast, eBinary, eCond, eAssign, no_parts, parts_and, no_words, words_and, wType, wStorage, wConst, wTag, wEnum, wTagEnum, no_enumerators, plain_and, valued_and, named, no_params, params_and, pUnknown, pVoid, pSome, fPlain, fArray, fFunction, iNothing, iValue, iList, no_declarators, declarators_and, declares, head, sDeclaration, sBlock, sEmpty, sExpr, sIf, sSwitch, sCase, sDefault, sLabel, sGoto, sBreak, sReturn, no_statements, statements_and, bBlock, bSkipped, tFunction, tDeclaration, Items, no_items, items_and}
 
 abbrev form : Bool → Bool → ℕ → NumberForm

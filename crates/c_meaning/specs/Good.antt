@@ -1,9 +1,9 @@
 -- Which rules a source breaks, and which one is named.
-use Rattle.std.specs.Prelude.{◌≡◌, nat_eq, nat_lt, Bool, if◌then◌else◌, List, [], ◌∷◌, map, Option, Some, None}
+use Rattle.std.specs.Prelude.{◌≡◌, List, [], ◌∷◌, map}
 use Rattle.lv_base.specs.declared.kind.Model.{Model}
-use Rattle.lv_base.specs.Names.{fault_number}
 use Rattle.c_tree.specs.Tree.{Items}
-use Rattle.c_meaning.specs.Rules.{Broken, typing_faults}
+use Rattle.c_run.specs.Breaking.{Broken}
+use Rattle.c_meaning.specs.Rules.{typing_faults}
 use Rattle.c_meaning.specs.Jumps.{control_faults}
 use Rattle.c_meaning.specs.Bindings.{Env}
 use Rattle.c_meaning.specs.Program.{Function, functions_of, env_of}
@@ -19,18 +19,6 @@ broken_in env model functions items = or_control (typing_faults env model (map (
 -- all rules that are broken, each with its offset
 abbrev pub broken : Items → Model → List Broken
 broken items model = let env = env_of items model in broken_in env model (functions_of env items) items
-
--- by offset, then by number
-abbrev pub is_before : Broken → Broken → Bool
-is_before a b = if nat_eq a.at b.at then nat_lt (fault_number a.fault) (fault_number b.fault) else nat_lt a.at b.at
-
-abbrev pub least_of : Broken → List Broken → Broken
-least_of best [] = best
-least_of best (b ∷ bs) = least_of (if is_before b best then b else best) bs
-
-abbrev pub first_broken : List Broken → Option Broken
-first_broken [] = None
-first_broken (b ∷ bs) = Some (least_of b bs)
 
 -- a source that breaks no rule
 abbrev pub Good : Items → Model → Type 0

@@ -1,65 +1,145 @@
 -- The rules of jumps, of unsequenced effects and of recursion, which are tried on sources that break no other (C11 6.5 p2,
 -- 6.8.1, 6.8.6).
-use Rattle.std.specs.Prelude.{ℕ, zero, suc, nat_eq, nat_le, Bool, true, false, ◌&&◌, ◌||◌, not, if◌then◌else◌, List, [], ◌∷◌, ◌++◌, length, map, Option, Some, None, slice_index_or, position, bytes_eq}
+use Rattle.std.specs.Prelude.{ℕ, zero, suc, nat_eq, Bool, true, false, ◌&&◌, ◌||◌, not, if◌then◌else◌, List, [], ◌∷◌, ◌++◌, length, map, Option, Some, None, slice_index_or, position, bytes_eq}
 use Rattle.std.specs.List.{list_any}
 use Rattle.lv_base.specs.declared.kind.Kind.{Kind}
 use Rattle.lv_base.specs.declared.fault.SourceFault.TheVariants as fault
 use Rattle.c_tree.specs.declared.tree.PrefixOp.TheVariants as pre
-use Rattle.c_tree.specs.Tree.{Ex, eName, eNumber, eLetter, eParen, eCall, eIndex, ePostfix, ePrefix, eSizeof, eCast, eBinary, eCond, eAssign, eComma, Parts, no_parts, parts_and, Initial, iNothing, iValue, iList, Decs, no_declarators, declarators_and, Declaration, declares, Head, head, ForStart, forDeclares, forExpr, ForHead, for_head, St, sDeclaration, sBlock, sExpr, sIf, sIfElse, sWhile, sSwitch, sDo, sFor, sCase, sDefault, sLabel, sGoto, sBreak, sContinue, sReturn, Sts, no_statements, statements_and}
-use Rattle.c_meaning.specs.Scope.{holds, Declared, What, anObject}
-use Rattle.c_meaning.specs.Bindings.{Env, Entity, aFunctionOf, object_of, entity_of}
+use Rattle.c_tree.specs.Tree.{Ex, eName, eNumber, eLetter, eParen, eCall, eIndex, ePostfix, ePrefix, eSizeof, eCast, eBinary, eCond, eAssign, eComma, Parts, no_parts, parts_and, named, Initial, iNothing, iValue, iList, Decs, no_declarators, declarators_and, Declaration, declares, Head, head, ForStart, forDeclares, forExpr, ForHead, for_head, St, sDeclaration, sBlock, sExpr, sIf, sIfElse, sWhile, sSwitch, sDo, sFor, sCase, sDefault, sLabel, sGoto, sBreak, sContinue, sReturn, Sts, no_statements, statements_and}
+use Rattle.c_meaning.specs.Bindings.{Env, Entity, aFunctionOf, object_number, declared_at, object_of, entity_of}
 use Rattle.c_run.specs.Operators.{is_logical, is_plain}
 use Rattle.c_meaning.specs.Value.{base_of}
-use Rattle.c_meaning.specs.Rules.{Broken, line}
+use Rattle.c_run.specs.Breaking.{Broken, line}
 use Rattle.c_meaning.specs.Program.{Function}
 
--- ---- Labels (C11 6.8.1 p3, 6.8.6.1 p1)
+-- ---- Labels, and the objects in whose scope they stand (C11 6.2.1 p7, 6.8.1 p3, 6.8.6.1 p1)
 
--- a label, or a goto, with the name's offset and that of the statement's first token
+-- a label, or a goto: its name with the offset, the offset of its first token, and the objects declared before it in the
+-- blocks around it
 pub record Jump : Type 0 where
   pub name : List ℕ
   pub named_at : ℕ
   pub at : ℕ
+  pub scope : List ℕ
 
-abbrev pub jump : List ℕ → ℕ → ℕ → Jump
-jump name named_at at = record { name = name; named_at = named_at; at = at }
+abbrev pub jump : List ℕ → ℕ → ℕ → List ℕ → Jump
+jump name named_at at scope = record { name = name; named_at = named_at; at = at; scope = scope }
 
-abbrev mutual
-  pub labels_of : St → List Jump
-  labels_of (sBlock a ss b) = labels_of_all ss
-  labels_of (sIf h s) = labels_of s
-  labels_of (sIfElse h s at t) = labels_of s ++ labels_of t
-  labels_of (sWhile h s) = labels_of s
-  labels_of (sSwitch h s) = labels_of s
-  labels_of (sDo at s h b) = labels_of s
-  labels_of (sFor h s) = labels_of s
-  labels_of (sCase at e b s) = labels_of s
-  labels_of (sDefault at b s) = labels_of s
-  labels_of (sLabel n at b ats s) = jump n at at ∷ labels_of s
-  labels_of _ = []
+abbrev pub one : Option ℕ → List ℕ
+one None = []
+one (Some object) = object ∷ []
 
-  pub labels_of_all : Sts → List Jump
-  labels_of_all no_statements = []
-  labels_of_all (statements_and ss s) = labels_of_all ss ++ labels_of s
+abbrev pub has : List ℕ → ℕ → Bool
+has xs y = list_any (nat_eq y) xs
 
-abbrev mutual
-  pub gotos_of : St → List Jump
-  gotos_of (sBlock a ss b) = gotos_of_all ss
-  gotos_of (sIf h s) = gotos_of s
-  gotos_of (sIfElse h s at t) = gotos_of s ++ gotos_of t
-  gotos_of (sWhile h s) = gotos_of s
-  gotos_of (sSwitch h s) = gotos_of s
-  gotos_of (sDo at s h b) = gotos_of s
-  gotos_of (sFor h s) = gotos_of s
-  gotos_of (sCase at e b s) = gotos_of s
-  gotos_of (sDefault at b s) = gotos_of s
-  gotos_of (sLabel n at b ats s) = gotos_of s
-  gotos_of (sGoto at n x b) = jump n x at ∷ []
-  gotos_of _ = []
+abbrev pub keyword : Head → ℕ
+keyword (head at a e b) = at
 
-  pub gotos_of_all : Sts → List Jump
-  gotos_of_all no_statements = []
-  gotos_of_all (statements_and ss s) = gotos_of_all ss ++ gotos_of s
+abbrev pub is_some : {A : Type 0} → Option A → Bool
+is_some None = false
+is_some (Some v) = true
+
+-- a jump enters the scope of an object's declaration; C11 6.8.6.1 p1 forbids it for arrays of variable length, and this
+-- profile for each object
+abbrev pub enters : (start goal : List ℕ) → Bool
+enters start goal = list_any (λ object. not (has start object)) goal
+
+-- a case jumps from the innermost switch, which stands in the scope of these objects
+abbrev pub case_lines : Option (List ℕ) → List ℕ → ℕ → List Broken
+case_lines None scope at = line true fault.BadJump at
+case_lines (Some start) scope at = line (enters start scope) fault.JumpIntoScope at
+
+abbrev pub return_line : Option Kind → Option Ex → ℕ → List Broken
+return_line (Some k) (Some e) at = []
+return_line None None at = []
+return_line _ _ at = line true fault.BadJump at
+
+module _ (env : Env) where
+  -- the objects that a declaration in a block declares
+  abbrev pub objects_of : Decs → List ℕ
+  objects_of no_declarators = []
+  objects_of (declarators_and ds c (named n at) f ats i) = objects_of ds ++ one (object_number (declared_at env at))
+
+  abbrev pub objects_in : Declaration → List ℕ
+  objects_in (declares ws ds b) = objects_of ds
+
+  abbrev pub declared_by : St → List ℕ
+  declared_by (sDeclaration d) = objects_in d
+  declared_by _ = []
+
+  -- those that statements in a row declare
+  abbrev pub declared_in : Sts → List ℕ
+  declared_in no_statements = []
+  declared_in (statements_and ss s) = declared_in ss ++ declared_by s
+
+  abbrev pub declared_start : ForStart → List ℕ
+  declared_start (forDeclares d) = objects_in d
+  declared_start (forExpr e at) = []
+
+  abbrev pub declared_for : ForHead → List ℕ
+  declared_for (for_head at a start test x step b) = declared_start start
+
+  abbrev mutual
+    pub labels_of : List ℕ → St → List Jump
+    labels_of scope (sBlock a ss b) = labels_of_all scope ss
+    labels_of scope (sIf h s) = labels_of scope s
+    labels_of scope (sIfElse h s at t) = labels_of scope s ++ labels_of scope t
+    labels_of scope (sWhile h s) = labels_of scope s
+    labels_of scope (sSwitch h s) = labels_of scope s
+    labels_of scope (sDo at s h b) = labels_of scope s
+    labels_of scope (sFor h s) = labels_of (scope ++ declared_for h) s
+    labels_of scope (sCase at e b s) = labels_of scope s
+    labels_of scope (sDefault at b s) = labels_of scope s
+    labels_of scope (sLabel n at b ats s) = jump n at at scope ∷ labels_of scope s
+    labels_of scope _ = []
+
+    pub labels_of_all : List ℕ → Sts → List Jump
+    labels_of_all scope no_statements = []
+    labels_of_all scope (statements_and ss s) = labels_of_all scope ss ++ labels_of (scope ++ declared_in ss) s
+
+  abbrev mutual
+    pub gotos_of : List ℕ → St → List Jump
+    gotos_of scope (sBlock a ss b) = gotos_of_all scope ss
+    gotos_of scope (sIf h s) = gotos_of scope s
+    gotos_of scope (sIfElse h s at t) = gotos_of scope s ++ gotos_of scope t
+    gotos_of scope (sWhile h s) = gotos_of scope s
+    gotos_of scope (sSwitch h s) = gotos_of scope s
+    gotos_of scope (sDo at s h b) = gotos_of scope s
+    gotos_of scope (sFor h s) = gotos_of (scope ++ declared_for h) s
+    gotos_of scope (sCase at e b s) = gotos_of scope s
+    gotos_of scope (sDefault at b s) = gotos_of scope s
+    gotos_of scope (sLabel n at b ats s) = gotos_of scope s
+    gotos_of scope (sGoto at n x b) = jump n x at scope ∷ []
+    gotos_of scope _ = []
+
+    pub gotos_of_all : List ℕ → Sts → List Jump
+    gotos_of_all scope no_statements = []
+    gotos_of_all scope (statements_and ss s) = gotos_of_all scope ss ++ gotos_of (scope ++ declared_in ss) s
+
+  -- ---- `break`, `continue`, `case`, `default` and `return` in their places (C11 6.8.1 p2, 6.8.6.2 p1, 6.8.6.3 p1, 6.8.6.4 p1)
+
+  module _ (result : Option Kind) where
+    -- in a loop, and in a switch with these objects around it
+    abbrev mutual
+      pub misplaced : Bool → Option (List ℕ) → List ℕ → St → List Broken
+      misplaced l w scope (sBlock a ss b) = misplaced_all l w scope ss
+      misplaced l w scope (sIf h s) = misplaced l w scope s
+      misplaced l w scope (sIfElse h s at t) = misplaced l w scope s ++ misplaced l w scope t
+      misplaced l w scope (sWhile h s) = misplaced true w scope s
+      misplaced l w scope (sSwitch h s) = misplaced l (Some scope) scope s
+      misplaced l w scope (sDo at s h b) = misplaced true w scope s
+      misplaced l w scope (sFor h s) = misplaced true w (scope ++ declared_for h) s
+      misplaced l w scope (sCase at e b s) = case_lines w scope at ++ misplaced l w scope s
+      misplaced l w scope (sDefault at b s) = case_lines w scope at ++ misplaced l w scope s
+      misplaced l w scope (sLabel n at b ats s) = misplaced l w scope s
+      misplaced l w scope (sBreak at b) = line (not (l || is_some w)) fault.BadJump at
+      misplaced l w scope (sContinue at b) = line (not l) fault.BadJump at
+      misplaced l w scope (sReturn at e b) = return_line result e at
+      misplaced l w scope _ = []
+
+      pub misplaced_all : Bool → Option (List ℕ) → List ℕ → Sts → List Broken
+      misplaced_all l w scope no_statements = []
+      misplaced_all l w scope (statements_and ss s) = misplaced_all l w scope ss ++ misplaced l w (scope ++ declared_in ss) s
 
 abbrev pub has_name : List ℕ → List Jump → Bool
 has_name name labels = list_any (λ l. bytes_eq l.name name) labels
@@ -72,74 +152,15 @@ abbrev pub lost_gotos : List Jump → List Jump → List Broken
 lost_gotos labels [] = []
 lost_gotos labels (g ∷ gs) = line (not (has_name g.name labels)) fault.Label g.named_at ++ lost_gotos labels gs
 
--- ---- Jumps into a scope; C11 6.8.6.1 p1 forbids them for arrays of variable length, and this profile for each object
-
-abbrev pub is_local_object : Option ℕ → What → Bool
-is_local_object (Some f) (anObject ws form i) = true
-is_local_object _ _ = false
-
-abbrev pub is_in_scope_of : Declared → ℕ → Bool
-is_in_scope_of d at = nat_le d.from at && holds d.scope at
-
--- from one token to another a jump enters the scope of a local object's declaration
-abbrev pub enters : Env → (start goal : ℕ) → Bool
-enters env start goal = list_any (λ e. is_local_object e.declared.owner e.declared.what && (is_in_scope_of e.declared goal && not (is_in_scope_of e.declared start))) env.entries
-
-abbrev pub entering_gotos : Env → List Jump → List Jump → List Broken
-entering_gotos env labels [] = []
-entering_gotos env labels (g ∷ gs) =
-    line (list_any (λ l. bytes_eq l.name g.name && enters env g.at l.at) labels) fault.JumpIntoScope g.at ++ entering_gotos env labels gs
-
--- ---- `break`, `continue`, `case`, `default` and `return` in their places (C11 6.8.1 p2, 6.8.6.2 p1, 6.8.6.3 p1, 6.8.6.4 p1)
-
-abbrev pub is_some : {A : Type 0} → Option A → Bool
-is_some None = false
-is_some (Some v) = true
-
--- a case jumps from the keyword of the innermost switch
-abbrev pub case_lines : Env → Option ℕ → ℕ → List Broken
-case_lines env None at = line true fault.BadJump at
-case_lines env (Some from) at = line (enters env from at) fault.JumpIntoScope at
-
-abbrev pub return_line : Option Kind → Option Ex → ℕ → List Broken
-return_line (Some k) (Some e) at = []
-return_line None None at = []
-return_line _ _ at = line true fault.BadJump at
-
-abbrev pub keyword : Head → ℕ
-keyword (head at a e b) = at
-
-module _ (env : Env) (result : Option Kind) where
-  -- in a loop, and in the switch with this keyword
-  abbrev mutual
-    pub misplaced : Bool → Option ℕ → St → List Broken
-    misplaced l w (sBlock a ss b) = misplaced_all l w ss
-    misplaced l w (sIf h s) = misplaced l w s
-    misplaced l w (sIfElse h s at t) = misplaced l w s ++ misplaced l w t
-    misplaced l w (sWhile h s) = misplaced true w s
-    misplaced l w (sSwitch h s) = misplaced l (Some (keyword h)) s
-    misplaced l w (sDo at s h b) = misplaced true w s
-    misplaced l w (sFor h s) = misplaced true w s
-    misplaced l w (sCase at e b s) = case_lines env w at ++ misplaced l w s
-    misplaced l w (sDefault at b s) = case_lines env w at ++ misplaced l w s
-    misplaced l w (sLabel n at b ats s) = misplaced l w s
-    misplaced l w (sBreak at b) = line (not (l || is_some w)) fault.BadJump at
-    misplaced l w (sContinue at b) = line (not l) fault.BadJump at
-    misplaced l w (sReturn at e b) = return_line result e at
-    misplaced l w _ = []
-
-    pub misplaced_all : Bool → Option ℕ → Sts → List Broken
-    misplaced_all l w no_statements = []
-    misplaced_all l w (statements_and ss s) = misplaced_all l w ss ++ misplaced l w s
+abbrev pub entering_gotos : List Jump → List Jump → List Broken
+entering_gotos labels [] = []
+entering_gotos labels (g ∷ gs) =
+    line (list_any (λ l. bytes_eq l.name g.name && enters g.scope l.scope) labels) fault.JumpIntoScope g.at ++ entering_gotos labels gs
 
 -- ---- Effects that are not sequenced (C11 6.5 p2), by a rule on names
 
 abbrev pub meets : List ℕ → List ℕ → Bool
 meets xs ys = list_any (λ x. list_any (nat_eq x) ys) xs
-
-abbrev pub one : Option ℕ → List ℕ
-one None = []
-one (Some object) = object ∷ []
 
 module _ (env : Env) where
   -- The objects that an expression writes, an array as a whole. Operands of `sizeof` and the bodies of called functions are
@@ -381,10 +402,10 @@ recursion graph caller (cs ∷ rest) = recursion_in graph caller cs ++ recursion
 
 abbrev pub function_faults : Env → Function → List Broken
 function_faults env f =
-    repeated_labels [] (labels_of_all f.body)
-    ++ lost_gotos (labels_of_all f.body) (gotos_of_all f.body)
-    ++ entering_gotos env (labels_of_all f.body) (gotos_of_all f.body)
-    ++ misplaced_all env f.result false None f.body
+    repeated_labels [] (labels_of_all env [] f.body)
+    ++ lost_gotos (labels_of_all env [] f.body) (gotos_of_all env [] f.body)
+    ++ entering_gotos (labels_of_all env [] f.body) (gotos_of_all env [] f.body)
+    ++ misplaced_all env f.result false None [] f.body
     ++ unsequenced_of env (all_of_all f.body)
 
 abbrev pub functions_faults : Env → List Function → List Broken

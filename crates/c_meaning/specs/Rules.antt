@@ -11,6 +11,7 @@ use Rattle.lv_base.specs.Integers.{is_in_range, is_signed, converted}
 use Rattle.c_tree.specs.declared.tree.PrefixOp.{PrefixOp}
 use Rattle.c_tree.specs.declared.tree.PrefixOp.TheVariants as pre
 use Rattle.c_tree.specs.Tree.{Ex, eName, eNumber, eLetter, eParen, eCall, eIndex, ePostfix, ePrefix, eSizeof, eCast, eBinary, eCond, eAssign, eComma, Parts, no_parts, parts_and, Words, no_words, words_and, Word, wTag, wEnum, wTagEnum, Ens, no_enumerators, plain_and, valued_and, named, Params, no_params, params_and, Parameters, pSome, Form, fArray, fFunction, Initial, iNothing, iValue, iList, Decs, no_declarators, declarators_and, Declaration, declares, Head, head, ForStart, forDeclares, forExpr, ForHead, for_head, St, sDeclaration, sBlock, sEmpty, sExpr, sIf, sIfElse, sWhile, sSwitch, sDo, sFor, sCase, sDefault, sLabel, sGoto, sBreak, sContinue, sReturn, Sts, no_statements, statements_and, Body, bBlock, bSkipped, Item, tSkipped, tFunction, tDeclaration, tEmpty, Items, no_items, items_and}
+use Rattle.c_run.specs.Breaking.{Broken, line}
 use Rattle.c_meaning.specs.Kinds.{CType, tVoid, tFunction, promoted, is_kind, is_array, is_void, kind_of, rank}
 use Rattle.c_meaning.specs.Tokens.{count_parts, first_of, own_token}
 use Rattle.c_meaning.specs.Scope.{Declared, What, anObject, aFunction, is_tag, is_file, is_same}
@@ -18,15 +19,6 @@ use Rattle.c_meaning.specs.Bindings.{Entity, anObjectOf, aFunctionOf, aConstantO
 use Rattle.c_meaning.specs.Known.{Known, reaches, aborts, draws, known_of}
 use Rattle.c_meaning.specs.Types.{type_of}
 use Rattle.c_meaning.specs.Constants.{is_constant, constant_of, or_zero, object_length}
-
--- a rule that is broken at an offset
-pub record Broken : Type 0 where
-  pub fault : SourceFault
-  pub at : ℕ
-
-abbrev pub line : Bool → SourceFault → ℕ → List Broken
-line true f at = (record { fault = f; at = at }) ∷ []
-line false f at = []
 
 -- faults of names, types, calls and constants
 abbrev pub is_typing : SourceFault → Bool

@@ -1,20 +1,10 @@
 -- The rules of jumps, of unsequenced effects and of recursion on typed trees (C11 6.5 p2, 6.8.1, 6.8.6).
-use Rattle.std.specs.Prelude.{ℕ, zero, suc, nat_eq, nat_lt, Bool, true, false, ◌&&◌, ◌||◌, not, if◌then◌else◌, List, [], ◌∷◌, ◌++◌, length, map, Option, Some, None, slice_index_or, bytes_eq}
+use Rattle.std.specs.Prelude.{ℕ, zero, suc, nat_eq, Bool, true, false, ◌&&◌, ◌||◌, not, List, [], ◌∷◌, ◌++◌, length, map, Option, Some, None, slice_index_or, bytes_eq}
 use Rattle.std.specs.List.{list_any}
 use Rattle.lv_base.specs.declared.kind.Kind.{Kind}
-use Rattle.lv_base.specs.declared.fault.SourceFault.{SourceFault}
 use Rattle.lv_base.specs.declared.fault.SourceFault.TheVariants as fault
-use Rattle.lv_base.specs.Names.{fault_number}
+use Rattle.c_run.specs.Breaking.{Broken, line}
 use Rattle.c_typed.specs.Tree.{Val, vRead, vElement, vWhole, vConvert, vDiscard, vNegate, vComplement, vNot, vBinary, vBoth, vEither, vCond, vAssign, vUpdate, vChange, vCall, vComma, Goal, gObject, gElement, Vals, no_values, values_and, Step, pDraw, pBegin, pBlock, pEffect, pIf, pIfElse, pWhile, pSwitch, pDo, pFor, pCase, pDefault, pLabel, pGoto, pBreak, pContinue, pReturn, Steps, no_steps, steps_and, Function, Program}
-
--- a rule that is broken at an offset
-pub record Broken : Type 0 where
-  pub fault : SourceFault
-  pub at : ℕ
-
-abbrev pub line : Bool → SourceFault → ℕ → List Broken
-line true f at = (record { fault = f; at = at }) ∷ []
-line false f at = []
 
 abbrev pub has : List ℕ → ℕ → Bool
 has xs y = list_any (nat_eq y) xs
@@ -359,15 +349,3 @@ recursion_faults functions = recursion (map (λ cs. map (λ c. c.to) cs) (calls_
 -- all rules of these that a typed tree breaks
 abbrev pub broken : Program → List Broken
 broken program = functions_faults program.functions ++ recursion_faults program.functions
-
--- by offset, then by number
-abbrev pub is_before : Broken → Broken → Bool
-is_before a b = if nat_eq a.at b.at then nat_lt (fault_number a.fault) (fault_number b.fault) else nat_lt a.at b.at
-
-abbrev pub least_of : Broken → List Broken → Broken
-least_of best [] = best
-least_of best (b ∷ bs) = least_of (if is_before b best then b else best) bs
-
-abbrev pub first_broken : List Broken → Option Broken
-first_broken [] = None
-first_broken (b ∷ bs) = Some (least_of b bs)

@@ -14,6 +14,7 @@ use Rattle.c_tree.specs.declared.tree.PrefixOp.TheVariants as pre
 use Rattle.c_tree.specs.Tree.{no_raw, no_attributes, eName, eNumber, eParen, eCall, eIndex, ePostfix, ePrefix, eSizeof, eCast, eBinary, eCond, eAssign, eComma, no_parts, parts_and, no_words, words_and, wType, wStorage, wTypedef, wTag, wEnum, wTagEnum, no_enumerators, plain_and, valued_and, named, no_params, params_and, pUnknown, pVoid, pSome, fPlain, fArray, fFunction, iNothing, iValue, iList, no_declarators, declarators_and, declares, head, forDeclares, for_head, sDeclaration, sBlock, sEmpty, sExpr, sIf, sWhile, sSwitch, sDo, sFor, sCase, sDefault, sLabel, sGoto, sBreak, sContinue, sReturn, no_statements, statements_and, bBlock, bSkipped, tFunction, tDeclaration, Items, no_items, items_and}
 use Rattle.c_meaning.specs.Program.{run}
 use Rattle.c_typed.specs.Run as typed
+use Rattle.c_run.specs.Breaking.{first_broken}
 use Rattle.c_typed.specs.Rules as rules
 use Rattle.c_types.specs.Elaborated.{elaborated}
 
@@ -451,21 +452,21 @@ op_reads_first = refl
 abbrev no_label_fault : Items
 no_label_fault = (items_and no_items (tFunction (words_and no_words (wType type.Int 0)) (named (codes "main") 4) (pUnknown 8 9) no_attributes (bBlock 11 (statements_and no_statements (sGoto 13 (codes "L") 18 19)) 21)))
 
-pub no_label_broken : rules.first_broken (rules.broken (elaborated no_label_fault Ilp32)) ≡ Some (record { fault = fault.Label; at = 18 })
+pub no_label_broken : first_broken (rules.broken (elaborated no_label_fault Ilp32)) ≡ Some (record { fault = fault.Label; at = 18 })
 no_label_broken = refl
 
 --   int main() { goto L; int x; L: ; }
 abbrev into_scope_fault : Items
 into_scope_fault = (items_and no_items (tFunction (words_and no_words (wType type.Int 0)) (named (codes "main") 4) (pUnknown 8 9) no_attributes (bBlock 11 (statements_and (statements_and (statements_and no_statements (sGoto 13 (codes "L") 18 19)) (sDeclaration (declares (words_and no_words (wType type.Int 21)) (declarators_and no_declarators None (named (codes "x") 25) fPlain no_attributes iNothing) 26))) (sLabel (codes "L") 28 29 no_attributes (sEmpty 31))) 33)))
 
-pub into_scope_broken : rules.first_broken (rules.broken (elaborated into_scope_fault Ilp32)) ≡ Some (record { fault = fault.JumpIntoScope; at = 13 })
+pub into_scope_broken : first_broken (rules.broken (elaborated into_scope_fault Ilp32)) ≡ Some (record { fault = fault.JumpIntoScope; at = 13 })
 into_scope_broken = refl
 
 --   int main() { break; }
 abbrev break_alone_fault : Items
 break_alone_fault = (items_and no_items (tFunction (words_and no_words (wType type.Int 0)) (named (codes "main") 4) (pUnknown 8 9) no_attributes (bBlock 11 (statements_and no_statements (sBreak 13 18)) 20)))
 
-pub break_alone_broken : rules.first_broken (rules.broken (elaborated break_alone_fault Ilp32)) ≡ Some (record { fault = fault.BadJump; at = 13 })
+pub break_alone_broken : first_broken (rules.broken (elaborated break_alone_fault Ilp32)) ≡ Some (record { fault = fault.BadJump; at = 13 })
 break_alone_broken = refl
 
 --   extern void abort(void);
@@ -478,7 +479,7 @@ break_alone_broken = refl
 abbrev unsequenced_fault : Items
 unsequenced_fault = (items_and (items_and (items_and (items_and no_items (tDeclaration (declares (words_and (words_and no_words (wStorage storage.Extern 0)) (wType type.Void 7)) (declarators_and no_declarators None (named (codes "abort") 12) (fFunction (pVoid 17 18 22)) no_attributes iNothing) 23))) (tDeclaration (declares (words_and (words_and no_words (wStorage storage.Extern 25)) (wType type.Int 32)) (declarators_and no_declarators None (named (codes "__VERIFIER_nondet_int") 36) (fFunction (pVoid 57 58 62)) no_attributes iNothing) 63))) (tFunction (words_and no_words (wType type.Void 65)) (named (codes "reach_error") 70) (pUnknown 81 82) no_attributes (bSkipped 84 no_raw 85))) (tFunction (words_and no_words (wType type.Int 87)) (named (codes "main") 91) (pUnknown 95 96) no_attributes (bBlock 98 (statements_and (statements_and no_statements (sDeclaration (declares (words_and no_words (wType type.Int 102)) (declarators_and no_declarators None (named (codes "x") 106) fPlain no_attributes (iValue 108 (eNumber 0 (form false false 0) 110))) 111))) (sExpr (eAssign (eName (codes "x") 115) to.Plain 117 (ePostfix (eName (codes "x") 119) by.Increment 120)) 122)) 124)))
 
-pub unsequenced_broken : rules.first_broken (rules.broken (elaborated unsequenced_fault Ilp32)) ≡ Some (record { fault = fault.Unsequenced; at = 117 })
+pub unsequenced_broken : first_broken (rules.broken (elaborated unsequenced_fault Ilp32)) ≡ Some (record { fault = fault.Unsequenced; at = 117 })
 unsequenced_broken = refl
 
 --   int f(int n) {
@@ -490,70 +491,70 @@ unsequenced_broken = refl
 abbrev recursion_fault : Items
 recursion_fault = (items_and (items_and no_items (tFunction (words_and no_words (wType type.Int 0)) (named (codes "f") 4) (pSome 5 (params_and no_params None (words_and no_words (wType type.Int 6)) (Some (named (codes "n") 10))) 11) no_attributes (bBlock 13 (statements_and no_statements (sReturn 17 (Some (eCall (eName (codes "f") 24) 25 (parts_and no_parts None (eName (codes "n") 26)) 27)) 28)) 30))) (tFunction (words_and no_words (wType type.Int 32)) (named (codes "main") 36) (pUnknown 40 41) no_attributes (bBlock 43 (statements_and no_statements (sReturn 47 (Some (eCall (eName (codes "f") 54) 55 (parts_and no_parts None (eNumber 1 (form true false 0) 56)) 57)) 58)) 60)))
 
-pub recursion_broken : rules.first_broken (rules.broken (elaborated recursion_fault Ilp32)) ≡ Some (record { fault = fault.Recursion; at = 24 })
+pub recursion_broken : first_broken (rules.broken (elaborated recursion_fault Ilp32)) ≡ Some (record { fault = fault.Recursion; at = 24 })
 recursion_broken = refl
 
 --   int main() { L: ; L: ; }
 abbrev label_twice_fault : Items
 label_twice_fault = (items_and no_items (tFunction (words_and no_words (wType type.Int 0)) (named (codes "main") 4) (pUnknown 8 9) no_attributes (bBlock 11 (statements_and (statements_and no_statements (sLabel (codes "L") 13 14 no_attributes (sEmpty 16))) (sLabel (codes "L") 18 19 no_attributes (sEmpty 21))) 23)))
 
-pub label_twice_broken : rules.first_broken (rules.broken (elaborated label_twice_fault Ilp32)) ≡ Some (record { fault = fault.Label; at = 18 })
+pub label_twice_broken : first_broken (rules.broken (elaborated label_twice_fault Ilp32)) ≡ Some (record { fault = fault.Label; at = 18 })
 label_twice_broken = refl
 
 --   int main() { switch (1) { int x; case 1: ; } }
 abbrev case_into_scope_fault : Items
 case_into_scope_fault = (items_and no_items (tFunction (words_and no_words (wType type.Int 0)) (named (codes "main") 4) (pUnknown 8 9) no_attributes (bBlock 11 (statements_and no_statements (sSwitch (head 13 20 (eNumber 1 (form true false 0) 21) 22) (sBlock 24 (statements_and (statements_and no_statements (sDeclaration (declares (words_and no_words (wType type.Int 26)) (declarators_and no_declarators None (named (codes "x") 30) fPlain no_attributes iNothing) 31))) (sCase 33 (eNumber 1 (form true false 0) 38) 39 (sEmpty 41))) 43))) 45)))
 
-pub case_into_scope_broken : rules.first_broken (rules.broken (elaborated case_into_scope_fault Ilp32)) ≡ Some (record { fault = fault.JumpIntoScope; at = 33 })
+pub case_into_scope_broken : first_broken (rules.broken (elaborated case_into_scope_fault Ilp32)) ≡ Some (record { fault = fault.JumpIntoScope; at = 33 })
 case_into_scope_broken = refl
 
 --   int main() { case 1: ; }
 abbrev case_outside_fault : Items
 case_outside_fault = (items_and no_items (tFunction (words_and no_words (wType type.Int 0)) (named (codes "main") 4) (pUnknown 8 9) no_attributes (bBlock 11 (statements_and no_statements (sCase 13 (eNumber 1 (form true false 0) 18) 19 (sEmpty 21))) 23)))
 
-pub case_outside_broken : rules.first_broken (rules.broken (elaborated case_outside_fault Ilp32)) ≡ Some (record { fault = fault.BadJump; at = 13 })
+pub case_outside_broken : first_broken (rules.broken (elaborated case_outside_fault Ilp32)) ≡ Some (record { fault = fault.BadJump; at = 13 })
 case_outside_broken = refl
 
 --   int f(void) { return; } int main() { }
 abbrev return_without_fault : Items
 return_without_fault = (items_and (items_and no_items (tFunction (words_and no_words (wType type.Int 0)) (named (codes "f") 4) (pVoid 5 6 10) no_attributes (bBlock 12 (statements_and no_statements (sReturn 14 None 20)) 22))) (tFunction (words_and no_words (wType type.Int 24)) (named (codes "main") 28) (pUnknown 32 33) no_attributes (bBlock 35 no_statements 37)))
 
-pub return_without_broken : rules.first_broken (rules.broken (elaborated return_without_fault Ilp32)) ≡ Some (record { fault = fault.BadJump; at = 14 })
+pub return_without_broken : first_broken (rules.broken (elaborated return_without_fault Ilp32)) ≡ Some (record { fault = fault.BadJump; at = 14 })
 return_without_broken = refl
 
 --   void f(void) { return 1; } int main() { }
 abbrev return_with_fault : Items
 return_with_fault = (items_and (items_and no_items (tFunction (words_and no_words (wType type.Void 0)) (named (codes "f") 5) (pVoid 6 7 11) no_attributes (bBlock 13 (statements_and no_statements (sReturn 15 (Some (eNumber 1 (form true false 0) 22)) 23)) 25))) (tFunction (words_and no_words (wType type.Int 27)) (named (codes "main") 31) (pUnknown 35 36) no_attributes (bBlock 38 no_statements 40)))
 
-pub return_with_broken : rules.first_broken (rules.broken (elaborated return_with_fault Ilp32)) ≡ Some (record { fault = fault.BadJump; at = 15 })
+pub return_with_broken : first_broken (rules.broken (elaborated return_with_fault Ilp32)) ≡ Some (record { fault = fault.BadJump; at = 15 })
 return_with_broken = refl
 
 --   int f(int a, int b) { return a; } int main() { int i = 0; f(i, i++); }
 abbrev arguments_clash_fault : Items
 arguments_clash_fault = (items_and (items_and no_items (tFunction (words_and no_words (wType type.Int 0)) (named (codes "f") 4) (pSome 5 (params_and (params_and no_params None (words_and no_words (wType type.Int 6)) (Some (named (codes "a") 10))) (Some 11) (words_and no_words (wType type.Int 13)) (Some (named (codes "b") 17))) 18) no_attributes (bBlock 20 (statements_and no_statements (sReturn 22 (Some (eName (codes "a") 29)) 30)) 32))) (tFunction (words_and no_words (wType type.Int 34)) (named (codes "main") 38) (pUnknown 42 43) no_attributes (bBlock 45 (statements_and (statements_and no_statements (sDeclaration (declares (words_and no_words (wType type.Int 47)) (declarators_and no_declarators None (named (codes "i") 51) fPlain no_attributes (iValue 53 (eNumber 0 (form false false 0) 55))) 56))) (sExpr (eCall (eName (codes "f") 58) 59 (parts_and (parts_and no_parts None (eName (codes "i") 60)) (Some 61) (ePostfix (eName (codes "i") 63) by.Increment 64)) 66) 67)) 69)))
 
-pub arguments_clash_broken : rules.first_broken (rules.broken (elaborated arguments_clash_fault Ilp32)) ≡ Some (record { fault = fault.Unsequenced; at = 59 })
+pub arguments_clash_broken : first_broken (rules.broken (elaborated arguments_clash_fault Ilp32)) ≡ Some (record { fault = fault.Unsequenced; at = 59 })
 arguments_clash_broken = refl
 
 --   int main() { int a[2] = {0}; a[a[0] = 1] = 2; }
 abbrev own_index_fault : Items
 own_index_fault = (items_and no_items (tFunction (words_and no_words (wType type.Int 0)) (named (codes "main") 4) (pUnknown 8 9) no_attributes (bBlock 11 (statements_and (statements_and no_statements (sDeclaration (declares (words_and no_words (wType type.Int 13)) (declarators_and no_declarators None (named (codes "a") 17) (fArray 18 (Some (eNumber 2 (form true false 0) 19)) 20) no_attributes (iList 22 24 (parts_and no_parts None (eNumber 0 (form false false 0) 25)) None 26)) 27))) (sExpr (eAssign (eIndex (eName (codes "a") 29) 30 (eAssign (eIndex (eName (codes "a") 31) 32 (eNumber 0 (form false false 0) 33) 34) to.Plain 36 (eNumber 1 (form true false 0) 38)) 39) to.Plain 41 (eNumber 2 (form true false 0) 43)) 44)) 46)))
 
-pub own_index_broken : rules.first_broken (rules.broken (elaborated own_index_fault Ilp32)) ≡ Some (record { fault = fault.Unsequenced; at = 41 })
+pub own_index_broken : first_broken (rules.broken (elaborated own_index_fault Ilp32)) ≡ Some (record { fault = fault.Unsequenced; at = 41 })
 own_index_broken = refl
 
 --   int main() { int a[2] = {0}; return a[a[0] = 1]; }
 abbrev read_index_fault : Items
 read_index_fault = (items_and no_items (tFunction (words_and no_words (wType type.Int 0)) (named (codes "main") 4) (pUnknown 8 9) no_attributes (bBlock 11 (statements_and (statements_and no_statements (sDeclaration (declares (words_and no_words (wType type.Int 13)) (declarators_and no_declarators None (named (codes "a") 17) (fArray 18 (Some (eNumber 2 (form true false 0) 19)) 20) no_attributes (iList 22 24 (parts_and no_parts None (eNumber 0 (form false false 0) 25)) None 26)) 27))) (sReturn 29 (Some (eIndex (eName (codes "a") 36) 37 (eAssign (eIndex (eName (codes "a") 38) 39 (eNumber 0 (form false false 0) 40) 41) to.Plain 43 (eNumber 1 (form true false 0) 45)) 46)) 47)) 49)))
 
-pub read_index_broken : rules.first_broken (rules.broken (elaborated read_index_fault Ilp32)) ≡ Some (record { fault = fault.Unsequenced; at = 37 })
+pub read_index_broken : first_broken (rules.broken (elaborated read_index_fault Ilp32)) ≡ Some (record { fault = fault.Unsequenced; at = 37 })
 read_index_broken = refl
 
 --   int g(int); int f(int n) { return g(n); } int g(int n) { return f(n); } int main() { return 0; }
 abbrev mutual_recursion_fault : Items
 mutual_recursion_fault = (items_and (items_and (items_and (items_and no_items (tDeclaration (declares (words_and no_words (wType type.Int 0)) (declarators_and no_declarators None (named (codes "g") 4) (fFunction (pSome 5 (params_and no_params None (words_and no_words (wType type.Int 6)) None) 9)) no_attributes iNothing) 10))) (tFunction (words_and no_words (wType type.Int 12)) (named (codes "f") 16) (pSome 17 (params_and no_params None (words_and no_words (wType type.Int 18)) (Some (named (codes "n") 22))) 23) no_attributes (bBlock 25 (statements_and no_statements (sReturn 27 (Some (eCall (eName (codes "g") 34) 35 (parts_and no_parts None (eName (codes "n") 36)) 37)) 38)) 40))) (tFunction (words_and no_words (wType type.Int 42)) (named (codes "g") 46) (pSome 47 (params_and no_params None (words_and no_words (wType type.Int 48)) (Some (named (codes "n") 52))) 53) no_attributes (bBlock 55 (statements_and no_statements (sReturn 57 (Some (eCall (eName (codes "f") 64) 65 (parts_and no_parts None (eName (codes "n") 66)) 67)) 68)) 70))) (tFunction (words_and no_words (wType type.Int 72)) (named (codes "main") 76) (pUnknown 80 81) no_attributes (bBlock 83 (statements_and no_statements (sReturn 85 (Some (eNumber 0 (form false false 0) 92)) 93)) 95)))
 
-pub mutual_recursion_broken : rules.first_broken (rules.broken (elaborated mutual_recursion_fault Ilp32)) ≡ Some (record { fault = fault.Recursion; at = 34 })
+pub mutual_recursion_broken : first_broken (rules.broken (elaborated mutual_recursion_fault Ilp32)) ≡ Some (record { fault = fault.Recursion; at = 34 })
 mutual_recursion_broken = refl
 
 --   int x; int main() { int x = 1; { int x = x; } return x; }
