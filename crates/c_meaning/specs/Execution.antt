@@ -120,11 +120,13 @@ module _ (c : Context) where
       exec (sDeclaration d) Start = do
         declared d
         give Normal
+      -- compound, null and expression statements (C11 6.8.2, 6.8.3)
       exec (sBlock a ss b) from = exec_all ss from
       exec (sEmpty at) Start = give Normal
       exec (sExpr e at) Start = do
         value c dropped e
         give Normal
+      -- `if` (C11 6.8.4.1)
       exec (sIf h s) Start = do
         v ← condition h
         choose (is_true v) (exec s Start) (give Normal)
@@ -135,6 +137,7 @@ module _ (c : Context) where
       exec (sIfElse h s at t) (Seek p) = do
         exit ← exec s (Seek p)
         or_else exit (exec t (Seek p))
+      -- loops (C11 6.8.5); behind a jump into its body a loop goes on as if it had begun there
       exec (sWhile h s) Start = loop (keyword h) n (condition h) (exec s Start) (give tt)
       exec (sWhile h s) (Seek p) = do
         exit ← exec s (Seek p)
@@ -148,24 +151,28 @@ module _ (c : Context) where
       exec (sFor h s) (Seek p) = do
         exit ← exec s (Seek p)
         next_turn exit (do for_step h; loop (for_keyword h) n (for_test h) (exec s Start) (for_step h))
+      -- `switch` (C11 6.8.4.2); a case of a switch in the body is none of this one
       exec (sSwitch h s) Start = do
         v ← condition h
         switch_on (exec s) (switch_kind h) (to_kind c (switch_kind h) v)
       exec (sSwitch h s) (Seek (toLabel l)) = do
         exit ← exec s (Seek (toLabel l))
         give (leave_switch exit)
+      -- labels (C11 6.8.1)
       exec (sCase at e b s) Start = exec s Start
       exec (sCase at e b s) (Seek p) = choose (is_case p e) (exec s Start) (exec s (Seek p))
       exec (sDefault at b s) Start = exec s Start
       exec (sDefault at b s) (Seek p) = choose (is_default p) (exec s Start) (exec s (Seek p))
       exec (sLabel l at b ats s) Start = exec s Start
       exec (sLabel l at b ats s) (Seek p) = choose (is_this_label p l) (exec s Start) (exec s (Seek p))
+      -- jumps (C11 6.8.6)
       exec (sGoto at l x b) Start = do
         turn at
         give (Jumped l)
       exec (sBreak at b) Start = give Broke
       exec (sContinue at b) Start = give Continued
       exec (sReturn at e b) Start = returned result e
+      -- in any other statement no place is found
       exec _ (Seek p) = give Absent
 
       pub exec_all : Sts → From → Run Exit

@@ -136,17 +136,21 @@ module _ (c : Context) where
 
   abbrev mutual
     pub value : Use → Ex → Run ℤ
+    -- primary expressions (C11 6.5.1)
     value u (eName n at) = named_value (entity_of c.env n at)
     value u (eNumber v f at) = give (pos v)
     value u (eLetter v at) = give v
     value u (eParen a e b) = value u e
+    -- calls (C11 6.5.2.2)
     value u (eCall f a es b) = do
       vs ← arguments (parameters_of c.env f) es
       call_of u f vs
+    -- an index is tested before the element is read (C11 6.5.2.1)
     value u (eIndex a x i y) = do
       v ← value used i
       e ← element_at x (base_of c.env a) v
       read e
+    -- `++` and `--` (C11 6.5.2.4, 6.5.3.1): the target is found once
     value u (ePostfix e by at) = do
       target ← target_of e
       old ← read target
@@ -161,30 +165,38 @@ module _ (c : Context) where
       old ← read target
       stepped at by.Decrement (kind_at e) target old
     value u (ePrefix pre.Extension at e) = value u e
+    -- the operand of `sizeof` is not evaluated (C11 6.5.3.4 p2)
     value u (ePrefix pre.Sizeof at e) = give (pos (size_of c.model (typed e)))
+    -- `+ - ~ !` (C11 6.5.3.3)
     value u (ePrefix o at e) = do
       v ← value used e
       prefixed at o (kind_at e) v
     value u (eSizeof at a ws b) = give (pos (size_of c.model (words_type c.env ws)))
+    -- casts (C11 6.5.4)
     value u (eCast a ws b e) = cast_to (words_type c.env ws) (value used e) (value dropped e)
+    -- `&&` and `||` evaluate their right operand only where it decides (C11 6.5.13 p4, 6.5.14 p4)
     value u (eBinary a op.AndAlso at b) = do
       x ← value used a
       choose (is_true x) (do y ← value used b; give (truth (is_true y))) (give (pos 0))
     value u (eBinary a op.OrElse at b) = do
       x ← value used a
       choose (is_true x) (give (pos 1)) (do y ← value used b; give (truth (is_true y)))
+    -- the other binary operators (C11 6.5.5 to 6.5.12), the left operand first
     value u (eBinary a o at b) = do
       x ← value used a
       y ← value used b
       applied at o (kind_at a) (kind_at b) x y
+    -- only one arm is evaluated, and converted to the common type (C11 6.5.15 p4, p5)
     value u (eCond t x a y b) = do
       v ← value used t
       r ← choose (is_true v) (value used a) (value used b)
       give (as_type c.model (typed (eCond t x a y b)) r)
+    -- assignment converts to the target's type (C11 6.5.16.1 p2)
     value u (eAssign a to.Plain at b) = do
       target ← target_of a
       v ← value used b
       write target (to_kind (kind_at a) v)
+    -- `E1 op= E2` finds E1 once, and reads it before E2 (C11 6.5.16.2 p3)
     value u (eAssign a o at b) = do
       target ← target_of a
       x ← read target
