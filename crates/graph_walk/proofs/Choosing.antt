@@ -1,5 +1,5 @@
 -- Which edge a walk takes.
-use Rattle.std.proofs.Common.{◌≡◌, ℕ, ℤ, ◌+◌, ◌-◌, ◌^◌, ◌<◌, ◌≤◌, Bool, true, false, List, [], ◌∷◌, ◌++◌, Option, Some, None, refl, sym, ap, ◌∙◌, subst, zero, suc, length, length-append, arith, slice_get, slice_index, if◌then◌else◌, ◌==◌, nat_eq, ◌⊎◌, inl, inr, get_or}
+use Rattle.std.proofs.Common.{◌≡◌, ℕ, ◌+◌, ◌<◌, true, false, List, [], ◌∷◌, ◌++◌, Option, Some, None, refl, sym, ap, ◌∙◌, subst, zero, suc, length, length-append, arith, slice_get, slice_index, nat_eq, ◌⊎◌, inl, inr}
 use Rattle.std.proofs.lemmas.Bool.{cases_Bool, eqb-true, eq-eqb, ne_eqb}
 use Rattle.std.proofs.lemmas.List.{get_or-append-add}
 use Rattle.bv_term.specs.declared.term.TermId.{TermId}
@@ -14,8 +14,8 @@ use Rattle.c_graph.specs.declared.graph.EdgeId.{EdgeId}
 use Rattle.c_graph.specs.declared.graph.Edge.{Edge}
 use Rattle.c_graph.specs.declared.graph.Operation.{Operation}
 use Rattle.c_graph.specs.declared.graph.Operation.TheVariants.{Assume}
-use Rattle.c_graph.specs.Shape.{Flow, HasWidth, outs_from, outs}
-use Rattle.c_graph.specs.Steps.{Moment, moment, operated, operated_all}
+use Rattle.c_graph.specs.Shape.{Flow, outs_from}
+use Rattle.c_graph.specs.Steps.{Moment, operated, operated_all}
 use Rattle.graph_walk.specs.Walks.{BeginsWith, AreComplements, Splits, Place, arrived, along, or_else, first_along}
 
 -- an edge is one of these

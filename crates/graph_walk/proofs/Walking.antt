@@ -1,15 +1,13 @@
 -- Walks and runs are the same.
-use Rattle.std.proofs.Common.{◌≡◌, ℕ, ℤ, ◌+◌, List, [], ◌∷◌, ◌++◌, Option, Some, None, refl, sym, ap, ◌∙◌, subst, zero, suc, length, arith, slice_get, append_assoc, ◌⊎◌, inl, inr}
-use Rattle.bv_term.specs.WellFormed.{IsTable}
+use Rattle.std.proofs.Common.{◌≡◌, ℕ, ℤ, List, [], ◌∷◌, ◌++◌, Option, Some, None, refl, sym, ap, ◌∙◌, subst, zero, suc, length, arith, slice_get, append_assoc, ◌⊎◌, inl, inr}
 use Rattle.c_graph.specs.declared.graph.NodeId.{NodeId}
-use Rattle.c_graph.specs.declared.graph.EdgeId.{EdgeId}
 use Rattle.c_graph.specs.declared.graph.Edge.{Edge}
 use Rattle.c_graph.specs.Shape.{Flow, outs}
 use Rattle.c_graph.specs.Steps.{Moment, moment, operated_all, Leads}
 use Rattle.c_graph.specs.Runs.{RunsAlong}
-use Rattle.graph_walk.specs.Walks.{IsDetermined, Place, arrived, along, first_along, walk, RunsAreWalks, WalksAreRuns}
+use Rattle.graph_walk.specs.Walks.{Place, arrived, along, first_along, walk, RunsAreWalks, WalksAreRuns}
 use Rattle.graph_walk.proofs.Consuming.{more_left, taken}
-use Rattle.graph_walk.proofs.Choosing.{Listed, is_out, out_is, chosen, taken_leads}
+use Rattle.graph_walk.proofs.Choosing.{is_out, out_is, chosen, taken_leads}
 
 pub runs_are_walks : RunsAreWalks
 runs_are_walks g [] v store draws rest w after is d r =

@@ -9,7 +9,7 @@ use Rattle.c_graph.specs.declared.graph.Edge.{Edge}
 use Rattle.c_graph.specs.declared.graph.Operation.{Operation}
 use Rattle.c_graph.specs.declared.graph.Operation.TheVariants.{Assume}
 use Rattle.c_graph.specs.Shape.{Flow, HasWidth, outs}
-use Rattle.c_graph.specs.Steps.{Moment, moment, operated_all, IsWhole}
+use Rattle.c_graph.specs.Steps.{Moment, moment, operated_all}
 use Rattle.c_graph.specs.Runs.{RunsAlong}
 
 -- the first operation of an edge is an Assume of this term

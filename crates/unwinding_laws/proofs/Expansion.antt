@@ -1,9 +1,8 @@
 -- An Expand keeps an unwinding well labelled.
-use Rattle.std.proofs.Common.{◌≡◌, ◌≢◌, ℕ, ℤ, ◌+◌, ◌-◌, ◌<◌, ◌≤◌, Bool, true, false, List, [], ◌∷◌, ◌++◌, length, Option, Some, None, ◌⊎◌, inl, inr, refl, sym, ap, ◌∙◌, subst, arith, zero, suc, slice_get, slice_index_or, append_assoc, length-append}
+use Rattle.std.proofs.Common.{◌≡◌, ◌≢◌, ℕ, ◌+◌, ◌-◌, ◌<◌, ◌≤◌, List, [], ◌∷◌, ◌++◌, length, Some, inl, inr, refl, sym, ap, ◌∙◌, subst, arith, zero, suc, slice_get, slice_index_or, append_assoc, length-append}
 use Rattle.std.specs.List.{All}
 use Rattle.std.proofs.lemmas.Bool.{cases_lt, cases_eq}
 use Rattle.bv_term.specs.declared.term.TermId.{TermId}
-use Rattle.c_graph.specs.declared.graph.Node.TheVariants.{Plain}
 use Rattle.c_graph.specs.declared.graph.NodeId.{NodeId}
 use Rattle.c_graph.specs.declared.graph.EdgeId.{EdgeId}
 use Rattle.c_graph.specs.declared.graph.Edge.{Edge}
@@ -13,9 +12,9 @@ use Rattle.reach_tree.specs.declared.vertex.Vertex.{Vertex}
 use Rattle.reach_tree.specs.Trees.{vertex_at, changed, with_children, expanded, leaves_of, numbers_from, fresh, target_of}
 use Rattle.cover_engine.specs.Unwindings.{Unwound, Pair, any_of, has, path_of, is_left}
 use Rattle.cover_engine.specs.Units.{Meets, CanExpand, after_expand}
-use Rattle.cover_engine.specs.WellLabelled.{ChildFollows, LedBy, IsWholeFamily, PairHolds, WellLabelled}
+use Rattle.cover_engine.specs.WellLabelled.{ChildFollows, LedBy, IsWholeFamily, PairHolds}
 use Rattle.unwinding_laws.proofs.Vertices.{changed_same, changed_other, changed_length, vertex_front, vertex_back, meets_none}
-use Rattle.unwinding_laws.proofs.Paths.{Path, Family, path_is, path_runs, path_moves}
+use Rattle.unwinding_laws.proofs.Paths.{Family, path_is, path_runs, path_moves}
 use Rattle.unwinding_laws.proofs.Units.{Good}
 
 leaves_length : (edges : List Edge) (v : VertexId) (es : List EdgeId) → length (leaves_of edges v es) ≡ length es

@@ -8,10 +8,9 @@ use Rattle.reach_tree.specs.Trees.{vertex_at, root_at}
 use Rattle.cover_engine.specs.declared.unit.UnitDone.{UnitDone}
 use Rattle.cover_engine.specs.declared.unit.UnitDone.TheVariants.{Expand, Refine, CoverYes, CoverNo}
 use Rattle.cover_engine.specs.Unwindings.{Unwound}
-use Rattle.cover_engine.specs.Units.{Can, CanAll, after, after_all, start, Legal}
+use Rattle.cover_engine.specs.Units.{Can, CanAll, after, after_all, start}
 use Rattle.cover_engine.specs.WellLabelled.{ChildFollows, LegalIsWellLabelled}
 use Rattle.unwinding_laws.proofs.Vertices.{meets_none}
-use Rattle.unwinding_laws.proofs.Paths.{Family}
 use Rattle.unwinding_laws.proofs.Units.{Good, good_part, good_cover}
 use Rattle.unwinding_laws.proofs.Refinement.{good_refine}
 use Rattle.unwinding_laws.proofs.Expansion.{good_expand}

@@ -1,25 +1,22 @@
 -- A Refine keeps an unwinding well labelled.
-use Rattle.std.proofs.Common.{◌≡◌, ℕ, ℤ, ◌+◌, ◌<◌, ◌≤◌, Bool, true, false, List, [], ◌∷◌, ◌++◌, length, Option, Some, None, ◌⊎◌, inl, inr, refl, sym, ap, ◌∙◌, subst, arith, suc, slice_get, slice_index_or, reverse}
+use Rattle.std.proofs.Common.{◌≡◌, ℕ, ◌<◌, true, false, List, [], length, Option, Some, None, ◌⊎◌, inl, inr, refl, sym, ap, ◌∙◌, subst, arith, suc, slice_get, slice_index_or, reverse}
 use Rattle.std.specs.List.{All}
 use Rattle.std.proofs.lemmas.Bool.{cases_Bool, both_ways}
 use Rattle.bv_term.specs.declared.term.TermId.{TermId}
 use Rattle.bv_term.specs.WellFormed.{Table}
 use Rattle.bv_term.specs.Values.{Holds}
-use Rattle.c_graph.specs.declared.graph.Node.TheVariants.{Plain}
 use Rattle.c_graph.specs.declared.graph.NodeId.{NodeId}
 use Rattle.c_graph.specs.declared.graph.EdgeId.{EdgeId}
-use Rattle.c_graph.specs.declared.graph.Edge.{Edge}
-use Rattle.c_graph.specs.Shape.{Flow, outs, widths_of}
-use Rattle.c_graph.specs.Steps.{IsWhole, Leads}
+use Rattle.c_graph.specs.Shape.{Flow, outs}
 use Rattle.reach_tree.specs.declared.vertex.VertexId.{VertexId}
 use Rattle.reach_tree.specs.declared.vertex.Vertex.{Vertex}
-use Rattle.reach_tree.specs.Trees.{vertex_at, with_conjunct}
-use Rattle.cover_engine.specs.Unwindings.{Unwound, Pair, any_of, has, path_of, is_above, is_left, is_covered, is_true_term}
-use Rattle.cover_engine.specs.Units.{Meets, Implies, EdgeImplies, CanRefine, after_refine, refined_along, strengthened_along, pairs_but_onto, numbers_of}
-use Rattle.cover_engine.specs.WellLabelled.{ChildFollows, LedBy, IsWholeFamily, PairHolds, WellLabelled}
+use Rattle.reach_tree.specs.Trees.{vertex_at}
+use Rattle.cover_engine.specs.Unwindings.{Unwound, Pair, any_of, has, path_of, is_left, is_true_term}
+use Rattle.cover_engine.specs.Units.{Meets, CanRefine, after_refine, refined_along, strengthened_along, pairs_but_onto}
+use Rattle.cover_engine.specs.WellLabelled.{ChildFollows, LedBy, IsWholeFamily, PairHolds}
 use Rattle.unwinding_laws.proofs.Vertices.{meets_none}
-use Rattle.unwinding_laws.proofs.Paths.{Path, Family, path_is, path_falls, Falls, any_of_fewer}
-use Rattle.unwinding_laws.proofs.Formulas.{formula_of, Link, Up, up_of_links, formula_above, EndsTrue, ends_true, root_formula, up_length}
+use Rattle.unwinding_laws.proofs.Paths.{Path, path_is, path_falls, any_of_fewer}
+use Rattle.unwinding_laws.proofs.Formulas.{formula_of, Up, up_of_links, formula_above, ends_true, root_formula, up_length}
 use Rattle.unwinding_laws.proofs.Refining.{adds, shown, refined_length, at_refined, listed_where_added}
 use Rattle.unwinding_laws.proofs.Units.{Good, Alike, family_alike, path_alike, led_alike, shown_meets, shown_formula, shown_met, shown_parent, shown_by, shown_node, shown_children, left_fewer_onto, each_onto}
 

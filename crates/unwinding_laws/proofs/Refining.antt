@@ -1,12 +1,11 @@
 -- What a Refine makes of the vertices of a path.
-use Rattle.std.proofs.Common.{◌≡◌, ◌≢◌, ℕ, ◌+◌, ◌<◌, ◌≤◌, Bool, true, false, cond, not, ◌&&◌, ◌||◌, List, [], ◌∷◌, ◌++◌, length, Option, Some, None, inl, inr, refl, sym, ap, ◌∙◌, subst, arith, zero, suc, nat_eq, if◌then◌else◌}
-use Rattle.std.proofs.lemmas.Bool.{eqb-true, eq-eqb, cases_Bool, ne_eqb, or_left, or_right}
+use Rattle.std.proofs.Common.{◌≡◌, ◌≢◌, ℕ, ◌<◌, ◌≤◌, Bool, true, false, cond, not, ◌&&◌, List, [], ◌∷◌, length, Option, Some, None, inl, inr, refl, sym, ap, ◌∙◌, subst, arith, nat_eq, if◌then◌else◌}
+use Rattle.std.proofs.lemmas.Bool.{eqb-true, eq-eqb, cases_Bool, or_left, or_right}
 use Rattle.bv_term.specs.declared.term.TermId.{TermId}
 use Rattle.bv_term.specs.WellFormed.{Table}
-use Rattle.reach_tree.specs.declared.vertex.VertexId.{VertexId}
 use Rattle.reach_tree.specs.declared.vertex.Vertex.{Vertex}
-use Rattle.reach_tree.specs.Trees.{vertex_at, changed, with_conjunct, strengthened}
-use Rattle.cover_engine.specs.Unwindings.{any_of, has, is_true_term}
+use Rattle.reach_tree.specs.Trees.{vertex_at, with_conjunct, strengthened}
+use Rattle.cover_engine.specs.Unwindings.{has, is_true_term}
 use Rattle.cover_engine.specs.Units.{strengthens, refined_along, strengthened_along, numbers_of}
 use Rattle.unwinding_laws.proofs.Vertices.{changed_same, changed_other, changed_length}
 use Rattle.unwinding_laws.proofs.Paths.{Falls}

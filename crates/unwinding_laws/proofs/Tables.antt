@@ -1,5 +1,5 @@
 -- A table that grows leaves an unwinding legal.
-use Rattle.std.proofs.Common.{◌≡◌, ℕ, ℤ, ◌+◌, ◌<◌, ◌≤◌, Bool, true, false, not, ◌&&◌, ◌||◌, List, [], ◌∷◌, ◌++◌, length, Option, Some, None, inl, inr, refl, sym, ap, ◌∙◌, subst, arith, zero, suc, slice_get, slice_index_or, slice_index, reverse, IsTrue, if◌then◌else◌, length-append}
+use Rattle.std.proofs.Common.{◌≡◌, ℕ, ◌+◌, ◌<◌, Bool, true, false, ◌||◌, List, [], ◌∷◌, ◌++◌, length, inl, inr, refl, sym, ap, ◌∙◌, subst, arith, zero, suc, slice_get, slice_index_or, reverse, IsTrue, if◌then◌else◌, length-append}
 use Rattle.std.specs.List.{All}
 use Rattle.std.specs.Prelude.{Contains}
 use Rattle.std.proofs.lemmas.List.{reverse-append}
@@ -9,22 +9,21 @@ use Rattle.std.proofs.lemmas.List.{set_past}
 use Rattle.unwinding_laws.proofs.Vertices.{changed_same, changed_other}
 use Rattle.bv_term.specs.declared.term.TermId.{TermId}
 use Rattle.bv_term.specs.declared.term.Term.{Term}
-use Rattle.bv_term.specs.WellFormed.{Table, IsTable, widths}
-use Rattle.bv_term.specs.Values.{Holds, value}
+use Rattle.bv_term.specs.WellFormed.{Table}
+use Rattle.bv_term.specs.Values.{value}
 use Rattle.bv_term.specs.Laws.{Extends}
 use Rattle.bv_term.proofs.Staying.{values_stay, widths_stay}
 use Rattle.c_graph.specs.declared.graph.EdgeId.{EdgeId}
 use Rattle.c_graph.specs.declared.graph.Edge.{Edge}
-use Rattle.c_graph.specs.Shape.{Flow, HasWidth, widths_of, outs}
-use Rattle.c_graph.specs.Steps.{IsWhole, Leads}
+use Rattle.c_graph.specs.Shape.{Flow, HasWidth, outs}
 use Rattle.reach_tree.specs.declared.vertex.VertexId.{VertexId}
 use Rattle.reach_tree.specs.declared.vertex.Vertex.{Vertex}
 use Rattle.reach_tree.specs.Trees.{vertex_at, with_conjunct, with_children, strengthened, changed, leaves_of, numbers_from, root_at}
 use Rattle.cover_engine.specs.declared.unit.UnitDone.{UnitDone}
 use Rattle.cover_engine.specs.declared.unit.UnitDone.TheVariants.{Expand, Refine, CoverYes, CoverNo}
-use Rattle.cover_engine.specs.Reads.{OnlyNames, names, named_in, named_after, list_at, needed_along}
-use Rattle.cover_engine.specs.Unwindings.{Unwound, is_bit, is_true_term, is_false_term, some_false, is_open_leaf, is_closed, path_of}
-use Rattle.cover_engine.specs.Units.{Meets, Implies, EdgeImplies, Links, NameNeeded, edges_to, Can, CanAll, CanExpand, CanRefine, CanCover, CanPart, after, after_all, after_expand, after_refine, after_cover, after_part, start, Legal, refined_along, strengthened_along, strengthens, begins_true, pairs_but_onto}
+use Rattle.cover_engine.specs.Reads.{names, named_in, named_after, list_at, needed_along}
+use Rattle.cover_engine.specs.Unwindings.{Unwound, is_bit, is_true_term, is_false_term, some_false, is_open_leaf, path_of}
+use Rattle.cover_engine.specs.Units.{Meets, EdgeImplies, Links, NameNeeded, edges_to, Can, CanAll, after, after_all, start, Legal, refined_along, strengthened_along, strengthens, begins_true}
 
 -- Terms of the first table keep their meaning.
 
@@ -204,9 +203,9 @@ module _ (g : Flow) (old new : Table) (ext : Extends old new) where
   known_one vs x f false lt k j = k j
   known_one vs x f true lt k j = elim (cases_eq j x) [
     | inl e ↦ elim (cases_lt x (length vs)) [
-        | inl a ↦ subst (λ (i : ℕ). Known (vertex_at (strengthened vs (record { 0 = x }) f) i).label) (sym e) (subst (λ (y : Vertex). Known y.label) (sym (changed_same vs x (with_conjunct f) a)) (All-push (λ t. t.0 < length old.terms) (vertex_at vs x).label f (k x) lt))
-        | inr b ↦ subst (λ (w : List Vertex). Known (vertex_at w j).label) (sym (set_past vs x (with_conjunct f (vertex_at vs x)) b)) (k j)
-      ]
+      | inl a ↦ subst (λ (i : ℕ). Known (vertex_at (strengthened vs (record { 0 = x }) f) i).label) (sym e) (subst (λ (y : Vertex). Known y.label) (sym (changed_same vs x (with_conjunct f) a)) (All-push (λ t. t.0 < length old.terms) (vertex_at vs x).label f (k x) lt))
+      | inr b ↦ subst (λ (w : List Vertex). Known (vertex_at w j).label) (sym (set_past vs x (with_conjunct f (vertex_at vs x)) b)) (k j)
+    ]
     | inr ne ↦ subst (λ (y : Vertex). Known y.label) (sym (changed_other vs x j (with_conjunct f) ne)) (k j)
   ]
 
@@ -234,17 +233,17 @@ module _ (g : Flow) (old new : Table) (ext : Extends old new) where
   known_changed : (vs : List Vertex) (v : ℕ) (cs : List VertexId) → Labelled vs → Labelled (changed vs v (with_children cs))
   known_changed vs v cs k j = elim (cases_eq j v) [
     | inl e ↦ elim (cases_lt v (length vs)) [
-        | inl a ↦ subst (λ (i : ℕ). Known (vertex_at (changed vs v (with_children cs)) i).label) (sym e) (subst (λ (y : Vertex). Known y.label) (sym (changed_same vs v (with_children cs) a)) (k v))
-        | inr b ↦ subst (λ (w : List Vertex). Known (vertex_at w j).label) (sym (set_past vs v (with_children cs (vertex_at vs v)) b)) (k j)
-      ]
+      | inl a ↦ subst (λ (i : ℕ). Known (vertex_at (changed vs v (with_children cs)) i).label) (sym e) (subst (λ (y : Vertex). Known y.label) (sym (changed_same vs v (with_children cs) a)) (k v))
+      | inr b ↦ subst (λ (w : List Vertex). Known (vertex_at w j).label) (sym (set_past vs v (with_children cs (vertex_at vs v)) b)) (k j)
+    ]
     | inr ne ↦ subst (λ (y : Vertex). Known y.label) (sym (changed_other vs v j (with_children cs) ne)) (k j)
   ]
 
   known_after : (u : Unwound) (x : UnitDone) → Can g (before u) x → Labelled u.vertices → Labelled (after g (before u) x).vertices
   known_after u (Expand v) c k =
       known_append (changed u.vertices v.0 (with_children (numbers_from (length u.vertices) (length (outs g (vertex_at u.vertices v.0).node))))) (leaves_of g.edges v (outs g (vertex_at u.vertices v.0).node))
-        (known_changed u.vertices v.0 (numbers_from (length u.vertices) (length (outs g (vertex_at u.vertices v.0).node))) k)
-        (known_leaves g.edges v (outs g (vertex_at u.vertices v.0).node))
+      (known_changed u.vertices v.0 (numbers_from (length u.vertices) (length (outs g (vertex_at u.vertices v.0).node))) k)
+      (known_leaves g.edges v (outs g (vertex_at u.vertices v.0).node))
   known_after u (Refine v fs) c k = known_refined u.vertices (path_of u.vertices v) (reverse fs) (known_reverse fs (known_of fs c.terms)) k
   known_after u (CoverYes v w) c k = k
   known_after u (CoverNo v w store) c k = k
@@ -257,9 +256,10 @@ module _ (g : Flow) (old new : Table) (ext : Extends old new) where
       let same : next ≡ before next = after_before u x in
       let rest : CanAll g (before next) xs = subst (λ (w : Unwound). CanAll g w xs) same c.1 in
       let (a, b) = all_later next xs (known_after u x c.0 k) rest in
-      let there : after g (later u) x ≡ later next = after_later u x c.0 in
-      ((can_later u x k c.0, subst (λ (w : Unwound). CanAll g w xs) (sym there) a),
-       ap (λ (w : Unwound). after_all g w xs) there ∙ b ∙ ap (λ (w : Unwound). later (after_all g w xs)) (sym same))
+      let there : after g (later u) x ≡ later next = after_later u x c.0 in (
+        (can_later u x k c.0, subst (λ (w : Unwound). CanAll g w xs) (sym there) a),
+        ap (λ (w : Unwound). after_all g w xs) there ∙ b ∙ ap (λ (w : Unwound). later (after_all g w xs)) (sym same),
+      )
 
   known_start : Labelled (root_at g.entry ∷ [])
   known_start zero = known_nothing

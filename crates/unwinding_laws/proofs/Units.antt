@@ -1,29 +1,23 @@
 -- Each legal unit keeps an unwinding well labelled.
-use Rattle.std.proofs.Common.{◌≡◌, ◌≢◌, ℕ, ℤ, ◌+◌, ◌<◌, ◌≤◌, Bool, true, false, cond, not, ◌&&◌, ◌||◌, List, [], ◌∷◌, ◌++◌, length, Option, Some, None, ◌⊎◌, inl, inr, refl, sym, ap, ◌∙◌, subst, arith, zero, suc, nat_eq, if◌then◌else◌, slice_get, slice_index_or, reverse, length-append}
+use Rattle.std.proofs.Common.{◌≡◌, ℕ, ◌<◌, Bool, true, false, not, ◌&&◌, ◌||◌, List, [], ◌∷◌, ◌++◌, length, Option, Some, None, ◌⊎◌, inl, inr, refl, sym, ap, ◌∙◌, subst, arith, zero, suc, nat_eq, if◌then◌else◌, slice_index_or}
 use Rattle.std.specs.List.{All}
-use Rattle.std.proofs.lemmas.Bool.{eqb-true, eq-eqb, cases_Bool, ne_eqb, and_parts, cases_lt, not-true, both_ways, or_cases, or_left, or_right}
+use Rattle.std.proofs.lemmas.Bool.{eqb-true, eq-eqb, cases_Bool, and_parts, or_cases, or_left, or_right}
 use Rattle.std.proofs.lemmas.List.Elements.{All-push}
 use Rattle.bv_term.specs.declared.term.TermId.{TermId}
-use Rattle.bv_term.specs.WellFormed.{Table, IsTable}
+use Rattle.bv_term.specs.WellFormed.{Table}
 use Rattle.bv_term.specs.Values.{Holds}
-use Rattle.c_graph.specs.declared.graph.Node.TheVariants.{Plain}
 use Rattle.c_graph.specs.declared.graph.NodeId.{NodeId}
 use Rattle.c_graph.specs.declared.graph.EdgeId.{EdgeId}
-use Rattle.c_graph.specs.declared.graph.Edge.{Edge}
-use Rattle.c_graph.specs.Shape.{Flow, IsFlow, outs, widths_of}
-use Rattle.c_graph.specs.Steps.{IsWhole, Leads}
+use Rattle.c_graph.specs.Shape.{Flow}
 use Rattle.reach_tree.specs.declared.vertex.VertexId.{VertexId}
 use Rattle.reach_tree.specs.declared.vertex.Vertex.{Vertex}
-use Rattle.reach_tree.specs.Trees.{vertex_at, changed, with_conjunct, with_children, expanded, leaves_of, numbers_from, root_at, fresh, target_of}
-use Rattle.cover_engine.specs.declared.unit.UnitDone.{UnitDone}
-use Rattle.cover_engine.specs.declared.unit.UnitDone.TheVariants.{Expand, Refine, CoverYes, CoverNo}
-use Rattle.cover_engine.specs.Unwindings.{Unwound, Pair, any_of, has, same, path_up, path_of, is_above, is_left, is_covered, is_true_term, is_none, is_open_leaf, may_pair}
-use Rattle.cover_engine.specs.Units.{Meets, Implies, EdgeImplies, Links, Can, CanAll, CanExpand, CanRefine, CanCover, CanPart, after, after_all, after_expand, after_refine, after_cover, after_part, start, Legal, strengthens, refined_along, strengthened_along, pairs_but_onto, pairs_but_under, begins_true, numbers_of}
-use Rattle.cover_engine.specs.WellLabelled.{ChildFollows, LedBy, IsWholeFamily, PairHolds, WellLabelled, LegalIsWellLabelled}
-use Rattle.unwinding_laws.proofs.Vertices.{changed_same, changed_other, changed_length, vertex_front, vertex_back, meets_none, meets_more, meets_front, meets_last, meets_has, true_holds}
-use Rattle.unwinding_laws.proofs.Paths.{Path, Family, path_is, path_runs, path_moves, path_falls, Falls, falls_wider, any_of_fewer}
-use Rattle.unwinding_laws.proofs.Formulas.{formula_of, Link, Up, up_of_links, formula_above, EndsTrue, ends_true, root_formula, up_length}
-use Rattle.unwinding_laws.proofs.Refining.{adds, shown, refined_length, at_refined, listed_where_added}
+use Rattle.reach_tree.specs.Trees.{vertex_at, with_conjunct}
+use Rattle.cover_engine.specs.Unwindings.{Unwound, Pair, any_of, has, same, path_of, is_above, is_left, is_covered, is_true_term, may_pair}
+use Rattle.cover_engine.specs.Units.{Meets, CanCover, after_cover, after_part, pairs_but_onto, pairs_but_under, numbers_of}
+use Rattle.cover_engine.specs.WellLabelled.{LedBy, PairHolds, WellLabelled}
+use Rattle.unwinding_laws.proofs.Vertices.{meets_more, meets_front, meets_last, meets_has, true_holds}
+use Rattle.unwinding_laws.proofs.Paths.{Family, path_is, path_runs, path_moves}
+use Rattle.unwinding_laws.proofs.Refining.{adds, shown}
 
 -- what is kept from unit to unit
 pub record Good (g : Flow) (u : Unwound) : Type 0 where

@@ -1,20 +1,17 @@
 -- Vertices of a tree after a change, and stores that meet labels.
-use Rattle.std.proofs.Common.{◌≡◌, ◌≢◌, ℕ, ◌+◌, ◌<◌, ◌≤◌, Bool, true, false, List, [], ◌∷◌, ◌++◌, length, slice_index_or, slice_get, slice_index, slice_set, Option, Some, None, inl, inr, refl, sym, ap, ◌∙◌, subst, arith, zero, suc, nat_eq, length-append, ◌||◌, ◌&&◌}
-use Rattle.std.specs.List.{All}
+use Rattle.std.proofs.Common.{◌≡◌, ◌≢◌, ℕ, ◌+◌, ◌<◌, Bool, true, false, List, [], ◌∷◌, ◌++◌, length, slice_get, slice_index, Some, inl, inr, sym, ◌∙◌, subst, arith, zero, suc, nat_eq, length-append, ◌&&◌}
 use Rattle.std.proofs.lemmas.List.{length-set, get_or-set_same, get_or-set_other, get_or_append_left, get_or-append-add}
-use Rattle.std.proofs.lemmas.List.Elements.{All-push, All-append}
+use Rattle.std.proofs.lemmas.List.Elements.{All-push}
 use Rattle.std.proofs.lemmas.Bool.{eqb-true, or_cases}
 use Rattle.bv_term.specs.declared.term.TermId.{TermId}
 use Rattle.bv_term.specs.declared.term.Term.{Term}
-use Rattle.bv_term.specs.declared.term.Term.TheVariants.{Constant, Cell, Element, Add, Subtract, Multiply, Divide, Remainder, And, Or, Xor, Not, ShiftLeft, ShiftRight, ShiftSigned, Equal, Less, LessSigned, Select, ZeroExtend, SignExtend, Truncate, Bit}
+use Rattle.bv_term.specs.declared.term.Term.TheVariants.{Constant}
 use Rattle.bv_term.specs.WellFormed.{Table, width_in}
 use Rattle.bv_term.specs.Values.{Holds, value_in, values_after}
 use Rattle.bv_term.proofs.Staying.{values-keep}
-use Rattle.c_graph.specs.declared.graph.NodeId.{NodeId}
-use Rattle.reach_tree.specs.declared.vertex.VertexId.{VertexId}
 use Rattle.reach_tree.specs.declared.vertex.Vertex.{Vertex}
 use Rattle.reach_tree.specs.Trees.{vertex_at, changed, root_at}
-use Rattle.cover_engine.specs.Unwindings.{has, any_of, is_bit, is_true_term}
+use Rattle.cover_engine.specs.Unwindings.{has, is_bit, is_true_term}
 use Rattle.cover_engine.specs.Units.{Meets, numbers_of}
 
 pub nobody : Vertex

@@ -1,5 +1,4 @@
 -- Laws of unwindings, each named by a public contract.
-use Rattle.std.specs.Prelude.{◌≡◌}
 use Rattle.bv_term.specs.WellFormed.{Table}
 use Rattle.bv_term.specs.Laws.{Extends}
 use Rattle.c_graph.specs.Shape.{Flow}

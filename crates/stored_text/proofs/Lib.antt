@@ -1,0 +1,5 @@
+pub mod Lines
+pub mod Steps
+pub mod Walks
+pub mod Exact
+pub mod Whole

@@ -1,0 +1,5 @@
+pub mod Line
+pub mod Small
+pub mod RunText
+pub mod Reading
+pub mod Laws
