@@ -11,7 +11,6 @@ use Rattle.c_tree.specs.Shape.{has, may_declare, is_skipped_name}
 use Rattle.c_tree.specs.Tree.{no_raw, Ats, no_attributes, named, Params, no_params, Parameters, pUnknown, Form, fPlain, fArray, fFunction, iNothing, no_statements}
 use Rattle.parse_machine.specs.Contexts.{Tall, Spoken, Header, outBody, Declaring, Declared, baseLength, baseInitial, inBase, aroundParameter, onDeclared, waitVoid, waitList, waitAttribute, Mode, Next, Behind, Parameters', Skipped, Begin, Wait, Operand, Maybe}
 use Rattle.parse_machine.specs.Making.{tall, unspoken, param_more, declared_plain, with_form, with_initial}
-
 use Rattle.parse_machine.specs.Expressions.{when, ended}
 use Rattle.parse_machine.specs.Specifiers.{step_specs, parameters_more, parameters_end}
 use Rattle.parse_machine.specs.Heights.{site_of_place, is_first, is_function, is_placed_in_file}

@@ -13,7 +13,6 @@ use Rattle.c_tree.specs.Tree.{no_attributes, Ex, eName, eNumber, eLetter, eParen
 use Rattle.parse_machine.specs.Tokens.{Prefix, preName, preNumber, preLetter, preOpen, preSizeof, preOperator, preOther, prefix_of, Suffix, sufBinary, sufAssign, sufQuestion, sufComma, sufColon, sufSemicolon, sufClose, sufOpenRound, sufOpenSquare, sufCrement}
 use Rattle.parse_machine.specs.Contexts.{Tall, Part, Bind, bBinary, bPrefix, bAssign, bElse, bComma, Opened, oParen, oIndex, oArgument, oThen, wFor, wCase, Outer, outWrap, Place, placeFile, placeBlock, placeFor, Declaring, Declared, Base, baseStatement, baseTest, baseDo, baseReturn, baseCase, baseStart, baseMore, baseStep, baseLength, baseInitial, basePart, Inner, inBase, inBind, inOpen, inConstant, Listing, forkCast, forkSizeof, waitDone, Mode, Ended, Specifiers, Constant, Next, Behind, Listed, Begin, Wait, Either, Operand, Maybe, Sizeof, Value, Label, Whole}
 use Rattle.parse_machine.specs.Making.{above, tall, part, said, one_more, bound, bind_level, tested, valued_more, listing, enumeration, with_form, with_initial, whole_declaration, declaration_height}
-
 use Rattle.parse_machine.specs.Heights.{least}
 
 abbrev pub when : {A : Type 0} → Bool → A → Option A

@@ -13,7 +13,6 @@ use Rattle.c_tree.specs.Tree.{eSizeof, Word, wType, wStorage, wConst, wExtension
 use Rattle.parse_machine.specs.Tokens.{SpecKind, spType, spStorage, spConst, spExtension, spAttribute, spEnum, spTypedef, spOther, spec_of}
 use Rattle.parse_machine.specs.Contexts.{Tall, Spoken, bCast, Place, Declared, EnumHead, headBare, headTagged, Inner, inBind, inConstant, Around, aroundCast, aroundSizeof, aroundParameter, aroundPlace, Listing, onWords, waitAttribute, Mode, Specifiers, Enumeration, Tagged, Constant, Named, Behind, Parameter, Wait, Operand, Value}
 use Rattle.parse_machine.specs.Making.{above, tall, part, spoken, unspoken, said, tall_words, plain_more, listing, param_more, declaring, declared_plain, with_form, no_more}
-
 use Rattle.parse_machine.specs.Expressions.{when, enumerated, ended}
 use Rattle.parse_machine.specs.Heights.{site_of_place}
 

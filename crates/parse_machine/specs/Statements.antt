@@ -11,7 +11,6 @@ use Rattle.c_tree.specs.Tree.{no_raw, Ats, no_parts, pVoid, fFunction, St, sBloc
 use Rattle.parse_machine.specs.Tokens.{prefix_of, SpecKind, spExtension, spOther, spec_of, Start, startEmpty, startOpen, startClose, startWord, startOther, start_of, is_else, Awaited, awaitOpen, awaitClose, awaitSemicolon, awaitColon, awaitWhile, is_awaited}
 use Rattle.parse_machine.specs.Contexts.{bPrefix, oParen, testIf, testWhile, testSwitch, Wrap, wThen, wElse, wFor, wDefault, wLabel, Header, Outer, outBody, outBlock, outDo, outWrap, placeBlock, placeFor, baseStatement, baseTest, baseDo, baseReturn, baseCase, baseStart, basePart, Inner, inBase, inBind, inOpen, Around, aroundCast, aroundSizeof, aroundPlace, onLabel, Fork, forkCast, forkSizeof, forkBlock, forkFor, Waiting, waitTest, waitWhile, waitDo, waitDone, waitFor, waitDefault, waitGoto, waitBreak, waitContinue, waitVoid, waitList, waitAttribute, Mode, Ended, Attribute, Behind, Begin, Wait, Either, Goto, Operand, Maybe, Whole}
 use Rattle.parse_machine.specs.Making.{tall, unspoken, extension_words, wrapped, with_form}
-
 use Rattle.parse_machine.specs.Expressions.{when, step_operand, step_maybe}
 use Rattle.parse_machine.specs.Specifiers.{step_specs}
 use Rattle.parse_machine.specs.Declarations.{Turn, turn, kept}

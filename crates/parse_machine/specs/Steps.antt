@@ -9,7 +9,6 @@ use Rattle.c_tree.specs.Tree.{Raw, raw_and, At, attribute, attributes_and, wAttr
 use Rattle.parse_machine.specs.Tokens.{prefix_of, suffix_of, Skip, skipOn, skipClose, skipEnd, skip_of}
 use Rattle.parse_machine.specs.Contexts.{Header, placeFile, aroundPlace, Attributed, onWords, onDeclared, onLabel, Mode, File, Ended, Specifiers, Enumeration, Tagged, Constant, Named, Attribute, Next, Behind, Listed, Parameters', Parameter, Skipped, Begin, Wait, Either, Goto, Operand, Maybe, Sizeof, Value, Label, Whole, Finished}
 use Rattle.parse_machine.specs.Making.{unspoken, said, with_attributes}
-
 use Rattle.parse_machine.specs.Expressions.{step_operand, step_sizeof, step_value, step_maybe}
 use Rattle.parse_machine.specs.Specifiers.{step_specs, step_enumeration, step_tagged, step_constant, step_named}
 use Rattle.parse_machine.specs.Declarations.{Turn, kept, step_behind, step_next, step_listed, step_parameters, step_parameter}
