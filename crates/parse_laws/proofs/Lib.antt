@@ -1,0 +1,13 @@
+pub mod Before
+pub mod Fits
+pub mod Parts
+pub mod Good
+pub mod SoundEx
+pub mod SoundEnds
+pub mod SoundSpecs
+pub mod SoundDecls
+pub mod Scopes
+pub mod SoundSt
+pub mod SoundSteps
+pub mod Externs
+pub mod SoundRun
