@@ -11,3 +11,7 @@ pub mod SoundSt
 pub mod SoundSteps
 pub mod Externs
 pub mod SoundRun
+pub mod Walk
+pub mod First
+pub mod ReadEx
+pub mod WholeEx
