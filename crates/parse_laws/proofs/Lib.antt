@@ -15,3 +15,4 @@ pub mod Walk
 pub mod First
 pub mod ReadEx
 pub mod WholeEx
+pub mod ReadDecl

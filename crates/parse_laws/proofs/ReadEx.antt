@@ -43,7 +43,7 @@ use Rattle.parse_machine.specs.Declarations.{Turn, turn, kept}
 use Rattle.parse_machine.specs.Steps as steps
 use Rattle.parse_machine.specs.Statements as stt
 use Rattle.parse_machine.specs.Specifiers as sp
-use Rattle.parse_laws.proofs.Walk.{limit, move, walk, stand, if_true, if_false, low_stands, go, when_true, and_true, above_is, above_mono, high_mono, around_mono, lower, whole, part_whole, height_some, opened, opened_parts, valued, pull, pull_near, pull_of, refold, fold_opened, Stays, fold_stays, stays_of, opened_postfix, operand_ge, pull_one}
+use Rattle.parse_laws.proofs.Walk.{limit, move, walk, stand, if_true, if_false, low_stands, go, when_true, and_true, above_is, above_mono, high_mono, around_mono, lower, whole, part_whole, height_some, opened, opened_parts, valued, pull, pull_near, pull_of, refold, fold_opened, Stays, fold_stays, stays_of, opened_postfix, operand_ge, pull_one, parameters_mono, declared_mono, declarator_mono}
 use Rattle.parse_laws.proofs.First.{Begins', Alike, first, first_maybe, binds_more, fork_low_first, first_fork}
 use Rattle.std.specs.Option.{option_map, option_and_then}
 use Rattle.c_tree.specs.Height.{height_word, height_enumerators}

@@ -103,13 +103,13 @@ if_mono : (c : Bool) (a x b y : ℕ) → a ≤ x → b ≤ y → (if c then a el
 if_mono true a x b y p q = p
 if_mono false a x b y p q = q
 
-declarator_mono : (d : Declaring) (h g : ℕ) → h ≤ g → ht.declarator_high d h ≤ ht.declarator_high d g
+pub declarator_mono : (d : Declaring) (h g : ℕ) → h ≤ g → ht.declarator_high d h ≤ ht.declarator_high d g
 declarator_mono d h g p = omega (arith, above_mono h g p)
 
-parameters_mono : (d : Declaring) (h g : ℕ) → h ≤ g → ht.parameters_high d h ≤ ht.parameters_high d g
+pub parameters_mono : (d : Declaring) (h g : ℕ) → h ≤ g → ht.parameters_high d h ≤ ht.parameters_high d g
 parameters_mono d h g p = if_mono (ht.is_first d) (suc h) (suc g) _ _ (omega arith) (declarator_mono d h g p)
 
-declared_mono : (d : Declared) (h g : ℕ) → h ≤ g → ht.declared_high d h ≤ ht.declared_high d g
+pub declared_mono : (d : Declared) (h g : ℕ) → h ≤ g → ht.declared_high d h ≤ ht.declared_high d g
 declared_mono d h g p =
     if_mono (ht.is_function d.form.value) _ _ _ _ (parameters_mono d.around (max d.form.height h) (max d.form.height g) (omega arith)) (declarator_mono d.around (max (max d.form.height (ht.form_needs d.form.value)) h) (max (max d.form.height (ht.form_needs d.form.value)) g) (omega arith))
 

@@ -43,42 +43,42 @@ use Rattle.parse_machine.specs.Declarations.{Turn, turn, kept}
 use Rattle.parse_machine.specs.Steps as steps
 use Rattle.parse_machine.specs.Statements as stt
 use Rattle.parse_machine.specs.Specifiers as sp
-use Rattle.parse_laws.proofs.Walk.{limit, move, walk, stand, if_true, if_false, low_stands, go, when_true, and_true, above_is, above_mono, high_mono, around_mono, lower, whole, part_whole, height_some, opened, opened_parts, valued, pull, pull_near, pull_of, refold, fold_opened, Stays, fold_stays, stays_of, opened_postfix, operand_ge, pull_one}
+use Rattle.parse_laws.proofs.Walk.{limit, move, walk, stand, if_true, if_false, low_stands, go, when_true, and_true, above_is, above_mono, high_mono, around_mono, lower, whole, part_whole, height_some, opened, opened_parts, valued, pull, pull_near, pull_of, refold, fold_opened, Stays, fold_stays, stays_of, opened_postfix, operand_ge, pull_one, parameters_mono, declared_mono, declarator_mono}
 use Rattle.parse_laws.proofs.First.{Begins', Alike, first, first_maybe, binds_more, fork_low_first, first_fork}
 use Rattle.c_tree.specs.Height.{height_word, height_enumerators}
 use Rattle.parse_machine.specs.Tokens as tok
 use Rattle.parse_laws.proofs.ReadEx.{NoOpen, worded, some_same, Before', known_before, tagged_reads, some_nat, attribute_reads, list_at, behind_constant, first_sizeof, paren_opens, prefix_opens, folded, level_ge, operator, argument, sequence_is, stays_low}
 use Rattle.std.specs.Option.{option_map, option_and_then}
 
-arg_high : (k : Inner) (a c d : ℕ) → high k (suc (max a (max c d))) ≤ 200 → high k (above (max (max a c) d)) ≤ 200
+pub arg_high : (k : Inner) (a c d : ℕ) → high k (suc (max a (max c d))) ≤ 200 → high k (above (max (max a c) d)) ≤ 200
 arg_high k a c d h = lower k (above (max (max a c) d)) (suc (max a (max c d))) h (omega (arith, above_is (max (max a c) d) (omega (arith, high_ge k (suc (max a (max c d))), h))))
 
-pair_high : (k : Inner) (a c : ℕ) → high k (suc (max a c)) ≤ 200 → high k (above (max a c)) ≤ 200
+pub pair_high : (k : Inner) (a c : ℕ) → high k (suc (max a c)) ≤ 200 → high k (above (max a c)) ≤ 200
 pair_high k a c h = subst (λ z. high k z ≤ 200) (sym (above_is (max a c) (omega (arith, high_ge k (suc (max a c)), h)))) h
 
-one_high : (k : Inner) (a : ℕ) → high k (suc a) ≤ 200 → high k (above a) ≤ 200
+pub one_high : (k : Inner) (a : ℕ) → high k (suc a) ≤ 200 → high k (above a) ≤ 200
 one_high k a h = subst (λ z. high k z ≤ 200) (sym (above_is a (omega (arith, high_ge k (suc a), h)))) h
 
-under : (k : Inner) (a : ℕ) → high k (suc a) ≤ 200 → a ≤ 200
+pub under : (k : Inner) (a : ℕ) → high k (suc a) ≤ 200 → a ≤ 200
 under k a h = omega (arith, high_ge k (suc a), h)
 
-value_is : (ns : List (List ℕ)) (k : Inner) (l h : ℕ) (e : Ex) → l ≡ level_of e → h ≡ height e → height e ≤ 200 → stand (Value (part l h e) k) ns ≡ stand (Value (whole e) k) ns
+pub value_is : (ns : List (List ℕ)) (k : Inner) (l h : ℕ) (e : Ex) → l ≡ level_of e → h ≡ height e → height e ≤ 200 → stand (Value (part l h e) k) ns ≡ stand (Value (whole e) k) ns
 value_is ns k l h e p q r = ap (λ z. stand (Value z k) ns) (part_whole l h e p q r)
 
-several_not : (c : Bool) → not c ≡ true → c ≡ false
+pub several_not : (c : Bool) → not c ≡ true → c ≡ false
 several_not true h = cc
 several_not false h = refl
 
-some_not : (x : Bool) (c : ℕ) → sh.IsComma x (Some c) → x ≡ false
+pub some_not : (x : Bool) (c : ℕ) → sh.IsComma x (Some c) → x ≡ false
 some_not true c h = absurd h
 some_not false c h = refl
 
-abbrev exts : Words → Option (List ℕ)
+abbrev pub exts : Words → Option (List ℕ)
 exts no_words = Some []
 exts (words_and ws (wExtension at)) = option_map (λ l. l ++ at ∷ []) (exts ws)
 exts (words_and ws _) = None
 
-abbrev fork_mode : Option (List ℕ) → Words → Known → Fork → Mode
+abbrev pub fork_mode : Option (List ℕ) → Words → Known → Fork → Mode
 fork_mode (Some ats) ws k f = Either f ats
 fork_mode None ws k f = Specifiers (worded ws k) (stt.fork_around f)
 
@@ -124,10 +124,10 @@ fork_typed_at ws k f (Some ats) q e t =
     cc
 
 -- behind a type an expression can't stand
-fork_typed : (ws : Words) (k : Known) (f : Fork) → known (sp.site_of (stt.fork_around f)) ws ≡ Some k → is_typed k.typing ≡ true → fork_mode (exts ws) ws k f ≡ Specifiers (worded ws k) (stt.fork_around f)
+pub fork_typed : (ws : Words) (k : Known) (f : Fork) → known (sp.site_of (stt.fork_around f)) ws ≡ Some k → is_typed k.typing ≡ true → fork_mode (exts ws) ws k f ≡ Specifiers (worded ws k) (stt.fork_around f)
 fork_typed ws k f e t = fork_typed_at ws k f (exts ws) refl e t
 
-word_no_open : (x : Word) (rest : List Sign) → NoOpen (spell_word x rest)
+pub word_no_open : (x : Word) (rest : List Sign) → NoOpen (spell_word x rest)
 word_no_open (wType x at) rest = refl
 word_no_open (wStorage x at) rest = refl
 word_no_open (wConst x at) rest = refl
@@ -403,7 +403,7 @@ mutual
            ∙ ap (kept ns) (when_true (leb 1 (level_of e)) (Operand q) (le-leb _ _ s.1))) (lower q 1 g j o)
 
   -- words where an expression might stand too
-  fork_words : (ws : Words) (f : Fork) (ns : List (List ℕ)) (k : Known) → known (sp.site_of (stt.fork_around f)) ws ≡ Some k → sh.ShapedWords ns ws → around_high (stt.fork_around f) (height_words ws) ≤ 200 → ((ats : List ℕ) → ht.fork_high f ats ≤ 200) → (rest : List Sign) → NoOpen rest → walk (spell_words ws rest) (stand (Either f []) ns) ≡ walk rest (stand (fork_mode (exts ws) ws k f) ns)
+  pub fork_words : (ws : Words) (f : Fork) (ns : List (List ℕ)) (k : Known) → known (sp.site_of (stt.fork_around f)) ws ≡ Some k → sh.ShapedWords ns ws → around_high (stt.fork_around f) (height_words ws) ≤ 200 → ((ats : List ℕ) → ht.fork_high f ats ≤ 200) → (rest : List Sign) → NoOpen rest → walk (spell_words ws rest) (stand (Either f []) ns) ≡ walk rest (stand (fork_mode (exts ws) ws k f) ns)
   fork_words no_words f ns k e s h l rest n = refl
   fork_words (words_and ws x) f ns k e s h l rest n =
       let z = known_before (sp.site_of (stt.fork_around f)) x (known (sp.site_of (stt.fork_around f)) ws) k e in
