@@ -16,3 +16,4 @@ pub mod First
 pub mod ReadEx
 pub mod WholeEx
 pub mod ReadDecl
+pub mod ReadDecs
