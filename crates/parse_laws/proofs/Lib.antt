@@ -17,3 +17,4 @@ pub mod ReadEx
 pub mod WholeEx
 pub mod ReadDecl
 pub mod ReadDecs
+pub mod ReadDeclaration

@@ -73,11 +73,11 @@ declared_low d h g i j l =
 
 -- Attributes.
 
-and_left : (c d : Bool) → (c && d) ≡ true → c ≡ true
+pub and_left : (c d : Bool) → (c && d) ≡ true → c ≡ true
 and_left true d h = refl
 and_left false d h = cc
 
-and_right : (c d : Bool) → (c && d) ≡ true → d ≡ true
+pub and_right : (c d : Bool) → (c && d) ≡ true → d ≡ true
 and_right true true h = refl
 and_right true false h = cc
 and_right false true h = refl
@@ -87,7 +87,7 @@ ats_le : (ats : Ats) → hg.height_attributes ats ≤ 1
 ats_le no_attributes = omega arith
 ats_le (attributes_and ats x) = omega arith
 
-may_attribute : (s : Site) (k : Known) (f : Form) (i : Initial) → sh.may_declare s k f i ≡ true → (ht.is_function f || not (is_void k.typing)) ≡ true
+pub may_attribute : (s : Site) (k : Known) (f : Form) (i : Initial) → sh.may_declare s k f i ≡ true → (ht.is_function f || not (is_void k.typing)) ≡ true
 may_attribute s k fPlain iNothing h = h
 may_attribute s k fPlain (iValue at e) h = and_left (not (is_void k.typing)) (not (is_typedef k.storage)) h
 may_attribute s k fPlain (iList at a es c x) h = cc
@@ -108,7 +108,7 @@ attributes_read (attributes_and ats x) ns p s ds c n at f t m g i j l rest =
 
 -- What stands behind a name.
 
-array_object : (s : Site) (k : Known) (a : ℕ) (e : Option Ex) (c : ℕ) (i : Initial) → sh.may_declare s k (fArray a e c) i ≡ true → decl.is_object k ≡ true
+pub array_object : (s : Site) (k : Known) (a : ℕ) (e : Option Ex) (c : ℕ) (i : Initial) → sh.may_declare s k (fArray a e c) i ≡ true → decl.is_object k ≡ true
 array_object s k a None c iNothing h = cc
 array_object s k a None c (iValue at e) h = cc
 array_object s k a None c (iList at x es d y) h = h
@@ -193,7 +193,7 @@ list_close es c0 e (Some at) y d x a ns t m g i j l o rest =
         (ap (λ z. stand (Listed (mk.with_initial d (iList x a (parts_and es c0 e) (Some at) y) z)) ns) (above_is (height_parts (parts_and es c0 e)) (omega (arith, i, l)))) o
 
 -- the height of a list of declared names
-with_height : (d : Declared) (i : Initial) (h : ℕ) → max (max d.form.height (hg.height_attributes d.attributes)) h ≤ 200 → mk.with_initial d i h ≡ mk.declaring d.around.place d.around.spoken (tall (declarators_and d.around.before.value d.comma (named d.name d.at) d.form.value d.attributes i) (max d.around.before.height (suc (max (max d.form.height (hg.height_attributes d.attributes)) h))))
+pub with_height : (d : Declared) (i : Initial) (h : ℕ) → max (max d.form.height (hg.height_attributes d.attributes)) h ≤ 200 → mk.with_initial d i h ≡ mk.declaring d.around.place d.around.spoken (tall (declarators_and d.around.before.value d.comma (named d.name d.at) d.form.value d.attributes i) (max d.around.before.height (suc (max (max d.form.height (hg.height_attributes d.attributes)) h))))
 with_height d i h p = ap (λ z. mk.declaring d.around.place d.around.spoken (tall (declarators_and d.around.before.value d.comma (named d.name d.at) d.form.value d.attributes i) (max d.around.before.height z))) (above_is (max (max d.form.height (hg.height_attributes d.attributes)) h) p)
 
 pub initial_read : (i : Initial) (ns : List (List ℕ)) (p : Place) (s : Spoken) (ds : Decs) (c : Option ℕ) (n : List ℕ) (at : ℕ) (f : Form) (ats : Ats) → sh.ShapedInitial ns i → sh.may_declare (ht.site_of_place p) s.told f i ≡ true → (g : ℕ) → suc (max (max (hg.height_form f) (hg.height_attributes ats)) (hg.height_initial i)) ≤ g → suc (ht.form_needs f) ≤ g → hg.height_declarators ds ≤ g → suc (ht.place_depth p) + g ≤ 200 → (rest : List Sign) → walk (spell_initial i rest) (stand (Behind (entire p s ds c n at f ats)) ns) ≡ walk rest (stand (behind_initial (entire p s ds c n at f ats) i) ns)
