@@ -18,3 +18,5 @@ pub mod WholeEx
 pub mod ReadDecl
 pub mod ReadDecs
 pub mod ReadDeclaration
+pub mod ReadSt
+pub mod WholeSt
