@@ -20,3 +20,5 @@ pub mod ReadDecs
 pub mod ReadDeclaration
 pub mod ReadSt
 pub mod WholeSt
+pub mod ReadItem
+pub mod CompleteRun
