@@ -100,7 +100,7 @@ filed_same : (is : Items) (ns : List (List ℕ)) (t : Sign) (m : Mode) (u : Turn
 filed_same is ns t (Ended i h) u e = cc
 filed_same is ns t m u e = refl
 
-goes : (t : Sign) (s : State) (o : Option State) → o ≡ Some s → ma.phase_low s.phase ≤ 200 → ma.course t (ma.limited o) ≡ Going s
+pub goes : (t : Sign) (s : State) (o : Option State) → o ≡ Some s → ma.phase_low s.phase ≤ 200 → ma.course t (ma.limited o) ≡ Going s
 goes t s o e l = ap (λ z. ma.course t (ma.limited z)) e ∙ ap (ma.course t) (if_true (leb (ma.phase_low s.phase) 200) (Goes s) High (le-leb _ _ l))
 
 plain_advance : (is : Items) (ns : List (List ℕ)) (t : Sign) (m : Mode) (u : Turn) → ma.opens t.symbol t.at m ≡ None → steps.next ns t m ≡ Some u → low u.mode ≤ 200 → ma.advance t (Going (ma.state is ns (Plain m))) ≡ Going (ma.state is u.names (Plain u.mode))
@@ -274,7 +274,7 @@ item_start : (ts : List Sign) (is : Items) (ns : List (List ℕ)) (n : Turn) →
 item_start [] is ns n u e h = absurd (subst (λ z. IsEnded z.mode) (sym (some_mode (turn File ns) n h)) e)
 item_start (t ∷ ts) is ns n u e h = start_run t.symbol t.at ts is ns n u e h
 
-run_append : (a c : List Sign) (o : Course) → ma.run (a ++ c) o ≡ ma.run c (ma.run a o)
+pub run_append : (a c : List Sign) (o : Course) → ma.run (a ++ c) o ≡ ma.run c (ma.run a o)
 run_append [] c o = refl
 run_append (t ∷ a) c o = run_append a c (ma.advance t o)
 

@@ -22,3 +22,4 @@ pub mod ReadSt
 pub mod WholeSt
 pub mod ReadItem
 pub mod CompleteRun
+pub mod CompleteFile
