@@ -1,58 +1,30 @@
 -- The whole machine finds each shaped tree that is not too high.
-use Rattle.std.proofs.Common.{◌≡◌, ℕ, zero, suc, ◌≤◌, ◌<◌, ◌+◌, max, List, [], ◌∷◌, ◌++◌, length, take, Option, None, Some, Bool, true, false, ◌&&◌, ◌||◌, not, if◌then◌else◌, leb, refl, subst, sym, ap, ◌∙◌, arith, le-leb, leb-false, leb-true, le_trans, le_refl}
-use Rattle.c_tree.specs.declared.symbol.BinaryOp.{BinaryOp}
-use Rattle.c_tree.specs.declared.symbol.BinaryOp.TheVariants as op
-use Rattle.c_tree.specs.declared.symbol.AssignOp.{AssignOp}
-use Rattle.c_tree.specs.declared.symbol.AssignOp.TheVariants as to
-use Rattle.c_tree.specs.declared.symbol.Crement.{Crement}
-use Rattle.c_tree.specs.declared.symbol.Crement.TheVariants as cr
-use Rattle.c_tree.specs.declared.symbol.Bracket.{Bracket}
-use Rattle.c_tree.specs.declared.symbol.Bracket.TheVariants as br
-use Rattle.c_tree.specs.declared.symbol.TypeWord.TheVariants as type
+use Rattle.std.proofs.Common.{◌≡◌, ℕ, ◌≤◌, List, [], ◌∷◌, Option, None, Some, Bool, true, false, ◌||◌, not, if◌then◌else◌, leb, refl, subst, sym, ap, ◌∙◌, arith}
 use Rattle.c_tree.specs.declared.symbol.StorageWord.TheVariants as storage
-use Rattle.c_tree.specs.declared.symbol.StatementWord.{StatementWord}
-use Rattle.c_tree.specs.declared.symbol.StatementWord.TheVariants as key
-use Rattle.c_tree.specs.declared.symbol.AttributeWord.{AttributeWord}
 use Rattle.c_tree.specs.declared.symbol.Symbol.{Symbol}
 use Rattle.c_tree.specs.declared.symbol.Symbol.TheVariants as sy
 use Rattle.c_tree.specs.declared.symbol.Sign.{Sign}
-use Rattle.c_tree.specs.declared.tree.PrefixOp.{PrefixOp}
-use Rattle.c_tree.specs.declared.tree.PrefixOp.TheVariants as pre
-use Rattle.c_tree.specs.declared.known.Site.{Site}
 use Rattle.c_tree.specs.declared.known.Site.TheVariants as site
-use Rattle.c_tree.specs.declared.known.Known.{Known}
 use Rattle.c_tree.specs.Symbols.{sign}
-use Rattle.c_tree.specs.Spelling.{level, operand_level, level_of, opening, closing, word, comma, prefix_symbol, spell, spell_parts, spell_words, spell_word, spell_enumerators, spell_raw, spell_attribute, spell_attributes, spell_option, spell_name, spell_option_name, spell_params, spell_parameters, spell_form, spell_initial, spell_declarators, spell_declaration, spell_head, spell_for_start, spell_for_head, spell_statement, spell_statements, spell_body, spell_item, spell_items}
+use Rattle.c_tree.specs.Spelling.{spell_raw, spell_item, spell_items}
 use Rattle.c_tree.specs.Shape as sh
-use Rattle.c_tree.specs.Words.{known, with_word, with_type, with_storage, with_named, is_typed, is_typedef, is_void, nothing_known}
-use Rattle.c_tree.specs.Tree.{Raw, no_raw, raw_and, At, attribute, Ats, no_attributes, attributes_and, Ex, eName, eNumber, eLetter, eParen, eCall, eIndex, ePostfix, ePrefix, eSizeof, eCast, eBinary, eCond, eAssign, eComma, Parts, no_parts, parts_and, Words, no_words, words_and, Word, wType, wStorage, wConst, wExtension, wAttribute, wTypedef, wTag, wEnum, wTagEnum, Ens, no_enumerators, plain_and, valued_and, Name, named, Params, no_params, params_and, Parameters, pUnknown, pVoid, pSome, Form, fPlain, fArray, fFunction, Initial, iNothing, iValue, iList, Decs, no_declarators, declarators_and, Declaration, declares, Head, head, ForStart, forDeclares, forExpr, ForHead, for_head, St, sDeclaration, sBlock, sEmpty, sExpr, sIf, sIfElse, sWhile, sSwitch, sDo, sFor, sCase, sDefault, sLabel, sGoto, sBreak, sContinue, sReturn, Sts, no_statements, statements_and, Body, bBlock, bSkipped, Item, tSkipped, tFunction, tDeclaration, tEmpty, Items, no_items, items_and}
-use Rattle.parse_machine.specs.Tokens.{Prefix, prefix_of, Suffix, suffix_of, spec_of, SpecKind, spTypedef, spOther, start_of, is_else, Skip, skipOn, skipClose, skipEnd, skip_of, is_awaited}
-use Rattle.parse_machine.specs.Contexts.{Tall, Part, Spoken, Bind, bBinary, bPrefix, bCast, bAssign, bElse, bComma, Opened, oParen, oIndex, oArgument, oThen, Test, testIf, testWhile, testSwitch, Wrap, wThen, wElse, wWhile, wSwitch, wFor, wCase, wDefault, wLabel, Header, Outer, outBody, outBlock, outDo, outWrap, Place, placeFile, placeBlock, placeFor, Declaring, Declared, EnumHead, headBare, headTagged, Base, baseStatement, baseTest, baseDo, baseReturn, baseCase, baseStart, baseMore, baseStep, baseLength, baseInitial, basePart, Inner, inBase, inBind, inOpen, inConstant, Around, aroundCast, aroundSizeof, aroundParameter, aroundPlace, Listing, Attributed, onWords, onDeclared, onLabel, Fork, forkCast, forkSizeof, forkBlock, forkFor, Waiting, waitTest, waitWhile, waitDo, waitDone, waitFor, waitDefault, waitGoto, waitBreak, waitContinue, waitVoid, waitList, waitAttribute, Mode, File, Ended, Specifiers, Enumeration, Tagged, Constant, Named, Attribute, Next, Behind, Listed, Parameters', Parameter, Skipped, Begin, Wait, Either, Goto, Operand, Maybe, Sizeof, Value, Label, Whole, Finished}
+use Rattle.c_tree.specs.Words.{nothing_known}
+use Rattle.c_tree.specs.Tree.{Raw, no_raw, raw_and, wExtension, declares, Item, tSkipped, tFunction, tDeclaration, tEmpty, Items, no_items, items_and}
+use Rattle.parse_machine.specs.Contexts.{placeFile, aroundPlace, Mode, File, Ended, Specifiers, Finished}
 use Rattle.parse_machine.specs.Making as mk
 use Rattle.parse_machine.specs.Making.{above, tall, part, bound, bind_level}
-use Rattle.parse_machine.specs.Heights as ht
-use Rattle.parse_machine.specs.Heights.{least, high, around_high, low, depth, is_list}
-use Rattle.parse_laws.proofs.Before as b
-use Rattle.parse_laws.proofs.Fits.{wrap_names, scope, place_names, declaring_names, declared_names, base_names, inner_names, around_names, listing_names, attributed_names, fork_names, waiting_names, names_of, FitPart, FitSpoken, FitNamed, FitWrap, FitHeader, FitForm, IsArray, FitOuter, FitPlace, FitDeclaring, FitDeclared, FitFunction, FitBase, FitBind, FitOpened, FitHead, FitInner, FitAround, FitListing, FitWords, FitAttributed, FitFork, FitWaiting, Stands, FitItem, Fit}
-use Rattle.parse_laws.proofs.Parts.{high_ge, around_ge, above_ge, parameters_ge, declared_ge, level_le, operand_le, least_le, part_real, part_fits, part_spells, several, comma_some, GoodHeld, fold_good}
-use Rattle.parse_machine.specs.Expressions as ex
+use Rattle.parse_machine.specs.Heights.{high, low}
 use Rattle.c_tree.specs.Height as hg
 use Rattle.c_tree.specs.Height.{height, height_parts, height_words}
-use Rattle.parse_machine.specs.Declarations as decl
-use Rattle.parse_machine.specs.Declarations.{Turn, turn, kept}
+use Rattle.parse_machine.specs.Declarations.{Turn}
 use Rattle.parse_machine.specs.Steps as steps
-use Rattle.parse_machine.specs.Statements as stt
-use Rattle.parse_machine.specs.Specifiers as sp
-use Rattle.parse_laws.proofs.Walk.{limit, move, walk, stand, if_true, if_false, low_stands, go, when_true, and_true, above_is, above_mono, high_mono, around_mono, lower, whole, part_whole, height_some, opened, opened_parts, valued, pull, pull_near, pull_of, refold, fold_opened, Stays, fold_stays, stays_of, opened_postfix, operand_ge, pull_one, parameters_mono, declared_mono, declarator_mono}
+use Rattle.parse_laws.proofs.Walk.{above_is}
 use Rattle.parse_machine.specs.Machine as ma
 use Rattle.parse_machine.specs.Machine.{Phase, Plain, Both, Skipping, Above, State, Extern, Answer, Goes, Refused, High, Result, Tree, Syntax, Unsupported, TooHigh, Course, Going, Over, Role, listedRole, semicolonRole, stopRole, otherRole}
 use Rattle.c_tree.specs.Height.{height_word, height_enumerators}
-use Rattle.parse_machine.specs.Tokens as tok
-use Rattle.parse_laws.proofs.ReadEx.{NoOpen, worded, some_same, Before', known_before, tagged_reads, some_nat, attribute_reads, list_at, behind_constant, first_sizeof, paren_opens, prefix_opens, folded, level_ge, operator, argument, sequence_is, stays_low}
-use Rattle.c_tree.specs.Spelling.{extension}
 use Rattle.c_tree.specs.Denotes.{IsSpelled, spelling, BeginsWithin}
 use Rattle.parse_laws.proofs.ReadSt.{NoElse, typed_no_else}
-use Rattle.parse_laws.proofs.ReadItem.{IsRead, item_read}
+use Rattle.parse_laws.proofs.ReadItem.{item_read}
 use Rattle.parse_laws.proofs.CompleteRun.{goes, run_append, item_run}
 use Rattle.parse_laws.proofs.Externs.{Out, OutTurn, extern_out, next_out}
 

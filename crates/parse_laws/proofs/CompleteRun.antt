@@ -1,56 +1,30 @@
 -- The whole machine goes through each shaped file that is not too high.
-use Rattle.std.proofs.Common.{◌≡◌, ℕ, zero, suc, ◌≤◌, ◌<◌, ◌+◌, max, List, [], ◌∷◌, ◌++◌, length, take, Option, None, Some, Bool, true, false, ◌&&◌, ◌||◌, not, if◌then◌else◌, leb, refl, subst, sym, ap, ◌∙◌, arith, le-leb, leb-false, leb-true, le_trans, le_refl}
-use Rattle.c_tree.specs.declared.symbol.BinaryOp.{BinaryOp}
-use Rattle.c_tree.specs.declared.symbol.BinaryOp.TheVariants as op
-use Rattle.c_tree.specs.declared.symbol.AssignOp.{AssignOp}
-use Rattle.c_tree.specs.declared.symbol.AssignOp.TheVariants as to
-use Rattle.c_tree.specs.declared.symbol.Crement.{Crement}
-use Rattle.c_tree.specs.declared.symbol.Crement.TheVariants as cr
-use Rattle.c_tree.specs.declared.symbol.Bracket.{Bracket}
-use Rattle.c_tree.specs.declared.symbol.Bracket.TheVariants as br
-use Rattle.c_tree.specs.declared.symbol.TypeWord.TheVariants as type
+use Rattle.std.proofs.Common.{◌≡◌, ℕ, ◌≤◌, List, [], ◌∷◌, ◌++◌, Option, None, Some, Bool, true, false, ◌&&◌, not, if◌then◌else◌, leb, refl, subst, sym, ap, ◌∙◌, arith, le-leb, leb-true}
 use Rattle.c_tree.specs.declared.symbol.StorageWord.TheVariants as storage
-use Rattle.c_tree.specs.declared.symbol.StatementWord.{StatementWord}
-use Rattle.c_tree.specs.declared.symbol.StatementWord.TheVariants as key
-use Rattle.c_tree.specs.declared.symbol.AttributeWord.{AttributeWord}
 use Rattle.c_tree.specs.declared.symbol.Symbol.{Symbol}
 use Rattle.c_tree.specs.declared.symbol.Symbol.TheVariants as sy
 use Rattle.c_tree.specs.declared.symbol.Sign.{Sign}
-use Rattle.c_tree.specs.declared.tree.PrefixOp.{PrefixOp}
-use Rattle.c_tree.specs.declared.tree.PrefixOp.TheVariants as pre
-use Rattle.c_tree.specs.declared.known.Site.{Site}
-use Rattle.c_tree.specs.declared.known.Site.TheVariants as site
-use Rattle.c_tree.specs.declared.known.Known.{Known}
 use Rattle.c_tree.specs.Symbols.{sign}
-use Rattle.c_tree.specs.Spelling.{level, operand_level, level_of, opening, closing, word, comma, prefix_symbol, spell, spell_parts, spell_words, spell_word, spell_enumerators, spell_raw, spell_attribute, spell_attributes, spell_option, spell_name, spell_option_name, spell_params, spell_parameters, spell_form, spell_initial, spell_declarators, spell_declaration, spell_head, spell_for_start, spell_for_head, spell_statement, spell_statements, spell_body, spell_item, spell_items}
+use Rattle.c_tree.specs.Spelling.{spell_words, spell_item}
 use Rattle.c_tree.specs.Shape as sh
-use Rattle.c_tree.specs.Words.{known, with_word, with_type, with_storage, with_named, is_typed, is_typedef, is_void, nothing_known}
-use Rattle.c_tree.specs.Tree.{Raw, no_raw, raw_and, At, attribute, Ats, no_attributes, attributes_and, Ex, eName, eNumber, eLetter, eParen, eCall, eIndex, ePostfix, ePrefix, eSizeof, eCast, eBinary, eCond, eAssign, eComma, Parts, no_parts, parts_and, Words, no_words, words_and, Word, wType, wStorage, wConst, wExtension, wAttribute, wTypedef, wTag, wEnum, wTagEnum, Ens, no_enumerators, plain_and, valued_and, Name, named, Params, no_params, params_and, Parameters, pUnknown, pVoid, pSome, Form, fPlain, fArray, fFunction, Initial, iNothing, iValue, iList, Decs, no_declarators, declarators_and, Declaration, declares, Head, head, ForStart, forDeclares, forExpr, ForHead, for_head, St, sDeclaration, sBlock, sEmpty, sExpr, sIf, sIfElse, sWhile, sSwitch, sDo, sFor, sCase, sDefault, sLabel, sGoto, sBreak, sContinue, sReturn, Sts, no_statements, statements_and, Body, bBlock, bSkipped, Item, tSkipped, tFunction, tDeclaration, tEmpty, Items, no_items, items_and}
-use Rattle.parse_machine.specs.Tokens.{Prefix, prefix_of, Suffix, suffix_of, spec_of, SpecKind, spTypedef, spOther, start_of, is_else, Skip, skipOn, skipClose, skipEnd, skip_of, is_awaited}
-use Rattle.parse_machine.specs.Contexts.{Tall, Part, Spoken, Bind, bBinary, bPrefix, bCast, bAssign, bElse, bComma, Opened, oParen, oIndex, oArgument, oThen, Test, testIf, testWhile, testSwitch, Wrap, wThen, wElse, wWhile, wSwitch, wFor, wCase, wDefault, wLabel, Header, Outer, outBody, outBlock, outDo, outWrap, Place, placeFile, placeBlock, placeFor, Declaring, Declared, EnumHead, headBare, headTagged, Base, baseStatement, baseTest, baseDo, baseReturn, baseCase, baseStart, baseMore, baseStep, baseLength, baseInitial, basePart, Inner, inBase, inBind, inOpen, inConstant, Around, aroundCast, aroundSizeof, aroundParameter, aroundPlace, Listing, Attributed, onWords, onDeclared, onLabel, Fork, forkCast, forkSizeof, forkBlock, forkFor, Waiting, waitTest, waitWhile, waitDo, waitDone, waitFor, waitDefault, waitGoto, waitBreak, waitContinue, waitVoid, waitList, waitAttribute, Mode, File, Ended, Specifiers, Enumeration, Tagged, Constant, Named, Attribute, Next, Behind, Listed, Parameters', Parameter, Skipped, Begin, Wait, Either, Goto, Operand, Maybe, Sizeof, Value, Label, Whole, Finished}
+use Rattle.c_tree.specs.Words.{nothing_known}
+use Rattle.c_tree.specs.Tree.{no_raw, Words, no_words, words_and, wType, wStorage, wConst, wExtension, wAttribute, wTypedef, wTag, wEnum, wTagEnum, Item, tSkipped, tFunction, tDeclaration, tEmpty, Items}
+use Rattle.parse_machine.specs.Contexts.{placeFile, aroundPlace, Mode, File, Ended, Specifiers}
 use Rattle.parse_machine.specs.Making as mk
 use Rattle.parse_machine.specs.Making.{above, tall, part, bound, bind_level}
-use Rattle.parse_machine.specs.Heights as ht
-use Rattle.parse_machine.specs.Heights.{least, high, around_high, low, depth, is_list}
-use Rattle.parse_laws.proofs.Before as b
-use Rattle.parse_laws.proofs.Fits.{wrap_names, scope, place_names, declaring_names, declared_names, base_names, inner_names, around_names, listing_names, attributed_names, fork_names, waiting_names, names_of, FitPart, FitSpoken, FitNamed, FitWrap, FitHeader, FitForm, IsArray, FitOuter, FitPlace, FitDeclaring, FitDeclared, FitFunction, FitBase, FitBind, FitOpened, FitHead, FitInner, FitAround, FitListing, FitWords, FitAttributed, FitFork, FitWaiting, Stands, FitItem, Fit}
-use Rattle.parse_laws.proofs.Parts.{high_ge, around_ge, above_ge, parameters_ge, declared_ge, level_le, operand_le, least_le, part_real, part_fits, part_spells, several, comma_some, GoodHeld, fold_good}
-use Rattle.parse_machine.specs.Expressions as ex
+use Rattle.parse_machine.specs.Heights.{low}
+use Rattle.parse_laws.proofs.Fits.{names_of, Fit}
 use Rattle.c_tree.specs.Height as hg
 use Rattle.c_tree.specs.Height.{height, height_parts, height_words}
-use Rattle.parse_machine.specs.Declarations as decl
-use Rattle.parse_machine.specs.Declarations.{Turn, turn, kept}
+use Rattle.parse_machine.specs.Declarations.{Turn, turn}
 use Rattle.parse_machine.specs.Steps as steps
-use Rattle.parse_machine.specs.Statements as stt
-use Rattle.parse_machine.specs.Specifiers as sp
-use Rattle.parse_laws.proofs.Walk.{limit, move, walk, stand, if_true, if_false, low_stands, go, when_true, and_true, above_is, above_mono, high_mono, around_mono, lower, whole, part_whole, height_some, opened, opened_parts, valued, pull, pull_near, pull_of, refold, fold_opened, Stays, fold_stays, stays_of, opened_postfix, operand_ge, pull_one, parameters_mono, declared_mono, declarator_mono}
+use Rattle.parse_laws.proofs.Walk.{limit, move, walk, stand, if_true, if_false, go, above_is}
 use Rattle.parse_machine.specs.Machine as ma
 use Rattle.parse_machine.specs.Machine.{Phase, Plain, Both, Skipping, Above, State, Extern, Answer, Goes, Refused, High, Result, Tree, Syntax, Unsupported, TooHigh, Course, Going, Over, Role, listedRole, semicolonRole, stopRole, otherRole}
 use Rattle.std.proofs.lemmas.List.{append_assoc, append-nil}
-use Rattle.c_tree.specs.Spelling.{extension}
 use Rattle.parse_laws.proofs.Good.{Reads, reads_on, GoodTurn}
 use Rattle.parse_laws.proofs.SoundRun.{next_reads}
-use Rattle.parse_laws.proofs.ReadItem.{ItemRead, IsRead, item_read}
+use Rattle.parse_laws.proofs.ReadItem.{IsRead, item_read}
 use Rattle.parse_laws.proofs.Externs.{Out, OutTurn, extern_out, next_out}
 
 walk_none : (ts : List Sign) → walk ts None ≡ None
@@ -106,7 +80,7 @@ goes t s o e l = ap (λ z. ma.course t (ma.limited z)) e ∙ ap (ma.course t) (i
 plain_advance : (is : Items) (ns : List (List ℕ)) (t : Sign) (m : Mode) (u : Turn) → ma.opens t.symbol t.at m ≡ None → steps.next ns t m ≡ Some u → low u.mode ≤ 200 → ma.advance t (Going (ma.state is ns (Plain m))) ≡ Going (ma.state is u.names (Plain u.mode))
 plain_advance is ns t m u e h l =
     goes t (ma.state is u.names (Plain u.mode)) (ma.step t (ma.state is ns (Plain m)))
-      (ap (ma.step_state t) (filed_same is ns t m u h) ∙ ap (λ o. ma.step_plain o is ns t m) e ∙ ap (ma.plain is) h) l
+    (ap (ma.step_state t) (filed_same is ns t m u h) ∙ ap (λ o. ma.step_plain o is ns t m) e ∙ ap (ma.plain is) h) l
 
 -- the first of some steps
 pub record Goes' (ts : List Sign) (t : Sign) (m : Mode) (ns : List (List ℕ)) (o : Option Turn) : Type 0 where
@@ -157,6 +131,7 @@ one_closed (sy.Storage storage.Extern) m at a n h = mode_one m at a n h
     words_one (words_and no_words (wEnum n0 x y z w)) at a n h = refl
     words_one (words_and no_words (wTagEnum n0 x y z w v u)) at a n h = refl
     words_one (words_and (words_and ws y) x) at a n h = refl
+
     mode_one : (m : Mode) (at : ℕ) (a : Sign) → (a.symbol ≡ sy.Extension → ⊥) → Reads m (λ r. a ∷ r) → ma.opens_mode m at ≡ None
     mode_one File at a n h = let z = h [] in cc
     mode_one (Specifiers s (aroundPlace placeFile)) at a n h = words_one s.words at a n h
@@ -203,6 +178,7 @@ both_run (t ∷ ts) is file ns x m n a p g o e u h = both_at (λ ms y k q v w r 
     stop_run : (q : List Sign) (u : Turn) → Behind' file u.names (a ∷ (q ++ t ∷ [])) u.mode → walk ts (Some u) ≡ Some n → ma.run ts (Going (ma.state is u.names (Plain u.mode))) ≡ Going (ma.state is n.names (Plain n.mode))
     stop_run [] u g h = decided_run ts is file u.names u.mode n a t [] g h
     stop_run (c ∷ q) u g h = decided_run ts is file u.names u.mode n a c (q ++ t ∷ []) g h
+
     both_at : ((ms : List (List ℕ)) (y : Extern) (k : Mode) (q : List Sign) → Behind' file ms (a ∷ q) k → Out k → sh.has_no_listed ts ≡ true → walk ts (stand k ms) ≡ Some n → ma.run ts (Going (ma.state is ms (Both y (Some k) false))) ≡ Going (ma.state is n.names (Plain n.mode))) → (c : Bool) → sh.is_stop t.symbol ≡ c → Goes' ts t m ns (Some n) → ma.run (t ∷ ts) (Going (ma.state is ns (Both x (Some m) false))) ≡ Going (ma.state is n.names (Plain n.mode))
     both_at ih true q z =
         ap (ma.run ts) (both_advance is ns x m t _ (ma.state is z.turn.names (Plain z.turn.mode)) (stop_role t.symbol is ns t.at x m q) (ap (ma.settled false is) z.next) z.low)
@@ -211,7 +187,7 @@ both_run (t ∷ ts) is file ns x m n a p g o e u h = both_at (λ ms y k q v w r 
         let w = both_false (sh.is_listed t.symbol) (sh.has_no_listed ts) (sym (if_false (sh.is_stop t.symbol) true (not (sh.is_listed t.symbol) && sh.has_no_listed ts) q) ∙ u) in
         let v = subst (OutTurn ns) z.next (next_out ns t m o q) in
         ap (ma.run ts) (both_advance is ns x m t _ (ma.state is z.turn.names (Both (ma.more x t) (Some z.turn.mode) false)) (other_role t.symbol is ns t.at x m q w.0)
-          (ap (λ k. Some (ma.both is ns (ma.more x t) false k)) z.next ∙ ap (λ k. Some (ma.state is z.turn.names (Both (ma.more x t) (Some z.turn.mode) k))) (not_high (low z.turn.mode) z.low)) (omega arith))
+        (ap (λ k. Some (ma.both is ns (ma.more x t) false k)) z.next ∙ ap (λ k. Some (ma.state is z.turn.names (Both (ma.more x t) (Some z.turn.mode) k))) (not_high (low z.turn.mode) z.low)) (omega arith))
         ∙ ih z.turn.names (ma.more x t) z.turn.mode (p ++ t ∷ []) (behind_next file ns (a ∷ p) m t z.turn g z.next z.low) v.1 w.1 z.rest
 
 -- behind the first token of an item
@@ -227,7 +203,7 @@ one_run (t ∷ ts) is file ns m n a e g h =
 both_opens : (is : Items) (ns : List (List ℕ)) (m : Mode) (t : Sign) (x : Extern) (u : Turn) → ma.opens t.symbol t.at m ≡ Some x → steps.next ns t m ≡ Some u → low u.mode ≤ 200 → ma.advance t (Going (ma.state is ns (Plain m))) ≡ Going (ma.state is u.names (Both x (Some u.mode) false))
 both_opens is ns m t x u e h l =
     goes t (ma.state is u.names (Both x (Some u.mode) false)) (ma.step t (ma.state is ns (Plain m)))
-      (ap (ma.step_state t) (filed_same is ns t m u h) ∙ ap (λ o. ma.step_plain o is ns t m) e ∙ ap (λ k. Some (ma.both is ns x false k)) h ∙ ap (λ k. Some (ma.state is u.names (Both x (Some u.mode) k))) (not_high (low u.mode) l)) (omega arith)
+    (ap (ma.step_state t) (filed_same is ns t m u h) ∙ ap (λ o. ma.step_plain o is ns t m) e ∙ ap (λ k. Some (ma.both is ns x false k)) h ∙ ap (λ k. Some (ma.state is u.names (Both x (Some u.mode) k))) (not_high (low u.mode) l)) (omega arith)
 
 abbrev extended : ℕ → Mode
 extended x = Specifiers (mk.said mk.unspoken nothing_known (wExtension x) 0) (aroundPlace placeFile)

@@ -99,7 +99,6 @@ first_param ns d a (words_and no_words x) k rest e t = first_type ns d a x k res
 first_param ns d a (words_and (words_and ws y) x) k rest e t =
     let z = known_before site.Bare x (known site.Bare (words_and ws y)) k e in first_any ns d a (words_and ws y) z.told (spell_word x rest) z.was refl
 
-
 -- how high parameters are
 params_low : (d : Declared) (ps : Params) (c : Option ℕ) (h g : ℕ) → hg.height_params ps ≤ g → suc h ≤ g → ht.parameters_high d.around (suc g) ≤ 200 → around_high (aroundParameter d 0 (tall ps (hg.height_params ps)) c) h ≤ 200
 params_low d ps c h g i j l =
@@ -116,9 +115,9 @@ param_end : (ns : List (List ℕ)) (d : Declared) (a : ℕ) (ps : Params) (c : O
 param_end ns d a ps c ws None rest t s g i j l = refl
 param_end ns d a ps c ws (Some (named n at)) rest t s g i j l =
     go (sign (sy.Name n) at) rest (Specifiers (bare ws) (parameter_around d a ps c)) (Parameter d a (tall ps (hg.height_params ps)) c (bare ws) n at) ns ns
-      (ap (λ q. kept ns (sp.step_kind (if q then spTypedef n else spOther) (sy.Name n) at (bare ws) (parameter_around d a ps c))) s
-       ∙ ap (kept ns) (if_true (is_typed (told_of (known site.Bare ws)).typing) (sp.behind_words (sy.Name n) at (bare ws) (parameter_around d a ps c)) None t))
-      (params_low d ps c (height_words ws) g i j l)
+    (ap (λ q. kept ns (sp.step_kind (if q then spTypedef n else spOther) (sy.Name n) at (bare ws) (parameter_around d a ps c))) s
+    ∙ ap (kept ns) (if_true (is_typed (told_of (known site.Bare ws)).typing) (sp.behind_words (sy.Name n) at (bare ws) (parameter_around d a ps c)) None t))
+    (params_low d ps c (height_words ws) g i j l)
 
 more_same : (ps : Params) (c : Option ℕ) (ws : Words) (n : Option Name) → height_words ws ≤ 200 → mk.param_more (tall ps (hg.height_params ps)) c (bare ws) n ≡ tall (params_and ps c ws n) (hg.height_params (params_and ps c ws n))
 more_same ps c ws n h = ap (λ z. tall (params_and ps c ws n) (max (hg.height_params ps) z)) (above_is (height_words ws) h)
@@ -128,25 +127,25 @@ param_comma : (ns : List (List ℕ)) (d : Declared) (a : ℕ) (ps : Params) (c :
 param_comma ns d a ps c ws None at rest t g o i l =
     let u : suc g ≤ 200 = omega (arith, parameters_ge d.around (suc g), l) in
     go (sign sy.Comma at) rest (Specifiers (bare ws) (parameter_around d a ps c)) (Specifiers mk.unspoken (parameter_around d a (params_and ps c ws None) (Some at))) ns ns
-      (ap (kept ns) (if_true (is_typed (told_of (known site.Bare ws)).typing) (sp.behind_words sy.Comma at (bare ws) (parameter_around d a ps c)) None t)
-       ∙ ap (λ z. stand (sp.parameters_more d a z at) ns) (more_same ps c ws None (omega (arith, i, u))))
-      (params_low d (params_and ps c ws None) (Some at) 0 g i o l)
+    (ap (kept ns) (if_true (is_typed (told_of (known site.Bare ws)).typing) (sp.behind_words sy.Comma at (bare ws) (parameter_around d a ps c)) None t)
+    ∙ ap (λ z. stand (sp.parameters_more d a z at) ns) (more_same ps c ws None (omega (arith, i, u))))
+    (params_low d (params_and ps c ws None) (Some at) 0 g i o l)
 param_comma ns d a ps c ws (Some (named n x)) at rest t g o i l =
     let u : suc g ≤ 200 = omega (arith, parameters_ge d.around (suc g), l) in
     go (sign sy.Comma at) rest (Parameter d a (tall ps (hg.height_params ps)) c (bare ws) n x) (Specifiers mk.unspoken (parameter_around d a (params_and ps c ws (Some (named n x))) (Some at))) ns ns
-      (ap (λ z. stand (sp.parameters_more d a z at) ns) (more_same ps c ws (Some (named n x)) (omega (arith, i, u))))
-      (params_low d (params_and ps c ws (Some (named n x))) (Some at) 0 g i o l)
+    (ap (λ z. stand (sp.parameters_more d a z at) ns) (more_same ps c ws (Some (named n x)) (omega (arith, i, u))))
+    (params_low d (params_and ps c ws (Some (named n x))) (Some at) 0 g i o l)
 
 param_close : (ns : List (List ℕ)) (d : Declared) (a : ℕ) (ps : Params) (c : Option ℕ) (ws : Words) (n : Option Name) (at : ℕ) (rest : List Sign) → is_typed (told_of (known site.Bare ws)).typing ≡ true → hg.height_params (params_and ps c ws n) ≤ 200 → low (Behind (mk.with_form d (tall (fFunction (pSome a (params_and ps c ws n) at)) (suc (hg.height_params (params_and ps c ws n)))))) ≤ 200 → walk (closing br.Round at ∷ rest) (stand (behind_param d a (params_and ps c ws n)) ns) ≡ walk rest (stand (Behind (mk.with_form d (tall (fFunction (pSome a (params_and ps c ws n) at)) (suc (hg.height_params (params_and ps c ws n)))))) ns)
 param_close ns d a ps c ws None at rest t i l =
     go (closing br.Round at) rest (Specifiers (bare ws) (parameter_around d a ps c)) _ ns ns
-      (ap (kept ns) (if_true (is_typed (told_of (known site.Bare ws)).typing) (sp.behind_words (sy.Close br.Round) at (bare ws) (parameter_around d a ps c)) None t)
-       ∙ ap (λ z. stand (sp.parameters_end d a z at) ns) (more_same ps c ws None (omega (arith, i)))
-       ∙ ap (λ z. stand (Behind (mk.with_form d (tall (fFunction (pSome a (params_and ps c ws None) at)) z))) ns) (above_is _ i)) l
+    (ap (kept ns) (if_true (is_typed (told_of (known site.Bare ws)).typing) (sp.behind_words (sy.Close br.Round) at (bare ws) (parameter_around d a ps c)) None t)
+    ∙ ap (λ z. stand (sp.parameters_end d a z at) ns) (more_same ps c ws None (omega (arith, i)))
+    ∙ ap (λ z. stand (Behind (mk.with_form d (tall (fFunction (pSome a (params_and ps c ws None) at)) z))) ns) (above_is _ i)) l
 param_close ns d a ps c ws (Some (named n x)) at rest t i l =
     go (closing br.Round at) rest (Parameter d a (tall ps (hg.height_params ps)) c (bare ws) n x) _ ns ns
-      (ap (λ z. stand (sp.parameters_end d a z at) ns) (more_same ps c ws (Some (named n x)) (omega (arith, i)))
-       ∙ ap (λ z. stand (Behind (mk.with_form d (tall (fFunction (pSome a (params_and ps c ws (Some (named n x))) at)) z))) ns) (above_is _ i)) l
+    (ap (λ z. stand (sp.parameters_end d a z at) ns) (more_same ps c ws (Some (named n x)) (omega (arith, i)))
+    ∙ ap (λ z. stand (Behind (mk.with_form d (tall (fFunction (pSome a (params_and ps c ws (Some (named n x))) at)) z))) ns) (above_is _ i)) l
 
 typed_told : (s : Site) (ws : Words) (f : sh.AreSpecs s ws) → is_typed (told_of (known s ws)).typing ≡ true
 typed_told s ws f = ap (λ k. is_typed k.typing) (told_is (known s ws) f.told f.together) ∙ f.typed

@@ -83,44 +83,44 @@ dec_comma : (i : Initial) (ns ms : List (List ℕ)) (p : Place) (s : Spoken) (ds
 dec_comma iNothing ns ms p s ds c n at f ats x t m g i j y l q rest =
     let d = entire p s ds c n at f ats in
     go (sign sy.Comma x) rest (Behind d) (Next (so_far p s (declarators_and ds c (named n at) f ats iNothing)) x) (sh.declared s.told ds ms) (sh.declared s.told (declarators_and ds c (named n at) f ats iNothing) ms)
-      (turn_when (decl.may_be_whole d) (turn (Next (mk.with_initial d iNothing 0) x) (sh.declared s.told (declarators_and ds c (named n at) f ats iNothing) ms)) m
-       ∙ ap (λ z. stand (Next z x) (sh.declared s.told (declarators_and ds c (named n at) f ats iNothing) ms)) (with_height d iNothing 0 (omega (arith, i, l))))
-      (omega (arith, i, y, l))
+    (turn_when (decl.may_be_whole d) (turn (Next (mk.with_initial d iNothing 0) x) (sh.declared s.told (declarators_and ds c (named n at) f ats iNothing) ms)) m
+    ∙ ap (λ z. stand (Next z x) (sh.declared s.told (declarators_and ds c (named n at) f ats iNothing) ms)) (with_height d iNothing 0 (omega (arith, i, l))))
+    (omega (arith, i, y, l))
 dec_comma (iValue v e) ns ms p s ds c n at f ats x t m g i j y l q rest =
     let d = entire p s ds c n at f ats in
     let k = inBase (baseInitial d v) in
     go (sign sy.Comma x) rest (valued (opened e k)) (Next (so_far p s (declarators_and ds c (named n at) f ats (iValue v e))) x) (sh.declared s.told ds ms) (sh.declared s.told (declarators_and ds c (named n at) f ats (iValue v e)) ms)
-      (ap (λ z. kept (sh.declared s.told ds ms) (ex.step_held tok.sufComma x z)) (value_fold ns d v e 1 g t.1 t.0 (omega arith) (omega (arith, i)) j l)
-       ∙ ap (kept (sh.declared s.told ds ms)) (when_true (leb 1 (level_of e)) (Next (mk.with_initial d (iValue v e) (height e)) x) (le-leb _ _ t.0))
-       ∙ ap (λ z. stand (Next z x) (sh.declared s.told ds ms)) (with_height d (iValue v e) (height e) (omega (arith, i, l)))
-       ∙ ap (stand (Next (so_far p s (declarators_and ds c (named n at) f ats (iValue v e))) x)) (names_same s.told ds c (named n at) f ats (iValue v e) ms (value_object (ht.site_of_place p) s.told f v e m)))
-      (omega (arith, i, y, l))
+    (ap (λ z. kept (sh.declared s.told ds ms) (ex.step_held tok.sufComma x z)) (value_fold ns d v e 1 g t.1 t.0 (omega arith) (omega (arith, i)) j l)
+    ∙ ap (kept (sh.declared s.told ds ms)) (when_true (leb 1 (level_of e)) (Next (mk.with_initial d (iValue v e) (height e)) x) (le-leb _ _ t.0))
+    ∙ ap (λ z. stand (Next z x) (sh.declared s.told ds ms)) (with_height d (iValue v e) (height e) (omega (arith, i, l)))
+    ∙ ap (stand (Next (so_far p s (declarators_and ds c (named n at) f ats (iValue v e))) x)) (names_same s.told ds c (named n at) f ats (iValue v e) ms (value_object (ht.site_of_place p) s.told f v e m)))
+    (omega (arith, i, y, l))
 dec_comma (iList v a es u z) ns ms p s ds c n at f ats x t m g i j y l q rest =
     let d = entire p s ds c n at f ats in
     go (sign sy.Comma x) rest (Listed (mk.with_initial d (iList v a es u z) (suc (height_parts es)))) (Next (so_far p s (declarators_and ds c (named n at) f ats (iList v a es u z))) x) (sh.declared s.told ds ms) (sh.declared s.told (declarators_and ds c (named n at) f ats (iList v a es u z)) ms)
-      (ap (λ w. stand (Next w x) (sh.declared s.told ds ms)) (with_height d (iList v a es u z) (suc (height_parts es)) (omega (arith, i, l)))
-       ∙ ap (stand (Next (so_far p s (declarators_and ds c (named n at) f ats (iList v a es u z))) x)) (names_same s.told ds c (named n at) f ats (iList v a es u z) ms (list_object (ht.site_of_place p) s.told f v a es u z m)))
-      (omega (arith, i, y, l))
+    (ap (λ w. stand (Next w x) (sh.declared s.told ds ms)) (with_height d (iList v a es u z) (suc (height_parts es)) (omega (arith, i, l)))
+    ∙ ap (stand (Next (so_far p s (declarators_and ds c (named n at) f ats (iList v a es u z))) x)) (names_same s.told ds c (named n at) f ats (iList v a es u z) ms (list_object (ht.site_of_place p) s.told f v a es u z m)))
+    (omega (arith, i, y, l))
 
 dec_end : (i : Initial) (ns ms : List (List ℕ)) (p : Place) (s : Spoken) (ds : Decs) (c : Option ℕ) (n : List ℕ) (at : ℕ) (f : Form) (ats : Ats) (x : ℕ) → sh.ShapedInitial ns i → sh.may_declare (ht.site_of_place p) s.told f i ≡ true → (g : ℕ) → suc (max (max (hg.height_form f) (hg.height_attributes ats)) (hg.height_initial i)) ≤ g → suc (ht.form_needs f) ≤ g → hg.height_declarators ds ≤ g → suc (ht.place_depth p) + g ≤ 200 → low (ex.ended (so_far p s (declarators_and ds c (named n at) f ats i)) x) ≤ 200 → (rest : List Sign) → walk (sign sy.Semicolon x ∷ rest) (stand (behind_initial (entire p s ds c n at f ats) i) (sh.declared s.told ds ms)) ≡ walk rest (stand (ex.ended (so_far p s (declarators_and ds c (named n at) f ats i)) x) (sh.declared s.told (declarators_and ds c (named n at) f ats i) ms))
 dec_end iNothing ns ms p s ds c n at f ats x t m g i j y l q rest =
     let d = entire p s ds c n at f ats in
     go (sign sy.Semicolon x) rest (Behind d) (ex.ended (so_far p s (declarators_and ds c (named n at) f ats iNothing)) x) (sh.declared s.told ds ms) (sh.declared s.told (declarators_and ds c (named n at) f ats iNothing) ms)
-      (turn_when (decl.may_be_whole d) (turn (ex.ended (mk.with_initial d iNothing 0) x) (sh.declared s.told (declarators_and ds c (named n at) f ats iNothing) ms)) m
-       ∙ ap (λ z. stand (ex.ended z x) (sh.declared s.told (declarators_and ds c (named n at) f ats iNothing) ms)) (with_height d iNothing 0 (omega (arith, i, l)))) q
+    (turn_when (decl.may_be_whole d) (turn (ex.ended (mk.with_initial d iNothing 0) x) (sh.declared s.told (declarators_and ds c (named n at) f ats iNothing) ms)) m
+    ∙ ap (λ z. stand (ex.ended z x) (sh.declared s.told (declarators_and ds c (named n at) f ats iNothing) ms)) (with_height d iNothing 0 (omega (arith, i, l)))) q
 dec_end (iValue v e) ns ms p s ds c n at f ats x t m g i j y l q rest =
     let d = entire p s ds c n at f ats in
     let k = inBase (baseInitial d v) in
     go (sign sy.Semicolon x) rest (valued (opened e k)) (ex.ended (so_far p s (declarators_and ds c (named n at) f ats (iValue v e))) x) (sh.declared s.told ds ms) (sh.declared s.told (declarators_and ds c (named n at) f ats (iValue v e)) ms)
-      (ap (λ z. kept (sh.declared s.told ds ms) (ex.step_held tok.sufSemicolon x z)) (value_fold ns d v e 0 g t.1 t.0 (omega arith) (omega (arith, i)) j l)
-       ∙ ap (kept (sh.declared s.told ds ms)) (when_true (leb 1 (level_of e)) (ex.ended (mk.with_initial d (iValue v e) (height e)) x) (le-leb _ _ t.0))
-       ∙ ap (λ z. stand (ex.ended z x) (sh.declared s.told ds ms)) (with_height d (iValue v e) (height e) (omega (arith, i, l)))
-       ∙ ap (stand (ex.ended (so_far p s (declarators_and ds c (named n at) f ats (iValue v e))) x)) (names_same s.told ds c (named n at) f ats (iValue v e) ms (value_object (ht.site_of_place p) s.told f v e m))) q
+    (ap (λ z. kept (sh.declared s.told ds ms) (ex.step_held tok.sufSemicolon x z)) (value_fold ns d v e 0 g t.1 t.0 (omega arith) (omega (arith, i)) j l)
+    ∙ ap (kept (sh.declared s.told ds ms)) (when_true (leb 1 (level_of e)) (ex.ended (mk.with_initial d (iValue v e) (height e)) x) (le-leb _ _ t.0))
+    ∙ ap (λ z. stand (ex.ended z x) (sh.declared s.told ds ms)) (with_height d (iValue v e) (height e) (omega (arith, i, l)))
+    ∙ ap (stand (ex.ended (so_far p s (declarators_and ds c (named n at) f ats (iValue v e))) x)) (names_same s.told ds c (named n at) f ats (iValue v e) ms (value_object (ht.site_of_place p) s.told f v e m))) q
 dec_end (iList v a es u z) ns ms p s ds c n at f ats x t m g i j y l q rest =
     let d = entire p s ds c n at f ats in
     go (sign sy.Semicolon x) rest (Listed (mk.with_initial d (iList v a es u z) (suc (height_parts es)))) (ex.ended (so_far p s (declarators_and ds c (named n at) f ats (iList v a es u z))) x) (sh.declared s.told ds ms) (sh.declared s.told (declarators_and ds c (named n at) f ats (iList v a es u z)) ms)
-      (ap (λ w. stand (ex.ended w x) (sh.declared s.told ds ms)) (with_height d (iList v a es u z) (suc (height_parts es)) (omega (arith, i, l)))
-       ∙ ap (stand (ex.ended (so_far p s (declarators_and ds c (named n at) f ats (iList v a es u z))) x)) (names_same s.told ds c (named n at) f ats (iList v a es u z) ms (list_object (ht.site_of_place p) s.told f v a es u z m))) q
+    (ap (λ w. stand (ex.ended w x) (sh.declared s.told ds ms)) (with_height d (iList v a es u z) (suc (height_parts es)) (omega (arith, i, l)))
+    ∙ ap (stand (ex.ended (so_far p s (declarators_and ds c (named n at) f ats (iList v a es u z))) x)) (names_same s.told ds c (named n at) f ats (iList v a es u z) ms (list_object (ht.site_of_place p) s.told f v a es u z m))) q
 
 decs_comma : (ds : Decs) (ms : List (List ℕ)) (p : Place) (s : Spoken) (x : ℕ) → sh.ShapedDeclarators (ht.site_of_place p) s.told ms ds → sh.are_no_declarators ds ≡ false → (g : ℕ) → hg.height_declarators ds ≤ g → suc (ht.place_depth p) + g ≤ 200 → (rest : List Sign) → walk (sign sy.Comma x ∷ rest) (stand (behind_decs p s ds) (names_in s.told ds ms)) ≡ walk rest (stand (Next (so_far p s ds) x) (sh.declared s.told ds ms))
 decs_comma no_declarators ms p s x t e g i l rest = cc
@@ -142,8 +142,8 @@ plain_low p s ds c n at g i l = declared_low (mk.declared_plain (so_far p s ds) 
 pub first_name : (ns : List (List ℕ)) (p : Place) (s : Spoken) (n : List ℕ) (at : ℕ) → sh.has ns n ≡ false → is_typed s.told.typing ≡ true → (rest : List Sign) → low (Behind (mk.declared_plain (so_far p s no_declarators) None n at)) ≤ 200 → walk (b.name_sign n at ∷ rest) (stand (Specifiers s (aroundPlace p)) ns) ≡ walk rest (stand (Behind (mk.declared_plain (so_far p s no_declarators) None n at)) ns)
 first_name ns p s n at h y rest l =
     go (b.name_sign n at) rest (Specifiers s (aroundPlace p)) (Behind (mk.declared_plain (so_far p s no_declarators) None n at)) ns ns
-      (ap (λ q. kept ns (sp.step_kind (if q then spTypedef n else spOther) (sy.Name n) at s (aroundPlace p))) h
-       ∙ ap (kept ns) (if_true (is_typed s.told.typing) (sp.behind_words (sy.Name n) at s (aroundPlace p)) None y)) l
+    (ap (λ q. kept ns (sp.step_kind (if q then spTypedef n else spOther) (sy.Name n) at s (aroundPlace p))) h
+    ∙ ap (kept ns) (if_true (is_typed s.told.typing) (sp.behind_words (sy.Name n) at s (aroundPlace p)) None y)) l
 
 decs_read : (ds : Decs) (ms : List (List ℕ)) (p : Place) (s : Spoken) → sh.ShapedDeclarators (ht.site_of_place p) s.told ms ds → is_typed s.told.typing ≡ true → (g : ℕ) → hg.height_declarators ds ≤ g → suc (ht.place_depth p) + g ≤ 200 → (rest : List Sign) → walk (spell_declarators ds rest) (stand (Specifiers s (aroundPlace p)) ms) ≡ walk rest (stand (behind_decs p s ds) (names_in s.told ds ms))
 decs_read no_declarators ms p s t y g i l rest = refl
@@ -156,7 +156,7 @@ decs_read (declarators_and ds (Some x) (named n at) f ats v) ms p s t y g i l re
     decs_read ds ms p s t.0 y g (omega (arith, i)) l (sign sy.Comma x ∷ b.name_sign n at ∷ spell_form f (spell_attributes ats (spell_initial v rest)))
     ∙ decs_comma ds ms p s x t.0 (some_not (sh.are_no_declarators ds) x t.1) g (omega (arith, i)) l (b.name_sign n at ∷ spell_form f (spell_attributes ats (spell_initial v rest)))
     ∙ go (b.name_sign n at) (spell_form f (spell_attributes ats (spell_initial v rest))) (Next (so_far p s ds) x) (Behind (mk.declared_plain (so_far p s ds) (Some x) n at)) (sh.declared s.told ds ms) (sh.declared s.told ds ms)
-        (ap (λ q. kept (sh.declared s.told ds ms) (ex.when (not q) (Behind (mk.declared_plain (so_far p s ds) (Some x) n at)))) t.3) (plain_low p s ds (Some x) n at g (omega (arith, i)) l)
+    (ap (λ q. kept (sh.declared s.told ds ms) (ex.when (not q) (Behind (mk.declared_plain (so_far p s ds) (Some x) n at)))) t.3) (plain_low p s ds (Some x) n at g (omega (arith, i)) l)
     ∙ rest_read ms p s ds (Some x) n at f ats v t g i l rest
 
 -- how high a whole declaration is
@@ -168,8 +168,8 @@ ended_low (placeFor m y a o) s ds x g i j l = omega (arith, l)
 end_read : (ds : Decs) (ms : List (List ℕ)) (p : Place) (s : Spoken) (x : ℕ) → sh.ShapedDeclarators (ht.site_of_place p) s.told ms ds → sh.may_end s.told ds ≡ true → is_typed s.told.typing ≡ true → (g : ℕ) → hg.height_declarators ds ≤ g → suc s.height ≤ g → suc (ht.place_depth p) + g ≤ 200 → (rest : List Sign) → walk (sign sy.Semicolon x ∷ rest) (stand (behind_decs p s ds) (names_in s.told ds ms)) ≡ walk rest (stand (ex.ended (so_far p s ds) x) (sh.declared s.told ds ms))
 end_read no_declarators ms p s x t m y g i j l rest =
     go (sign sy.Semicolon x) rest (Specifiers s (aroundPlace p)) (ex.ended (so_far p s no_declarators) x) ms ms
-      (ap (kept ms) (if_true (is_typed s.told.typing) (sp.behind_words sy.Semicolon x s (aroundPlace p)) None y)
-       ∙ ap (kept ms) (when_true (not (is_void s.told.typing)) (ex.ended (so_far p s no_declarators) x) m)) (ended_low p s no_declarators x g i j l)
+    (ap (kept ms) (if_true (is_typed s.told.typing) (sp.behind_words sy.Semicolon x s (aroundPlace p)) None y)
+    ∙ ap (kept ms) (when_true (not (is_void s.told.typing)) (ex.ended (so_far p s no_declarators) x) m)) (ended_low p s no_declarators x g i j l)
 end_read (declarators_and ds c (named n at) f ats v) ms p s x t m y g i j l rest =
     dec_end v (sh.declared s.told ds ms) ms p s ds c n at f ats x t.6 t.2 g (omega (arith, i)) (omega (arith, i, needs_le (sh.declared s.told ds ms) (ht.site_of_place p) s.told f v t.2 t.6)) (omega (arith, i)) l (ended_low p s (declarators_and ds c (named n at) f ats v) x g i j l) rest
 

@@ -46,8 +46,8 @@ declared_low d h g i j l =
     let a = above_is (max d.form.height h) (omega (arith, i, l)) in
     let b0 = above_is (max (max d.form.height (ht.form_needs d.form.value)) h) (omega (arith, i, j, l)) in
     either_low (ht.is_function d.form.value) _ _
-      (either_low (ht.is_first d.around) _ _ (omega (arith, i, l)) (omega (arith, i, l, a)))
-      (omega (arith, i, j, l, b0))
+    (either_low (ht.is_first d.around) _ _ (omega (arith, i, l)) (omega (arith, i, l, a)))
+    (omega (arith, i, j, l, b0))
 
 -- Attributes.
 
@@ -116,13 +116,13 @@ form_read (fArray x (Some e) y) ns p s ds c n at i t m g a j l rest =
     ∙ first_maybe ns k e t.1 (closing br.Square y ∷ rest)
     ∙ reads e k ns t.1 t.0 h (closing br.Square y ∷ rest)
     ∙ go (closing br.Square y) rest (valued (opened e k)) (Behind (entire p s ds c n at (fArray x (Some e) y) no_attributes)) ns ns
-        (ap (λ z. kept ns (ex.step_held (tok.sufClose br.Square) y z)) (folded ns e k 0 t.1 (omega arith) (omega arith) h tt)
-         ∙ ap (kept ns) (when_true (leb 2 (level_of e)) (Behind (entire p s ds c n at (fArray x (Some e) y) no_attributes)) (le-leb _ _ t.0))) (declared_low (entire p s ds c n at (fArray x (Some e) y) no_attributes) 0 g (omega (arith, a)) j l)
+    (ap (λ z. kept ns (ex.step_held (tok.sufClose br.Square) y z)) (folded ns e k 0 t.1 (omega arith) (omega arith) h tt)
+    ∙ ap (kept ns) (when_true (leb 2 (level_of e)) (Behind (entire p s ds c n at (fArray x (Some e) y) no_attributes)) (le-leb _ _ t.0))) (declared_low (entire p s ds c n at (fArray x (Some e) y) no_attributes) 0 g (omega (arith, a)) j l)
 form_read (fFunction ps) ns p s ds c n at i t m g a j l rest =
     let d = mk.declared_plain (so_far p s ds) c n at in
     parameters_read ps ns d t (function_place p s.told ps i m)
-      (either_low (ht.is_first d.around) _ _ (omega (arith, a, l)) (omega (arith, a, l, above_is (hg.height_parameters ps) (omega (arith, a, l)))))
-      (declared_low (entire p s ds c n at (fFunction ps) no_attributes) 0 g (omega (arith, a)) j l) rest
+    (either_low (ht.is_first d.around) _ _ (omega (arith, a, l)) (omega (arith, a, l, above_is (hg.height_parameters ps) (omega (arith, a, l)))))
+    (declared_low (entire p s ds c n at (fFunction ps) no_attributes) 0 g (omega (arith, a)) j l) rest
 
 -- Initial values.
 
@@ -149,8 +149,8 @@ list_some (parts_and es c y) (Some at) e d x a ns s t u g i j l rest =
     list_some es c y d x a ns s.2 s.0 s.3 g (omega (arith, i)) j l (sign sy.Comma at ∷ spell e rest)
     ∙ reads y k ns s.3 s.1 h (sign sy.Comma at ∷ spell e rest)
     ∙ go (sign sy.Comma at) (spell e rest) (valued (opened y k)) (Maybe (part_at d x a (parts_and es c y) (Some at))) ns ns
-        (ap (λ z. kept ns (ex.step_held tok.sufComma at z)) (folded ns y k 1 s.3 (pull_one y s.1) (omega arith) h tt)
-         ∙ ap (kept ns) (when_true (leb 1 (level_of y)) (Maybe (part_at d x a (parts_and es c y) (Some at))) (le-leb _ _ s.1))) (part_high d x a (parts_and es c y) (Some at) 0 g (omega (arith, i)) j l)
+    (ap (λ z. kept ns (ex.step_held tok.sufComma at z)) (folded ns y k 1 s.3 (pull_one y s.1) (omega arith) h tt)
+    ∙ ap (kept ns) (when_true (leb 1 (level_of y)) (Maybe (part_at d x a (parts_and es c y) (Some at))) (le-leb _ _ s.1))) (part_high d x a (parts_and es c y) (Some at) 0 g (omega (arith, i)) j l)
     ∙ first_maybe ns (part_at d x a (parts_and es c y) (Some at)) e u rest
 
 list_close : (es : Parts) (c0 : Option ℕ) (e : Ex) (c : Option ℕ) (y : ℕ) (d : Declared) (x a : ℕ) (ns : List (List ℕ)) → sh.Shaped ns e → 1 ≤ level_of e → (g : ℕ) → suc (max d.form.height (suc (max (max (height_parts es) (height e)) 1))) ≤ g → suc (ht.form_needs d.form.value) ≤ g → suc (ht.place_depth d.around.place) + g ≤ 200 → low (Listed (mk.with_initial d (iList x a (parts_and es c0 e) c y) (suc (height_parts (parts_and es c0 e))))) ≤ 200 → (rest : List Sign) → walk (comma c (closing br.Curly y ∷ rest)) (stand (valued (opened e (part_at d x a es c0))) ns) ≡ walk rest (stand (Listed (mk.with_initial d (iList x a (parts_and es c0 e) c y) (suc (height_parts (parts_and es c0 e))))) ns)
@@ -158,17 +158,17 @@ list_close es c0 e None y d x a ns t m g i j l o rest =
     let k = part_at d x a es c0 in
     let h : high k (height e) ≤ 200 = part_high d x a es c0 (height e) g (omega (arith, i)) j l in
     go (closing br.Curly y) rest (valued (opened e k)) (Listed (mk.with_initial d (iList x a (parts_and es c0 e) None y) (suc (height_parts (parts_and es c0 e))))) ns ns
-      (ap (λ z. kept ns (ex.step_held (tok.sufClose br.Curly) y z)) (folded ns e k 0 t (omega arith) (omega arith) h tt)
-       ∙ ap (kept ns) (when_true (leb 1 (level_of e)) (ex.listed d x a (tall (parts_and es c0 e) (height_parts (parts_and es c0 e))) None y) (le-leb _ _ m))
-       ∙ ap (λ z. stand (Listed (mk.with_initial d (iList x a (parts_and es c0 e) None y) z)) ns) (above_is (height_parts (parts_and es c0 e)) (omega (arith, i, l)))) o
+    (ap (λ z. kept ns (ex.step_held (tok.sufClose br.Curly) y z)) (folded ns e k 0 t (omega arith) (omega arith) h tt)
+    ∙ ap (kept ns) (when_true (leb 1 (level_of e)) (ex.listed d x a (tall (parts_and es c0 e) (height_parts (parts_and es c0 e))) None y) (le-leb _ _ m))
+    ∙ ap (λ z. stand (Listed (mk.with_initial d (iList x a (parts_and es c0 e) None y) z)) ns) (above_is (height_parts (parts_and es c0 e)) (omega (arith, i, l)))) o
 list_close es c0 e (Some at) y d x a ns t m g i j l o rest =
     let k = part_at d x a es c0 in
     let h : high k (height e) ≤ 200 = part_high d x a es c0 (height e) g (omega (arith, i)) j l in
     go (sign sy.Comma at) (closing br.Curly y ∷ rest) (valued (opened e k)) (Maybe (part_at d x a (parts_and es c0 e) (Some at))) ns ns
-      (ap (λ z. kept ns (ex.step_held tok.sufComma at z)) (folded ns e k 1 t (pull_one e m) (omega arith) h tt)
-       ∙ ap (kept ns) (when_true (leb 1 (level_of e)) (Maybe (part_at d x a (parts_and es c0 e) (Some at))) (le-leb _ _ m))) (part_high d x a (parts_and es c0 e) (Some at) 0 g (omega (arith, i)) j l)
+    (ap (λ z. kept ns (ex.step_held tok.sufComma at z)) (folded ns e k 1 t (pull_one e m) (omega arith) h tt)
+    ∙ ap (kept ns) (when_true (leb 1 (level_of e)) (Maybe (part_at d x a (parts_and es c0 e) (Some at))) (le-leb _ _ m))) (part_high d x a (parts_and es c0 e) (Some at) 0 g (omega (arith, i)) j l)
     ∙ go (closing br.Curly y) rest (Maybe (part_at d x a (parts_and es c0 e) (Some at))) (Listed (mk.with_initial d (iList x a (parts_and es c0 e) (Some at) y) (suc (height_parts (parts_and es c0 e))))) ns ns
-        (ap (λ z. stand (Listed (mk.with_initial d (iList x a (parts_and es c0 e) (Some at) y) z)) ns) (above_is (height_parts (parts_and es c0 e)) (omega (arith, i, l)))) o
+    (ap (λ z. stand (Listed (mk.with_initial d (iList x a (parts_and es c0 e) (Some at) y) z)) ns) (above_is (height_parts (parts_and es c0 e)) (omega (arith, i, l)))) o
 
 -- the height of a list of declared names
 pub with_height : (d : Declared) (i : Initial) (h : ℕ) → max (max d.form.height (hg.height_attributes d.attributes)) h ≤ 200 → mk.with_initial d i h ≡ mk.declaring d.around.place d.around.spoken (tall (declarators_and d.around.before.value d.comma (named d.name d.at) d.form.value d.attributes i) (max d.around.before.height (suc (max (max d.form.height (hg.height_attributes d.attributes)) h))))

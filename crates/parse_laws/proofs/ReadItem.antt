@@ -1,62 +1,36 @@
 -- The machine goes through each shaped item that is not skipped.
-use Rattle.std.proofs.Common.{◌≡◌, ℕ, zero, suc, ◌≤◌, ◌<◌, ◌+◌, max, List, [], ◌∷◌, ◌++◌, length, take, Option, None, Some, Bool, true, false, ◌&&◌, ◌||◌, not, if◌then◌else◌, leb, refl, subst, sym, ap, ◌∙◌, arith, le-leb, leb-false, leb-true, le_trans, le_refl}
-use Rattle.c_tree.specs.declared.symbol.BinaryOp.{BinaryOp}
-use Rattle.c_tree.specs.declared.symbol.BinaryOp.TheVariants as op
-use Rattle.c_tree.specs.declared.symbol.AssignOp.{AssignOp}
-use Rattle.c_tree.specs.declared.symbol.AssignOp.TheVariants as to
-use Rattle.c_tree.specs.declared.symbol.Crement.{Crement}
-use Rattle.c_tree.specs.declared.symbol.Crement.TheVariants as cr
-use Rattle.c_tree.specs.declared.symbol.Bracket.{Bracket}
+use Rattle.std.proofs.Common.{◌≡◌, ℕ, zero, suc, ◌≤◌, max, List, ◌∷◌, length, Option, None, Some, Bool, true, false, not, if◌then◌else◌, refl, sym, ap, ◌∙◌, arith}
 use Rattle.c_tree.specs.declared.symbol.Bracket.TheVariants as br
-use Rattle.c_tree.specs.declared.symbol.TypeWord.TheVariants as type
-use Rattle.c_tree.specs.declared.symbol.StorageWord.TheVariants as storage
-use Rattle.c_tree.specs.declared.symbol.StatementWord.{StatementWord}
-use Rattle.c_tree.specs.declared.symbol.StatementWord.TheVariants as key
-use Rattle.c_tree.specs.declared.symbol.AttributeWord.{AttributeWord}
 use Rattle.c_tree.specs.declared.symbol.Symbol.{Symbol}
 use Rattle.c_tree.specs.declared.symbol.Symbol.TheVariants as sy
 use Rattle.c_tree.specs.declared.symbol.Sign.{Sign}
-use Rattle.c_tree.specs.declared.tree.PrefixOp.{PrefixOp}
-use Rattle.c_tree.specs.declared.tree.PrefixOp.TheVariants as pre
-use Rattle.c_tree.specs.declared.known.Site.{Site}
 use Rattle.c_tree.specs.declared.known.Site.TheVariants as site
-use Rattle.c_tree.specs.declared.known.Known.{Known}
 use Rattle.c_tree.specs.Symbols.{sign}
-use Rattle.c_tree.specs.Spelling.{level, operand_level, level_of, opening, closing, word, comma, prefix_symbol, spell, spell_parts, spell_words, spell_word, spell_enumerators, spell_raw, spell_attribute, spell_attributes, spell_option, spell_name, spell_option_name, spell_params, spell_parameters, spell_form, spell_initial, spell_declarators, spell_declaration, spell_head, spell_for_start, spell_for_head, spell_statement, spell_statements, spell_body, spell_item, spell_items}
+use Rattle.c_tree.specs.Spelling.{opening, closing, spell_words, spell_word, spell_raw, spell_attribute, spell_attributes, spell_parameters, spell_declarators, spell_declaration, spell_statements, spell_body, spell_item}
 use Rattle.c_tree.specs.Shape as sh
-use Rattle.c_tree.specs.Words.{known, with_word, with_type, with_storage, with_named, is_typed, is_typedef, is_void, nothing_known}
-use Rattle.c_tree.specs.Tree.{Raw, no_raw, raw_and, At, attribute, Ats, no_attributes, attributes_and, Ex, eName, eNumber, eLetter, eParen, eCall, eIndex, ePostfix, ePrefix, eSizeof, eCast, eBinary, eCond, eAssign, eComma, Parts, no_parts, parts_and, Words, no_words, words_and, Word, wType, wStorage, wConst, wExtension, wAttribute, wTypedef, wTag, wEnum, wTagEnum, Ens, no_enumerators, plain_and, valued_and, Name, named, Params, no_params, params_and, Parameters, pUnknown, pVoid, pSome, Form, fPlain, fArray, fFunction, Initial, iNothing, iValue, iList, Decs, no_declarators, declarators_and, Declaration, declares, Head, head, ForStart, forDeclares, forExpr, ForHead, for_head, St, sDeclaration, sBlock, sEmpty, sExpr, sIf, sIfElse, sWhile, sSwitch, sDo, sFor, sCase, sDefault, sLabel, sGoto, sBreak, sContinue, sReturn, Sts, no_statements, statements_and, Body, bBlock, bSkipped, Item, tSkipped, tFunction, tDeclaration, tEmpty, Items, no_items, items_and}
-use Rattle.parse_machine.specs.Tokens.{Prefix, prefix_of, Suffix, suffix_of, spec_of, SpecKind, spTypedef, spOther, start_of, is_else, Skip, skipOn, skipClose, skipEnd, skip_of, is_awaited}
-use Rattle.parse_machine.specs.Contexts.{Tall, Part, Spoken, Bind, bBinary, bPrefix, bCast, bAssign, bElse, bComma, Opened, oParen, oIndex, oArgument, oThen, Test, testIf, testWhile, testSwitch, Wrap, wThen, wElse, wWhile, wSwitch, wFor, wCase, wDefault, wLabel, Header, Outer, outBody, outBlock, outDo, outWrap, Place, placeFile, placeBlock, placeFor, Declaring, Declared, EnumHead, headBare, headTagged, Base, baseStatement, baseTest, baseDo, baseReturn, baseCase, baseStart, baseMore, baseStep, baseLength, baseInitial, basePart, Inner, inBase, inBind, inOpen, inConstant, Around, aroundCast, aroundSizeof, aroundParameter, aroundPlace, Listing, Attributed, onWords, onDeclared, onLabel, Fork, forkCast, forkSizeof, forkBlock, forkFor, Waiting, waitTest, waitWhile, waitDo, waitDone, waitFor, waitDefault, waitGoto, waitBreak, waitContinue, waitVoid, waitList, waitAttribute, Mode, File, Ended, Specifiers, Enumeration, Tagged, Constant, Named, Attribute, Next, Behind, Listed, Parameters', Parameter, Skipped, Begin, Wait, Either, Goto, Operand, Maybe, Sizeof, Value, Label, Whole, Finished}
+use Rattle.c_tree.specs.Words.{is_typed, nothing_known}
+use Rattle.c_tree.specs.Tree.{Raw, no_raw, raw_and, attribute, Ats, no_attributes, attributes_and, Words, no_words, words_and, Word, wType, wStorage, wConst, wExtension, wAttribute, wTypedef, wTag, wEnum, wTagEnum, named, Parameters, fFunction, Decs, no_declarators, declares, no_statements, Body, bBlock, bSkipped, Item, tSkipped, tFunction, tDeclaration, tEmpty}
+use Rattle.parse_machine.specs.Tokens.{skipOn, skip_of}
+use Rattle.parse_machine.specs.Contexts.{Spoken, Header, outBody, placeFile, aroundPlace, onDeclared, Mode, File, Ended, Specifiers, Behind, Skipped, Begin}
 use Rattle.parse_machine.specs.Making as mk
 use Rattle.parse_machine.specs.Making.{above, tall, part, bound, bind_level}
-use Rattle.parse_machine.specs.Heights as ht
-use Rattle.parse_machine.specs.Heights.{least, high, around_high, low, depth, is_list}
 use Rattle.parse_laws.proofs.Before as b
-use Rattle.parse_laws.proofs.Fits.{wrap_names, scope, place_names, declaring_names, declared_names, base_names, inner_names, around_names, listing_names, attributed_names, fork_names, waiting_names, names_of, FitPart, FitSpoken, FitNamed, FitWrap, FitHeader, FitForm, IsArray, FitOuter, FitPlace, FitDeclaring, FitDeclared, FitFunction, FitBase, FitBind, FitOpened, FitHead, FitInner, FitAround, FitListing, FitWords, FitAttributed, FitFork, FitWaiting, Stands, FitItem, Fit}
-use Rattle.parse_laws.proofs.Parts.{high_ge, around_ge, above_ge, parameters_ge, declared_ge, level_le, operand_le, least_le, part_real, part_fits, part_spells, several, comma_some, GoodHeld, fold_good}
-use Rattle.parse_machine.specs.Expressions as ex
 use Rattle.c_tree.specs.Height as hg
 use Rattle.c_tree.specs.Height.{height, height_parts, height_words}
 use Rattle.parse_machine.specs.Declarations as decl
 use Rattle.parse_machine.specs.Declarations.{Turn, turn, kept}
 use Rattle.parse_machine.specs.Steps as steps
 use Rattle.parse_machine.specs.Statements as stt
-use Rattle.parse_machine.specs.Specifiers as sp
-use Rattle.parse_laws.proofs.Walk.{limit, move, walk, stand, if_true, if_false, low_stands, go, when_true, and_true, above_is, above_mono, high_mono, around_mono, lower, whole, part_whole, height_some, opened, opened_parts, valued, pull, pull_near, pull_of, refold, fold_opened, Stays, fold_stays, stays_of, opened_postfix, operand_ge, pull_one, parameters_mono, declared_mono, declarator_mono}
-use Rattle.parse_laws.proofs.First.{Begins', Alike, first, first_maybe, binds_more, fork_low_first, first_fork}
+use Rattle.parse_laws.proofs.Walk.{walk, stand, go, above_is}
 use Rattle.c_tree.specs.Height.{height_word, height_enumerators}
-use Rattle.parse_machine.specs.Tokens as tok
-use Rattle.parse_laws.proofs.ReadEx.{NoOpen, worded, some_same, Before', known_before, tagged_reads, some_nat, attribute_reads, list_at, behind_constant, first_sizeof, paren_opens, prefix_opens, folded, level_ge, operator, argument, sequence_is, stays_low}
-use Rattle.std.specs.Option.{option_map, option_and_then}
-use Rattle.parse_laws.proofs.WholeEx.{arg_high, pair_high, one_high, under, exts, fork_mode, fork_typed, word_no_open, fork_words, reads, reads_word, value_is, several_not, some_not}
-use Rattle.parse_laws.proofs.ReadDecl.{words_read, told_of, parameters_read}
-use Rattle.parse_laws.proofs.ReadDecs.{so_far, entire, declared_low, attributes_read, form_read, behind_initial, initial_read, with_height, may_attribute, array_object, and_left, and_right}
+use Rattle.parse_laws.proofs.ReadEx.{worded, some_same, attribute_reads}
+use Rattle.parse_laws.proofs.ReadDecl.{words_read, parameters_read}
+use Rattle.parse_laws.proofs.ReadDecs.{so_far, entire}
 use Rattle.parse_laws.proofs.ReadDeclaration.{declared_read, first_name}
-use Rattle.parse_laws.proofs.Scopes.{left_block, left_for}
+use Rattle.parse_laws.proofs.Scopes.{left_block}
 use Rattle.c_tree.specs.Height.{height_statement, height_statements}
-use Rattle.parse_laws.proofs.ReadSt.{Left, left, left_open, ended_left, settle_left, else_left, settles, goes_on, Heads, NoElse, heads_no_else, st_heads, st_no_else, label_token, block_next, do_next, begin_reads, begin_typed, decs_no_open, fold_end, head_read, for_head_read, typed_no_else}
-use Rattle.parse_laws.proofs.WholeSt.{statement_read, statements_read, List'}
+use Rattle.parse_laws.proofs.ReadSt.{decs_no_open}
+use Rattle.parse_laws.proofs.WholeSt.{statements_read}
 
 file_token : (ns : List (List ℕ)) (x : Word) (rest : List Sign) → walk (spell_word x rest) (stand File ns) ≡ walk (spell_word x rest) (stand (Specifiers mk.unspoken (aroundPlace placeFile)) ns)
 file_token ns (wType x at) rest = refl

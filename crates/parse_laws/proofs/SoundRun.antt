@@ -1,60 +1,34 @@
 -- The whole machine: what it answers is shaped, and spells the tokens.
-use Rattle.std.proofs.Common.{◌≡◌, ℕ, zero, suc, ◌≤◌, ◌<◌, ◌+◌, max, List, [], ◌∷◌, ◌++◌, length, take, Option, None, Some, Bool, true, false, ◌&&◌, ◌||◌, not, if◌then◌else◌, leb, refl, subst, sym, ap, ◌∙◌, arith, le-leb, leb-false, leb-true, le_trans, le_refl}
-use Rattle.c_tree.specs.declared.symbol.BinaryOp.{BinaryOp}
-use Rattle.c_tree.specs.declared.symbol.BinaryOp.TheVariants as op
-use Rattle.c_tree.specs.declared.symbol.AssignOp.{AssignOp}
-use Rattle.c_tree.specs.declared.symbol.AssignOp.TheVariants as to
-use Rattle.c_tree.specs.declared.symbol.Crement.{Crement}
-use Rattle.c_tree.specs.declared.symbol.Crement.TheVariants as cr
-use Rattle.c_tree.specs.declared.symbol.Bracket.{Bracket}
-use Rattle.c_tree.specs.declared.symbol.Bracket.TheVariants as br
-use Rattle.c_tree.specs.declared.symbol.TypeWord.TheVariants as type
+use Rattle.std.proofs.Common.{◌≡◌, ℕ, ◌≤◌, List, [], ◌∷◌, ◌++◌, Option, None, Some, Bool, true, false, ◌&&◌, ◌||◌, not, if◌then◌else◌, leb, refl, subst, sym, ap, ◌∙◌, arith, leb-true}
 use Rattle.c_tree.specs.declared.symbol.StorageWord.TheVariants as storage
-use Rattle.c_tree.specs.declared.symbol.StatementWord.{StatementWord}
-use Rattle.c_tree.specs.declared.symbol.StatementWord.TheVariants as key
-use Rattle.c_tree.specs.declared.symbol.AttributeWord.{AttributeWord}
 use Rattle.c_tree.specs.declared.symbol.Symbol.{Symbol}
 use Rattle.c_tree.specs.declared.symbol.Symbol.TheVariants as sy
 use Rattle.c_tree.specs.declared.symbol.Sign.{Sign}
-use Rattle.c_tree.specs.declared.tree.PrefixOp.{PrefixOp}
-use Rattle.c_tree.specs.declared.tree.PrefixOp.TheVariants as pre
-use Rattle.c_tree.specs.declared.known.Site.{Site}
 use Rattle.c_tree.specs.declared.known.Site.TheVariants as site
 use Rattle.c_tree.specs.declared.known.Known.{Known}
 use Rattle.c_tree.specs.Symbols.{sign}
-use Rattle.c_tree.specs.Spelling.{level, operand_level, level_of, opening, closing, word, comma, prefix_symbol, spell, spell_parts, spell_words, spell_word, spell_enumerators, spell_raw, spell_attribute, spell_attributes, spell_option, spell_name, spell_option_name, spell_params, spell_parameters, spell_form, spell_initial, spell_declarators, spell_declaration, spell_head, spell_for_start, spell_for_head, spell_statement, spell_statements, spell_body, spell_item, spell_items}
+use Rattle.c_tree.specs.Spelling.{spell_words, spell_raw, spell_item, spell_items}
 use Rattle.c_tree.specs.Shape as sh
-use Rattle.c_tree.specs.Words.{known, with_word, with_type, with_storage, with_named, is_typed, is_typedef, is_void, nothing_known}
-use Rattle.c_tree.specs.Tree.{Raw, no_raw, raw_and, At, attribute, Ats, no_attributes, attributes_and, Ex, eName, eNumber, eLetter, eParen, eCall, eIndex, ePostfix, ePrefix, eSizeof, eCast, eBinary, eCond, eAssign, eComma, Parts, no_parts, parts_and, Words, no_words, words_and, Word, wType, wStorage, wConst, wExtension, wAttribute, wTypedef, wTag, wEnum, wTagEnum, Ens, no_enumerators, plain_and, valued_and, Name, named, Params, no_params, params_and, Parameters, pUnknown, pVoid, pSome, Form, fPlain, fArray, fFunction, Initial, iNothing, iValue, iList, Decs, no_declarators, declarators_and, Declaration, declares, Head, head, ForStart, forDeclares, forExpr, ForHead, for_head, St, sDeclaration, sBlock, sEmpty, sExpr, sIf, sIfElse, sWhile, sSwitch, sDo, sFor, sCase, sDefault, sLabel, sGoto, sBreak, sContinue, sReturn, Sts, no_statements, statements_and, Body, bBlock, bSkipped, Item, tSkipped, tFunction, tDeclaration, tEmpty, Items, no_items, items_and}
+use Rattle.c_tree.specs.Words.{known, nothing_known}
+use Rattle.c_tree.specs.Tree.{Raw, no_raw, raw_and, Words, no_words, words_and, wExtension, Item, tSkipped, tFunction, tDeclaration, tEmpty, Items}
 use Rattle.parse_machine.specs.Tokens.{Prefix, prefix_of, Suffix, suffix_of, spec_of, SpecKind, spTypedef, spOther, start_of, is_else, Skip, skipOn, skipClose, skipEnd, skip_of, is_awaited}
-use Rattle.parse_machine.specs.Contexts.{Tall, Part, Spoken, Bind, bBinary, bPrefix, bCast, bAssign, bElse, bComma, Opened, oParen, oIndex, oArgument, oThen, Test, testIf, testWhile, testSwitch, Wrap, wThen, wElse, wWhile, wSwitch, wFor, wCase, wDefault, wLabel, Header, Outer, outBody, outBlock, outDo, outWrap, Place, placeFile, placeBlock, placeFor, Declaring, Declared, EnumHead, headBare, headTagged, Base, baseStatement, baseTest, baseDo, baseReturn, baseCase, baseStart, baseMore, baseStep, baseLength, baseInitial, basePart, Inner, inBase, inBind, inOpen, inConstant, Around, aroundCast, aroundSizeof, aroundParameter, aroundPlace, Listing, Attributed, onWords, onDeclared, onLabel, Fork, forkCast, forkSizeof, forkBlock, forkFor, Waiting, waitTest, waitWhile, waitDo, waitDone, waitFor, waitDefault, waitGoto, waitBreak, waitContinue, waitVoid, waitList, waitAttribute, Mode, File, Ended, Specifiers, Enumeration, Tagged, Constant, Named, Attribute, Next, Behind, Listed, Parameters', Parameter, Skipped, Begin, Wait, Either, Goto, Operand, Maybe, Sizeof, Value, Label, Whole, Finished}
+use Rattle.parse_machine.specs.Contexts.{Spoken, placeFile, aroundPlace, Mode, File, Ended, Specifiers, Finished}
 use Rattle.parse_machine.specs.Making as mk
 use Rattle.parse_machine.specs.Making.{above, tall, part, bound, bind_level}
-use Rattle.parse_machine.specs.Heights as ht
-use Rattle.parse_machine.specs.Heights.{least, high, around_high, low, depth, is_list}
-use Rattle.parse_laws.proofs.Before as b
-use Rattle.parse_laws.proofs.Fits.{wrap_names, scope, place_names, declaring_names, declared_names, base_names, inner_names, around_names, listing_names, attributed_names, fork_names, waiting_names, names_of, FitPart, FitSpoken, FitNamed, FitWrap, FitHeader, FitForm, IsArray, FitOuter, FitPlace, FitDeclaring, FitDeclared, FitFunction, FitBase, FitBind, FitOpened, FitHead, FitInner, FitAround, FitListing, FitWords, FitAttributed, FitFork, FitWaiting, Stands, FitItem, Fit}
-use Rattle.parse_laws.proofs.Parts.{high_ge, around_ge, above_ge, parameters_ge, declared_ge, level_le, operand_le, least_le, part_real, part_fits, part_spells, several, comma_some, GoodHeld, fold_good}
-use Rattle.parse_machine.specs.Expressions as ex
-use Rattle.parse_laws.proofs.Good.{Reads, reads_on, GoodMode, GoodTurn, kept_good, same_mode, same_turn, tested, guarded, not_true, not_false, both_left, both_right, value_made}
-use Rattle.parse_machine.specs.Declarations as decl
-use Rattle.parse_laws.proofs.SoundEx.{operand_good, sizeof_good, binary_good, assign_good, question_good, comma_good, colon_good, parts_more, valued_fits, may_list, may_value, with_initial_fits, object_with_names, no_typedef, no_void}
+use Rattle.parse_machine.specs.Heights.{high, low}
+use Rattle.parse_laws.proofs.Fits.{names_of, FitItem, Fit}
+use Rattle.parse_laws.proofs.Good.{Reads, GoodTurn, same_turn}
 use Rattle.parse_machine.specs.Specifiers as sp
-use Rattle.parse_laws.proofs.SoundEnds.{ended_good, formed_reads, with_form_fits, enumerated_good, listed_good, value_good, comma_not_empty, maybe_good}
-use Rattle.parse_laws.proofs.SoundSpecs.{known_more, said_fits, NameFree, parameters_end_good, parameters_more_good, specs_good, enumeration_good, tagged_good, constant_good, named_good}
-use Rattle.parse_machine.specs.Declarations.{Turn, turn, kept}
-use Rattle.parse_machine.specs.Statements as stt
+use Rattle.parse_machine.specs.Declarations.{Turn, kept}
 use Rattle.parse_machine.specs.Tokens.{Awaited, awaitOpen, awaitClose, awaitSemicolon, awaitColon, awaitWhile}
-use Rattle.parse_laws.proofs.SoundDecls.{behind_declared_good, next_declared_good, listed_declared_good, parameters_good, parameter_good}
 use Rattle.parse_machine.specs.Steps as steps
-use Rattle.parse_laws.proofs.SoundSt.{either_good, function_fits, begin_good, goto_good, label_behind_good, wait_good, whole_good}
 use Rattle.parse_machine.specs.Machine as ma
 use Rattle.parse_machine.specs.Machine.{Phase, Plain, Both, Skipping, Above, State, Extern, Answer, Goes, Refused, High, Result, Tree, Syntax, Unsupported, TooHigh, Course, Going, Over, Role, listedRole, semicolonRole, stopRole, otherRole}
 use Rattle.parse_machine.specs.Tokens as tok
 use Rattle.std.proofs.Common.{◌⊎◌, inl, inr}
 use Rattle.std.proofs.lemmas.List.{append-nil}
 use Rattle.c_tree.specs.Spelling.{extension}
-use Rattle.c_tree.specs.Denotes.{IsSpelled, spelling}
+use Rattle.c_tree.specs.Denotes.{IsSpelled}
 use Rattle.parse_laws.proofs.SoundSteps.{next_good}
 use Rattle.parse_laws.proofs.Externs.{Out, OutTurn, extern_out, next_out}
 use Rattle.c_tree.specs.declared.known.Storage.TheVariants as sto
@@ -259,8 +233,8 @@ settled_at p is here (Some w) false s e u h = λ l. let y = h refl l in record {
 settled_good : (p : Reader) (is : Items) (names : List (List ℕ)) (here : Reader) (x : Extern) (m : Option Mode) (high : Bool) (t : Sign) → sh.ShapedItems is → ((r : List Sign) → spell_items is (here r) ≡ p r) → GoodPhase (sh.file_names is) names here (Both x m high) → sh.is_stop t.symbol ≡ true → GoodNext (λ r. p (t ∷ r)) (ma.settled high is (ma.go names t m))
 settled_good p is names here x m high t s e g k =
     settled_at (λ r. p (t ∷ r)) is (λ r. here (t ∷ r)) (ma.go names t m) high s (λ r. e (t ∷ r))
-      (λ r. ap sh.is_unlisted (sym (g.0.tokens (t ∷ r))) ∙ extern_unlisted x.extension x.at _ (raw_unlisted x.raw (t ∷ r) g.1 g.0.no_stop (stop_ends t r k)))
-      (λ h. go_reads (sh.file_names is) names t m high here g.2 h)
+    (λ r. ap sh.is_unlisted (sym (g.0.tokens (t ∷ r))) ∙ extern_unlisted x.extension x.at _ (raw_unlisted x.raw (t ∷ r) g.1 g.0.no_stop (stop_ends t r k)))
+    (λ h. go_reads (sh.file_names is) names t m high here g.2 h)
 
 -- one token more beside
 both_state : (p : Reader) (is : Items) (names : List (List ℕ)) (here : Reader) (x : Extern) (high : Bool) (o : Option Turn) → sh.ShapedItems is → ((r : List Sign) → spell_items is (here r) ≡ p r) → GoodExtern (sh.file_names is) names here x → sh.has_listed x.raw ≡ false → OutTurn names o → (high ≡ false → GoodTurn (sh.file_names is) here o) → GoodNext p (Some (ma.both is names x high o))
@@ -269,11 +243,18 @@ both_state p is names here x high (Some u) s e g n w h = λ l. record {
   shaped = s;
   here = here;
   split = e;
-  phase = (record { tokens = g.tokens; outside = w.0 ∙ g.outside; no_stop = g.no_stop }, n, (w.1, λ k.
-    let z = either_false high (not (leb (low u.mode) 200)) k in
-    let q = low_not_high (low u.mode) z.1 in
-    let y = h z.0 q in
-    record { low = q; names_are = y.0; fits = y.1; reads = y.2 }));
+  phase = (
+    record { tokens = g.tokens; outside = w.0 ∙ g.outside; no_stop = g.no_stop },
+    n,
+    (
+      w.1,
+      λ k.
+          let z = either_false high (not (leb (low u.mode) 200)) k in
+          let q = low_not_high (low u.mode) z.1 in
+          let y = h z.0 q in
+          record { low = q; names_are = y.0; fits = y.1; reads = y.2 },
+    ),
+  );
 }
 
 both_pick : (p : Reader) (is : Items) (names : List (List ℕ)) (here : Reader) (x : Extern) (m : Option Mode) (high : Bool) (t : Sign) (c d : Bool) → sh.is_stop t.symbol ≡ c → sh.is_listed t.symbol ≡ d → sh.ShapedItems is → ((r : List Sign) → spell_items is (here r) ≡ p r) → GoodPhase (sh.file_names is) names here (Both x m high) → GoodNext (λ r. p (t ∷ r)) (ma.step_both (if c then stopRole else (if d then listedRole else otherRole)) is names t x m high)
@@ -282,7 +263,7 @@ both_pick p is names here x m high t false true k n s e g = λ l.
     record { shaped = s; here = λ r. here (t ∷ r); split = λ r. e (t ∷ r); phase = (extern_more (sh.file_names is) names here x t g.0 k, ap (λ q. q || sh.has_listed x.raw) n) }
 both_pick p is names here x m high t false false k n s e g =
     both_state (λ r. p (t ∷ r)) is names (λ r. here (t ∷ r)) (ma.more x t) high (ma.go names t m) s (λ r. e (t ∷ r)) (extern_more (sh.file_names is) names here x t g.0 k) (ap (λ q. q || sh.has_listed x.raw) n ∙ g.1)
-      (go_out (sh.file_names is) names t m high here g.2 k) (λ h. go_reads (sh.file_names is) names t m high here g.2 h)
+    (go_out (sh.file_names is) names t m high here g.2 k) (λ h. go_reads (sh.file_names is) names t m high here g.2 h)
 
 both_good : (p : Reader) (is : Items) (names : List (List ℕ)) (here : Reader) (x : Extern) (m : Option Mode) (high : Bool) (t : Symbol) (at : ℕ) → sh.ShapedItems is → ((r : List Sign) → spell_items is (here r) ≡ p r) → GoodPhase (sh.file_names is) names here (Both x m high) → GoodNext (λ r. p (sign t at ∷ r)) (ma.step_both (ma.role t) is names (sign t at) x m high)
 both_good p is names here x m high sy.Semicolon at s e g = settled_good p is names here x m high (sign sy.Semicolon at) s e g refl
@@ -327,8 +308,8 @@ plain_step p is names here t m None k s e g =
 plain_step p is names here t m (Some x) k s e g =
     let q = opened_at (sh.file_names is) t.symbol t.at m here x g.3 k in
     both_state (λ r. p (t ∷ r)) is names (λ r. here (t ∷ r)) x false (steps.next names t m) s (λ r. e (t ∷ r))
-      (record { tokens = λ r. q.0.tokens r ∙ ap (λ z. here (sign z t.at ∷ r)) (sym q.1); outside = g.1 ∙ q.0.outside; no_stop = ap sh.has_stop q.0.raw }) (ap sh.has_listed q.0.raw)
-      (opened_out (sh.file_names is) names t.symbol t.at m x g.2 k) (λ h. next_reads (sh.file_names is) names t m here g.1 g.2 g.0 g.3)
+    (record { tokens = λ r. q.0.tokens r ∙ ap (λ z. here (sign z t.at ∷ r)) (sym q.1); outside = g.1 ∙ q.0.outside; no_stop = ap sh.has_stop q.0.raw }) (ap sh.has_listed q.0.raw)
+    (opened_out (sh.file_names is) names t.symbol t.at m x g.2 k) (λ h. next_reads (sh.file_names is) names t m here g.1 g.2 g.0 g.3)
 
 phase_good : (p : Reader) (is : Items) (names : List (List ℕ)) (here : Reader) (t : Sign) (x : Phase) → sh.ShapedItems is → ((r : List Sign) → spell_items is (here r) ≡ p r) → GoodPhase (sh.file_names is) names here x → GoodNext (λ r. p (t ∷ r)) (ma.step_phase is names t x)
 phase_good p is names here t (Plain m) s e g = plain_step p is names here t m (ma.opens t.symbol t.at m) refl s e g

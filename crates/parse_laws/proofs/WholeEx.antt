@@ -202,10 +202,10 @@ constants_comma (valued_and es d n x a e) w s h ns None t v g o i l rest = absur
 constants_comma (valued_and es d n x a e) w s h ns (Some at) t v g o i l rest =
     let u : height e ≤ 200 = omega (arith, i, wide_under w s.height g l) in
     go (sign sy.Comma at) rest (valued (opened e (inConstant w s h (tall es (height_enumerators es)) d n x a))) (Constant (list_at w s h (valued_and es d n x a e) (Some at))) ns ns
-      (ap (λ z. kept ns (ex.step_held tok.sufComma at z)) (constant_folds ns e 1 w s h (tall es (height_enumerators es)) d n x a v.1 v.0 (omega arith) u)
-       ∙ ap (kept ns) (when_true (leb 2 (level_of e)) (Constant (mk.listing w s h (tall (valued_and es d n x a e) (max (height_enumerators es) (above (height e)))) (Some at))) (le-leb _ _ v.0))
-       ∙ ap (λ z. stand (Constant (mk.listing w s h z (Some at))) ns) (valued_same es d n x a e u))
-      (listed_low w s (valued_and es d n x a e) g o i l)
+    (ap (λ z. kept ns (ex.step_held tok.sufComma at z)) (constant_folds ns e 1 w s h (tall es (height_enumerators es)) d n x a v.1 v.0 (omega arith) u)
+    ∙ ap (kept ns) (when_true (leb 2 (level_of e)) (Constant (mk.listing w s h (tall (valued_and es d n x a e) (max (height_enumerators es) (above (height e)))) (Some at))) (le-leb _ _ v.0))
+    ∙ ap (λ z. stand (Constant (mk.listing w s h z (Some at))) ns) (valued_same es d n x a e u))
+    (listed_low w s (valued_and es d n x a e) g o i l)
 
 enum_ends : (w : Around) (s : Spoken) (h : EnumHead) (es : Ens) (c : Option ℕ) (b0 : ℕ) (ns : List (List ℕ)) → height_enumerators es ≤ 200 → stand (Specifiers (mk.said s s.told (mk.enumeration h es c b0) (above (height_enumerators es))) w) ns ≡ stand (Specifiers (mk.said s s.told (mk.enumeration h es c b0) (suc (height_enumerators es))) w) ns
 enum_ends w s h es c b0 ns i = ap (λ z. stand (Specifiers (mk.said s s.told (mk.enumeration h es c b0) z) w) ns) (above_is (height_enumerators es) i)
@@ -224,10 +224,10 @@ constants_close (valued_and es d n x a e0) w s h ns None b0 e v l rest =
     let u = wide_under w s.height (height_enumerators (valued_and es d n x a e0)) l in
     let y : height e0 ≤ 200 = omega (arith, u) in
     go (closing br.Curly b0) rest (valued (opened e0 (inConstant w s h (tall es (height_enumerators es)) d n x a))) (Specifiers (mk.said s s.told (mk.enumeration h (valued_and es d n x a e0) None b0) (suc (max (height_enumerators es) (suc (height e0))))) w) ns ns
-      (ap (λ z. kept ns (ex.step_held (tok.sufClose br.Curly) b0 z)) (constant_folds ns e0 0 w s h (tall es (height_enumerators es)) d n x a v.1 v.0 (omega arith) y)
-       ∙ ap (kept ns) (when_true (leb 2 (level_of e0)) (ex.enumerated (list_at w s h es d) (tall (valued_and es d n x a e0) (max (height_enumerators es) (above (height e0)))) None b0) (le-leb _ _ v.0))
-       ∙ ap (λ z. stand (ex.enumerated (list_at w s h es d) z None b0) ns) (valued_same es d n x a e0 y)
-       ∙ enum_ends w s h (valued_and es d n x a e0) None b0 ns (omega (arith, u))) l
+    (ap (λ z. kept ns (ex.step_held (tok.sufClose br.Curly) b0 z)) (constant_folds ns e0 0 w s h (tall es (height_enumerators es)) d n x a v.1 v.0 (omega arith) y)
+    ∙ ap (kept ns) (when_true (leb 2 (level_of e0)) (ex.enumerated (list_at w s h es d) (tall (valued_and es d n x a e0) (max (height_enumerators es) (above (height e0)))) None b0) (le-leb _ _ v.0))
+    ∙ ap (λ z. stand (ex.enumerated (list_at w s h es d) z None b0) ns) (valued_same es d n x a e0 y)
+    ∙ enum_ends w s h (valued_and es d n x a e0) None b0 ns (omega (arith, u))) l
 
 mutual
   pub reads : (e : Ex) (k : Inner) (ns : List (List ℕ)) → sh.Shaped ns e → least k ≤ level_of e → high k (height e) ≤ 200 → (rest : List Sign) → walk (spell e rest) (stand (Operand k) ns) ≡ walk rest (stand (valued (opened e k)) ns)
@@ -240,8 +240,8 @@ mutual
       paren_opens ns a k e (leb (least k) 13) refl s i (closing br.Round c ∷ rest)
       ∙ reads e q ns s (omega arith) i (closing br.Round c ∷ rest)
       ∙ go (closing br.Round c) rest (valued (opened e q)) (Value (whole (eParen a e c)) k) ns ns
-          (ap (λ x. kept ns (ex.step_held (tok.sufClose br.Round) c x)) (folded ns e q 0 s (omega arith) (omega arith) i tt)
-           ∙ value_is ns k 15 (above (height e)) (eParen a e c) refl (above_is (height e) (under k (height e) h)) (le_trans (high_ge k (suc (height e))) h)) h
+      (ap (λ x. kept ns (ex.step_held (tok.sufClose br.Round) c x)) (folded ns e q 0 s (omega arith) (omega arith) i tt)
+      ∙ value_is ns k 15 (above (height e)) (eParen a e c) refl (above_is (height e) (under k (height e) h)) (le_trans (high_ge k (suc (height e))) h)) h
   reads (eCall f a es c) k ns s l h rest =
       let m : high k (above (max (max (height f) 0) 0)) ≤ 200 = lower k (above (max (max (height f) 0) 0)) (suc (max (height f) (height_parts es))) h (omega (arith, above_is (max (max (height f) 0) 0) (omega (arith, under k (max (height f) (height_parts es)) h)))) in
       reads f k ns s.1 (omega (arith, least_le k, s.0)) (lower k (height f) (suc (max (height f) (height_parts es))) h (omega arith)) (opening br.Round a ∷ spell_parts es (closing br.Round c ∷ rest))
@@ -256,14 +256,14 @@ mutual
       ∙ go (opening br.Square x) (spell i (closing br.Square y ∷ rest)) (Value (whole f) k) (Operand q) ns ns (ap (kept ns) (if_true (leb 15 (level_of f)) (Some (Operand q)) None (le-leb _ _ s.0))) (lower q 1 (height i) j (height_some i))
       ∙ reads i q ns s.2 (omega arith) j (closing br.Square y ∷ rest)
       ∙ go (closing br.Square y) rest (valued (opened i q)) (Value (whole (eIndex f x i y)) k) ns ns
-          (ap (λ z. kept ns (ex.step_held (tok.sufClose br.Square) y z)) (folded ns i q 0 s.2 (omega arith) (omega arith) j tt)
-           ∙ value_is ns k 15 (above (max (height f) (height i))) (eIndex f x i y) refl (above_is (max (height f) (height i)) (under k (max (height f) (height i)) h)) (le_trans (high_ge k (suc (max (height f) (height i)))) h)) h
+      (ap (λ z. kept ns (ex.step_held (tok.sufClose br.Square) y z)) (folded ns i q 0 s.2 (omega arith) (omega arith) j tt)
+      ∙ value_is ns k 15 (above (max (height f) (height i))) (eIndex f x i y) refl (above_is (max (height f) (height i)) (under k (max (height f) (height i)) h)) (le_trans (high_ge k (suc (max (height f) (height i)))) h)) h
   reads (ePostfix e c at) k ns s l h rest =
       reads e k ns s.1 (omega (arith, least_le k, s.0)) (lower k (height e) (suc (height e)) h (omega arith)) (sign (sy.Crement c) at ∷ rest)
       ∙ ap (λ z. walk (sign (sy.Crement c) at ∷ rest) (stand (valued z) ns)) (opened_postfix e k s.0)
       ∙ go (sign (sy.Crement c) at) rest (Value (whole e) k) (Value (whole (ePostfix e c at)) k) ns ns
-          (ap (kept ns) (if_true (leb 15 (level_of e)) (Some (Value (part 15 (above (height e)) (ePostfix e c at)) k)) None (le-leb _ _ s.0))
-           ∙ value_is ns k 15 (above (height e)) (ePostfix e c at) refl (above_is (height e) (under k (height e) h)) (le_trans (high_ge k (suc (height e))) h)) h
+      (ap (kept ns) (if_true (leb 15 (level_of e)) (Some (Value (part 15 (above (height e)) (ePostfix e c at)) k)) None (le-leb _ _ s.0))
+      ∙ value_is ns k 15 (above (height e)) (ePostfix e c at) refl (above_is (height e) (under k (height e) h)) (le_trans (high_ge k (suc (height e))) h)) h
   reads (ePrefix o at e) k ns s l h rest =
       let q = inBind (bPrefix o at) k in
       let i : high q (height e) ≤ 200 = one_high k (height e) h in
@@ -275,8 +275,8 @@ mutual
       ∙ fork_words ws (forkSizeof at a k) ns s.0.told s.0.together s.1 i (λ ats. lower k 2 (suc (suc (height_words ws))) h (omega arith)) (closing br.Round c ∷ rest) refl
       ∙ ap (λ m. walk (closing br.Round c ∷ rest) (stand m ns)) (fork_typed ws s.0.told (forkSizeof at a k) s.0.together s.0.typed)
       ∙ go (closing br.Round c) rest (Specifiers (worded ws s.0.told) (aroundSizeof at a k)) (Value (whole (eSizeof at a ws c)) k) ns ns
-          (ap (kept ns) (if_true (is_typed s.0.told.typing) (sp.behind_words (sy.Close br.Round) c (worded ws s.0.told) (aroundSizeof at a k)) None s.0.typed)
-           ∙ value_is ns k 14 (above (above (height_words ws))) (eSizeof at a ws c) refl (ap above (above_is (height_words ws) (omega (arith, high_ge k (suc (suc (height_words ws))), h))) ∙ above_is (suc (height_words ws)) (under k (suc (height_words ws)) h)) (le_trans (high_ge k (suc (suc (height_words ws)))) h)) h
+      (ap (kept ns) (if_true (is_typed s.0.told.typing) (sp.behind_words (sy.Close br.Round) c (worded ws s.0.told) (aroundSizeof at a k)) None s.0.typed)
+      ∙ value_is ns k 14 (above (above (height_words ws))) (eSizeof at a ws c) refl (ap above (above_is (height_words ws) (omega (arith, high_ge k (suc (suc (height_words ws))), h))) ∙ above_is (suc (height_words ws)) (under k (suc (height_words ws)) h)) (le_trans (high_ge k (suc (suc (height_words ws)))) h)) h
   reads (eCast a ws c e) k ns s l h rest =
       let u : max (suc (height_words ws)) (height e) ≤ 200 = under k (max (suc (height_words ws)) (height e)) h in
       let v : above (height_words ws) ≡ suc (height_words ws) = above_is (height_words ws) (omega (arith, u)) in
@@ -287,7 +287,7 @@ mutual
       ∙ fork_words ws (forkCast a k) ns s.1.told s.1.together s.2 i (λ ats. lower k 2 (suc (max (suc (height_words ws)) (height e))) h (omega arith)) (closing br.Round c ∷ spell e rest) refl
       ∙ ap (λ m. walk (closing br.Round c ∷ spell e rest) (stand m ns)) (fork_typed ws s.1.told (forkCast a k) s.1.together s.1.typed)
       ∙ go (closing br.Round c) (spell e rest) (Specifiers (worded ws s.1.told) (aroundCast a k)) (Operand q) ns ns
-          (ap (kept ns) (if_true (is_typed s.1.told.typing) (sp.behind_words (sy.Close br.Round) c (worded ws s.1.told) (aroundCast a k)) None s.1.typed)) (lower q 1 (height e) j (height_some e))
+      (ap (kept ns) (if_true (is_typed s.1.told.typing) (sp.behind_words (sy.Close br.Round) c (worded ws s.1.told) (aroundCast a k)) None s.1.typed)) (lower q 1 (height e) j (height_some e))
       ∙ reads e q ns s.3 s.0 j rest
   reads (eBinary a o at c) k ns s l h rest =
       let q = inBind (bBinary (whole a) o at) k in
@@ -305,8 +305,8 @@ mutual
       let m : high r (height d) ≤ 200 = one_high k (max (max (height c) (height a)) (height d)) h in
       reads c k ns s.2 (omega (arith, l, s.0)) i (sign sy.Question x ∷ spell a (sign sy.Colon y ∷ spell d rest))
       ∙ go (sign sy.Question x) (spell a (sign sy.Colon y ∷ spell d rest)) (valued (opened c k)) (Operand q) ns ns
-          (ap (λ z. kept ns (ex.step_held tok.sufQuestion x z)) (folded ns c k 2 s.2 (omega (arith, pull_near c, s.0)) (omega arith) i (stays_of k 2 l (omega arith) (omega arith)))
-           ∙ ap (kept ns) (when_true _ (Operand q) (and_true (leb (least k) 2) (leb 3 (level_of c)) (le-leb _ _ l) (le-leb _ _ s.0)))) (lower q 1 (height a) j (height_some a))
+      (ap (λ z. kept ns (ex.step_held tok.sufQuestion x z)) (folded ns c k 2 s.2 (omega (arith, pull_near c, s.0)) (omega arith) i (stays_of k 2 l (omega arith) (omega arith)))
+      ∙ ap (kept ns) (when_true _ (Operand q) (and_true (leb (least k) 2) (leb 3 (level_of c)) (le-leb _ _ l) (le-leb _ _ s.0)))) (lower q 1 (height a) j (height_some a))
       ∙ reads a q ns s.3 (omega arith) j (sign sy.Colon y ∷ spell d rest)
       ∙ go (sign sy.Colon y) (spell d rest) (valued (opened a q)) (Operand r) ns ns (ap (λ z. kept ns (ex.step_held tok.sufColon y z)) (folded ns a q 0 s.3 (omega arith) (omega arith) j tt)) (lower r 1 (height d) m (height_some d))
       ∙ reads d r ns s.4 s.1 m rest
@@ -316,8 +316,8 @@ mutual
       let j : high q (height c) ≤ 200 = pair_high k (height a) (height c) h in
       reads a k ns s.2 (omega (arith, l, s.0)) i (sign (sy.Assign o) at ∷ spell c rest)
       ∙ go (sign (sy.Assign o) at) (spell c rest) (valued (opened a k)) (Operand q) ns ns
-          (ap (λ z. kept ns (ex.step_held (tok.sufAssign o) at z)) (folded ns a k 2 s.2 (omega (arith, pull_near a, s.0)) (omega arith) i (stays_of k 2 (omega (arith, l)) (omega arith) (omega arith)))
-           ∙ ap (kept ns) (when_true _ (Operand q) (and_true (leb (least k) 1) (leb 14 (level_of a)) (le-leb _ _ l) (le-leb _ _ s.0)))) (lower q 1 (height c) j (height_some c))
+      (ap (λ z. kept ns (ex.step_held (tok.sufAssign o) at z)) (folded ns a k 2 s.2 (omega (arith, pull_near a, s.0)) (omega arith) i (stays_of k 2 (omega (arith, l)) (omega arith) (omega arith)))
+      ∙ ap (kept ns) (when_true _ (Operand q) (and_true (leb (least k) 1) (leb 14 (level_of a)) (le-leb _ _ l) (le-leb _ _ s.0)))) (lower q 1 (height c) j (height_some c))
       ∙ reads c q ns s.3 s.1 j rest
   reads (eComma es) k ns s l h rest = reads_comma es k ns s.0 s.1 l h rest
 
@@ -331,9 +331,9 @@ mutual
       reads_some es d e f a k ns s.2 s.0 s.3 h (closing br.Round c ∷ rest)
       ∙ reads e q ns s.3 s.1 i (closing br.Round c ∷ rest)
       ∙ go (closing br.Round c) rest (valued (opened e q)) (Value (whole (eCall f a (parts_and es d e) c)) k) ns ns
-          (ap (λ z. kept ns (ex.step_held (tok.sufClose br.Round) c z)) (folded ns e q 0 s.3 (omega arith) (omega arith) i tt)
-           ∙ ap (kept ns) (when_true (leb 1 (level_of e)) (ex.called (whole f) a (mk.one_more (tall es (height_parts es)) d (whole e)) c k) (le-leb _ _ s.1))
-           ∙ value_is ns k 15 (above (max (height f) (max (height_parts es) (height e)))) (eCall f a (parts_and es d e) c) refl (above_is (max (height f) (max (height_parts es) (height e))) (under k (max (height f) (max (height_parts es) (height e))) h)) (le_trans (high_ge k (suc (max (height f) (max (height_parts es) (height e))))) h)) h
+      (ap (λ z. kept ns (ex.step_held (tok.sufClose br.Round) c z)) (folded ns e q 0 s.3 (omega arith) (omega arith) i tt)
+      ∙ ap (kept ns) (when_true (leb 1 (level_of e)) (ex.called (whole f) a (mk.one_more (tall es (height_parts es)) d (whole e)) c k) (le-leb _ _ s.1))
+      ∙ value_is ns k 15 (above (max (height f) (max (height_parts es) (height e)))) (eCall f a (parts_and es d e) c) refl (above_is (max (height f) (max (height_parts es) (height e))) (under k (max (height f) (max (height_parts es) (height e))) h)) (le_trans (high_ge k (suc (max (height f) (max (height_parts es) (height e))))) h)) h
 
   -- the arguments before one
   reads_some : (es : Parts) (d : Option ℕ) (e : Ex) (f : Ex) (a : ℕ) (k : Inner) (ns : List (List ℕ)) → sh.ShapedParts ns es → sh.IsComma (sh.are_no_parts es) d → sh.Shaped ns e → high k (suc (max (height f) (max (height_parts es) (height e)))) ≤ 200 → (rest : List Sign) → walk (spell_parts es (comma d (spell e rest))) (stand (Maybe (argument f a no_parts None k)) ns) ≡ walk (spell e rest) (stand (Operand (argument f a es d k)) ns)
@@ -348,8 +348,8 @@ mutual
       reads_some es d x f a k ns s.2 s.0 s.3 g (sign sy.Comma at ∷ spell e rest)
       ∙ reads x q ns s.3 s.1 i (sign sy.Comma at ∷ spell e rest)
       ∙ go (sign sy.Comma at) (spell e rest) (valued (opened x q)) (Operand (argument f a (parts_and es d x) (Some at) k)) ns ns
-          (ap (λ z. kept ns (ex.step_held tok.sufComma at z)) (folded ns x q 1 s.3 (pull_one x s.1) (omega arith) i tt)
-           ∙ ap (kept ns) (when_true (leb 1 (level_of x)) (Operand (argument f a (parts_and es d x) (Some at) k)) (le-leb _ _ s.1))) (lower (argument f a (parts_and es d x) (Some at) k) 1 (height e) j (height_some e))
+      (ap (λ z. kept ns (ex.step_held tok.sufComma at z)) (folded ns x q 1 s.3 (pull_one x s.1) (omega arith) i tt)
+      ∙ ap (kept ns) (when_true (leb 1 (level_of x)) (Operand (argument f a (parts_and es d x) (Some at) k)) (le-leb _ _ s.1))) (lower (argument f a (parts_and es d x) (Some at) k) 1 (height e) j (height_some e))
 
   reads_comma : (es : Parts) (k : Inner) (ns : List (List ℕ)) → sh.are_several es ≡ true → sh.ShapedParts ns es → least k ≤ 0 → high k (suc (height_parts es)) ≤ 200 → (rest : List Sign) → walk (spell_parts es rest) (stand (Operand k) ns) ≡ walk rest (stand (valued (opened_parts es k)) ns)
   reads_comma no_parts k ns m s l h rest = cc
@@ -367,8 +367,8 @@ mutual
       let j : high q g ≤ 200 = pair_high k (max 0 (height e)) g h in
       reads e k ns s.3 (omega (arith, l)) i (sign sy.Comma at ∷ rest)
       ∙ go (sign sy.Comma at) rest (valued (opened e k)) (Operand q) ns ns
-          (ap (λ z. kept ns (ex.step_held tok.sufComma at z)) (folded ns e k 1 s.3 (pull_one e s.1) (omega arith) i (stays_low k l))
-           ∙ ap (kept ns) (sequence_is at (whole e) k l s.1)) (lower q 1 g j o)
+      (ap (λ z. kept ns (ex.step_held tok.sufComma at z)) (folded ns e k 1 s.3 (pull_one e s.1) (omega arith) i (stays_low k l))
+      ∙ ap (kept ns) (sequence_is at (whole e) k l s.1)) (lower q 1 g j o)
   reads_sequence (parts_and (parts_and es d x) None e) at k ns m s l g o h rest = absurd s.0
   reads_sequence (parts_and es (Some c) e) at k ns m s l g o h rest =
       let r = inBind (bComma (tall es (height_parts es)) c) k in
@@ -379,8 +379,8 @@ mutual
       reads_sequence es c k ns (some_not (sh.are_no_parts es) c s.0) s.2 l (height e) (height_some e) h0 (spell e (sign sy.Comma at ∷ rest))
       ∙ reads e r ns s.3 s.1 i (sign sy.Comma at ∷ rest)
       ∙ go (sign sy.Comma at) rest (valued (opened e r)) (Operand q) ns ns
-          (ap (λ z. kept ns (ex.step_held tok.sufComma at z)) (folded ns e r 1 s.3 (pull_one e s.1) (omega arith) i (omega arith))
-           ∙ ap (kept ns) (when_true (leb 1 (level_of e)) (Operand q) (le-leb _ _ s.1))) (lower q 1 g j o)
+      (ap (λ z. kept ns (ex.step_held tok.sufComma at z)) (folded ns e r 1 s.3 (pull_one e s.1) (omega arith) i (omega arith))
+      ∙ ap (kept ns) (when_true (leb 1 (level_of e)) (Operand q) (le-leb _ _ s.1))) (lower q 1 g j o)
 
   -- words where an expression might stand too
   pub fork_words : (ws : Words) (f : Fork) (ns : List (List ℕ)) (k : Known) → known (sp.site_of (stt.fork_around f)) ws ≡ Some k → sh.ShapedWords ns ws → around_high (stt.fork_around f) (height_words ws) ≤ 200 → ((ats : List ℕ) → ht.fork_high f ats ≤ 200) → (rest : List Sign) → NoOpen rest → walk (spell_words ws rest) (stand (Either f []) ns) ≡ walk rest (stand (fork_mode (exts ws) ws k f) ns)
@@ -398,7 +398,7 @@ mutual
   reads_word (wExtension at) s w ns k e g h rest n = go (sign sy.Extension at) rest (Specifiers s w) (Specifiers (mk.said s k (wExtension at) 0) w) ns ns (ap (λ o. kept ns (sp.with_word_said s w (wExtension at) o)) e) h
   reads_word (wTypedef x at) s w ns k e g h rest n =
       go (sign (sy.Name x) at) rest (Specifiers s w) (Specifiers (mk.said s k (wTypedef x at) 0) w) ns ns
-        (ap (λ c. kept ns (sp.step_kind (if c then spTypedef x else spOther) (sy.Name x) at s w)) g ∙ ap (λ o. kept ns (sp.with_word_said s w (wTypedef x at) o)) e) h
+      (ap (λ c. kept ns (sp.step_kind (if c then spTypedef x else spOther) (sy.Name x) at s w)) g ∙ ap (λ o. kept ns (sp.with_word_said s w (wTypedef x at) o)) e) h
   reads_word (wAttribute x) s w ns k e g h rest n =
       attribute_reads ns x (onWords s w) rest (Specifiers s w) g (λ v at. refl) h h
       ∙ ap (λ q. walk rest (stand (Specifiers (mk.said s q (wAttribute x) 1) w) ns)) (some_same s.told k e)

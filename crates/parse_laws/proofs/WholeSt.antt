@@ -142,7 +142,7 @@ mutual
       go (word key.Case at) (spell e (sign sy.Colon c ∷ spell_statement s rest)) (Begin o) (Operand q) ns ns refl (lower q 1 (height e) i (height_some e))
       ∙ reads e q ns t.1 t.0 i (sign sy.Colon c ∷ spell_statement s rest)
       ∙ go (sign sy.Colon c) (spell_statement s rest) (valued (opened e q)) (Begin (outWrap (wCase at e c) o)) ns ns
-          (ap (λ z. kept ns (ex.step_held tok.sufColon c z)) (fold_end ns e (baseCase at o) t.1 i) ∙ ap (kept ns) (when_true (leb 2 (level_of e)) (Begin (outWrap (wCase at e c) o)) (le-leb _ _ t.0))) (omega (arith, l, st_some s))
+      (ap (λ z. kept ns (ex.step_held tok.sufColon c z)) (fold_end ns e (baseCase at o) t.1 i) ∙ ap (kept ns) (when_true (leb 2 (level_of e)) (Begin (outWrap (wCase at e c) o)) (le-leb _ _ t.0))) (omega (arith, l, st_some s))
       ∙ statement_read s (outWrap (wCase at e c) o) ns t.3 (stands s (outWrap (wCase at e c) o) t.2) (omega (arith, l)) rest
   statement_read (sDefault at c s) o ns t k l rest =
       go (word key.Default at) (sign sy.Colon c ∷ spell_statement s rest) (Begin o) (Wait (waitDefault at o)) ns ns refl (omega (arith, l, st_some s))
