@@ -12,7 +12,7 @@ fn tokens(rt: &impl AllocGlobal, source: &str) -> Result<Vec<Token>, Fail> {
 }
 
 // The fault of a source with its offset.
-const FAULTS: [(&str, SourceFault, u32); 36] = [
+const FAULTS: [(&str, SourceFault, u32); 41] = [
     ("@", SourceFault::BadByte, 0),
     ("a `", SourceFault::BadByte, 2),
     ("\\", SourceFault::BadByte, 0),
@@ -45,6 +45,11 @@ const FAULTS: [(&str, SourceFault, u32); 36] = [
     ("1x", SourceFault::BadNumber, 0),
     ("9223372036854775808", SourceFault::BadNumber, 0),
     ("18446744073709551616u", SourceFault::BadNumber, 0),
+    ("0x10000000000000000", SourceFault::BadNumber, 0),
+    ("0x10000000000000000u", SourceFault::BadNumber, 0),
+    ("02000000000000000000000", SourceFault::BadNumber, 0),
+    ("02000000000000000000000ull", SourceFault::BadNumber, 0),
+    ("9223372036854775808ll", SourceFault::BadNumber, 0),
     ("''", SourceFault::BadNumber, 0),
     ("'ab'", SourceFault::BadNumber, 0),
     ("'\\x41'", SourceFault::BadNumber, 0),
@@ -62,7 +67,7 @@ fn faults_stand_at_their_first_byte(rt: HostRuntime) {
 }
 
 // A constant with its value, whether it is decimal, whether it has a `u`, and how many `l`.
-const NUMBERS: [(&str, u64, bool, bool, u8); 37] = [
+const NUMBERS: [(&str, u64, bool, bool, u8); 43] = [
     ("0", 0, false, false, 0),
     ("00", 0, false, false, 0),
     ("7", 7, true, false, 0),
@@ -82,6 +87,18 @@ const NUMBERS: [(&str, u64, bool, bool, u8); 37] = [
         false,
         0,
     ),
+    ("1", 1, true, false, 0),
+    ("0x0", 0, false, false, 0),
+    ("0x8000000000000000", 9223372036854775808, false, false, 0),
+    ("0XFFFFFFFFFFFFFFFFu", 18446744073709551615, false, true, 0),
+    (
+        "01777777777777777777777uLL",
+        18446744073709551615,
+        false,
+        true,
+        2,
+    ),
+    ("9223372036854775807LL", 9223372036854775807, true, false, 2),
     ("1u", 1, true, true, 0),
     ("1U", 1, true, true, 0),
     ("1l", 1, true, false, 1),

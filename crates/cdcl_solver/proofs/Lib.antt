@@ -10,3 +10,4 @@ pub mod StateLaws
 pub mod CoverLaws
 pub mod ConflictLaws
 pub mod RoundLaws
+pub mod ConeLaws

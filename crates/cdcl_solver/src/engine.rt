@@ -10,6 +10,7 @@ ghost use Rattle.cdcl_solver.specs.Covers.{RisesFrom, last_level};
 ghost use Rattle.cdcl_solver.specs.Solve.{StateOf, IsTurn, IsEnding, IsLonger, IsStop, IsAnswer, IsFail, trues_of};
 
 use crate::analysis::{all_below, analyze};
+use crate::cone::trimmed;
 use crate::scan::scan;
 use crate::trail::{Entry, Found, Trail};
 use crate::{Answer, Known, SolveFail};
@@ -103,6 +104,18 @@ fn jump(trail: &mut Trail, low: usize)
     }
 }
 
+// The number of the next clause, which has 32 bits.
+fn next_number(known: &Known) -> Result<u32, AllocError>
+    ensures value { IfOk result (λ n. n ≡ length known.now) }
+    ensures few { IfOk result (λ n. n < 4294967295) }
+{
+    let number = known.len();
+    if number >= MOST_CLAUSES {
+        return Err(AllocError);
+    }
+    Ok(number as u32)
+}
+
 // Learns from the conflict in the clause with this number.
 fn on_conflict(
     alloc: Global,
@@ -138,14 +151,11 @@ fn on_conflict(
     };
     let low = least_level(level, &trail, u, a.clause.as_slice());
     jump(&mut trail, low);
-    let number = known.len();
-    if number >= MOST_CLAUSES {
-        return Err(AllocError);
-    }
+    let number = next_number(&known)?;
     trail.push(Entry {
         lit: u,
         level: low,
-        reason: Some(number as u32),
+        reason: Some(number),
     })?;
     known.push(a.clause.as_slice())?;
     log.push(chain)?;
@@ -330,16 +340,26 @@ fn trues(alloc: Global, entries: &[Entry]) -> Result<Vec<u32>, AllocError>
     Ok(vars)
 }
 
-// The answer that an ending is.
-fn answer_of(alloc: Global, ending: Ending) -> Result<Answer, SolveFail>
-    ensures { (clauses : List (List Lit)) (learn limit : ℕ) → IsEnding clauses learn limit ending → MatchResult result (IsAnswer clauses learn) (IsFail clauses learn limit) }
+// The answer that an ending is. A refutation is cut to what it needs.
+fn answer_of(
+    alloc: Global,
+    clauses: &Clauses,
+    learn: u64,
+    limit: u64,
+    ending: Ending,
+) -> Result<Answer, SolveFail>
+    requires { IsEnding clauses.now learn limit ending }
+    ensures { MatchResult result (IsAnswer clauses.now learn) (IsFail clauses.now learn limit) }
 {
     match ending {
         Ending::Met(trail) => match trues(alloc, trail.entries.as_slice()) {
             Ok(vars) => Ok(Answer::Sat(Assignment::from_trues(vars))),
             Err(_) => Err(SolveFail::Memory),
         },
-        Ending::Refuted(log) => Ok(Answer::Unsat(log)),
+        Ending::Refuted(log) => match trimmed(alloc, clauses, &log) {
+            Ok(needed) => Ok(Answer::Unsat(needed)),
+            Err(_) => Err(SolveFail::Memory),
+        },
         Ending::Learned(log) => Ok(Answer::Spent(log)),
         Ending::Heavy(log) => Err(SolveFail::OverLog(log)),
     }
@@ -358,7 +378,7 @@ pub fn solve_within(
     ensures answer { MatchResult result (IsAnswer clauses.now learn) (IsFail clauses.now learn limit) }
 {
     match search(alloc, clauses, learn, limit) {
-        Ok(ending) => answer_of(alloc, ending),
+        Ok(ending) => answer_of(alloc, clauses, learn, limit, ending),
         Err(_) => Err(SolveFail::Memory),
     }
 }

@@ -6,6 +6,7 @@
 #![tactic(auto)]
 
 mod analysis;
+mod cone;
 mod engine;
 mod known;
 mod scan;

@@ -7,6 +7,7 @@ use Rattle.lv_base.specs.declared.fail.SourceFail.{SourceFail}
 use Rattle.lv_base.specs.declared.fault.SourceFault.TheVariants.{Unsupported}
 use Rattle.c_lexer.specs.Lexed.{lexed}
 use Rattle.c_lexer.specs.declared.token.Token.{Token}
+use Rattle.c_tokens.proofs.Whole.{is_lexed_of}
 use Rattle.thin_program.specs.declared.thin.Piece.{Piece}
 use Rattle.thin_program.specs.Grammar.{thin_of}
 use Rattle.thin_program.specs.RunFile.{values_of}
@@ -47,8 +48,8 @@ by_thin source run tokens has None is = not_thin tokens has (λ pieces thin. cc 
 by_thin source run tokens has (Some pieces) is = by_run source run tokens pieces has (thin_found tokens pieces is)
 
 by_tokens : (source run : List ℕ) → length source ≤ 1048576 → (r : Result (List Token) SourceFail) → lexed source ≡ r → IsAnswer source run (tokens_outcome source r run)
-by_tokens source run short (Err fail) is = no_tokens fail short is refl
-by_tokens source run short (Ok tokens) is = by_thin source run tokens (short, is) (thin_of tokens) refl
+by_tokens source run short (Err fail) is = no_tokens fail short ((is_lexed_of source (Err fail)).0 is) refl
+by_tokens source run short (Ok tokens) is = by_thin source run tokens ((is_lexed_of source (Ok tokens)).0 is) (thin_of tokens) refl
 
 pub is_answer : (source run : List ℕ) → IsAnswer source run (source_outcome source run)
 is_answer source run = by_test (nat_lt 1048576 (length source)) refl
@@ -72,7 +73,7 @@ short_source source run short =
     ap (λ (b : Bool). if b then Over 1 1048577 else tokens_outcome source (lexed source) run) test
 
 thin_source : (source run : List ℕ) (tokens : List Token) → HasTokens source tokens → source_outcome source run ≡ thin_outcome source (thin_of tokens) run
-thin_source source run tokens has = short_source source run has.0 ∙ ap (λ (r : Result (List Token) SourceFail). tokens_outcome source r run) has.1
+thin_source source run tokens has = short_source source run has.0 ∙ ap (λ (r : Result (List Token) SourceFail). tokens_outcome source r run) ((is_lexed_of source (Ok tokens)).1 has)
 
 none_of : {A : Type 0} (o : Option A) → ((a : A) → o ≡ Some a → ⊥) → o ≡ None
 none_of None none = refl
@@ -99,7 +100,7 @@ answer_is source run answer (too_long long is) =
     let test : nat_lt 1048576 (length source) ≡ true = grind (arith, nat_tests) in
     ap (λ (b : Bool). if b then Over 1 1048577 else tokens_outcome source (lexed source) run) test ∙ sym is
 answer_is source run answer (no_tokens fail short lexes is) =
-    short_source source run short ∙ ap (λ (r : Result (List Token) SourceFail). tokens_outcome source r run) lexes ∙ sym is
+    short_source source run short ∙ ap (λ (r : Result (List Token) SourceFail). tokens_outcome source r run) ((is_lexed_of source (Err fail)).1 lexes) ∙ sym is
 answer_is source run answer (not_thin tokens has none is) =
     thin_source source run tokens has ∙ ap (λ (o : Option (List Piece)). thin_outcome source o run) (none_of (thin_of tokens) (λ pieces found. none pieces (thin_found tokens pieces found))) ∙ sym is
 answer_is source run answer (no_values tokens pieces has thin none is) =

@@ -33,6 +33,52 @@ fn widths_are_those_of_the_data_models(rt: HostRuntime) {
     }
 }
 
+// Each kind of one width in both models, with its least and its greatest value.
+const RANGES: [(Kind, i128, i128); 9] = [
+    (Kind::Bool, 0, 1),
+    (Kind::Char, -128, 127),
+    (Kind::UChar, 0, 255),
+    (Kind::Short, -32768, 32767),
+    (Kind::UShort, 0, 65535),
+    (Kind::Int, -2147483648, 2147483647),
+    (Kind::UInt, 0, 4294967295),
+    (Kind::LongLong, -9223372036854775808, 9223372036854775807),
+    (Kind::ULongLong, 0, 18446744073709551615),
+];
+
+// The kind of the data model's `long` that is as wide as this one, if there is one.
+fn long_like(kind: Kind, model: Model) -> Option<Kind> {
+    match (kind, model) {
+        (Kind::Int, Model::Ilp32) | (Kind::LongLong, Model::Lp64) => Some(Kind::Long),
+        (Kind::UInt, Model::Ilp32) | (Kind::ULongLong, Model::Lp64) => Some(Kind::ULong),
+        _ => None,
+    }
+}
+
+fn ends_at(rt: &impl Abort, kind: Kind, model: Model, least: i128, greatest: i128) {
+    let (below, above) = (least.saturating_sub(1), greatest.saturating_add(1));
+    assert!(rt; in_range(kind, model, least) && in_range(kind, model, greatest));
+    assert!(rt; !in_range(kind, model, below) && !in_range(kind, model, above));
+    assert_eq!(rt; convert(least, kind, model), least);
+    assert_eq!(rt; convert(greatest, kind, model), greatest);
+    if kind != Kind::Bool {
+        assert_eq!(rt; convert(below, kind, model), greatest);
+        assert_eq!(rt; convert(above, kind, model), least);
+    }
+}
+
+#[test]
+fn ranges_end_at_their_limits(rt: HostRuntime) {
+    for (kind, least, greatest) in &RANGES {
+        for model in &MODELS {
+            ends_at(&rt, *kind, *model, *least, *greatest);
+            if let Some(long) = long_like(*kind, *model) {
+                ends_at(&rt, long, *model, *least, *greatest);
+            }
+        }
+    }
+}
+
 // A value, the kind that it is converted to, and what is left of it.
 const CONVERSIONS: [(i128, Kind, i128); 22] = [
     (2, Kind::Bool, 1),
@@ -424,6 +470,9 @@ fn operations_meet_their_limits(rt: HostRuntime) {
     for (op, kind, left, right, outcome) in &OPERATIONS {
         for model in &MODELS {
             assert_eq!(rt; tried(*op, *kind, *model, *left, *right), Some(*outcome));
+            if let Some(long) = long_like(*kind, *model) {
+                assert_eq!(rt; tried(*op, long, *model, *left, *right), Some(*outcome));
+            }
         }
     }
 }

@@ -1,9 +1,9 @@
 -- Files by name.
-use Rattle.std.proofs.Common.{◌≡◌, ◌≢◌, ℕ, zero, suc, ◌+◌, ◌<◌, List, [], ◌∷◌, ◌++◌, length, drop, get_or, set, refl, sym, ◌∙◌, ap, subst, arith, Bool, true, false}
-use Rattle.std.specs.Prelude.{Vec}
+use Rattle.std.proofs.Common.{◌≡◌, ◌≢◌, ℕ, zero, suc, ◌+◌, ◌-◌, ◌<◌, List, [], ◌∷◌, ◌++◌, length, take, drop, get_or, set, refl, sym, ◌∙◌, ap, subst, arith, Bool, true, false}
+use Rattle.std.specs.Prelude.{Vec, Option, Some, None, IfSome, is_some}
 use Rattle.std.specs.declared.alloc.Global.{Global}
 use Rattle.std.specs.Str.{bytes_eq}
-use Rattle.std.proofs.lemmas.List.{drop_more}
+use Rattle.std.proofs.lemmas.List.{drop_more, take_rest}
 use Rattle.std.proofs.lemmas.Slice.Eq.{bytes_eq-Decides}
 use Rattle.lv_outside.specs.Mem.{Files, file_of, IsPlaceOf, HasNoName, NamesDiffer}
 
@@ -72,6 +72,23 @@ push_other name (f ∷ files) v n other =
 pub differ_later : (files : Files) (i : ℕ) (e : Entry) → i < length files → e ≡ get_or files i e → (NamesDiffer (drop i files) → NamesDiffer files) → HasNoName e.0 (drop (i + 1) files) → NamesDiffer (drop (i + 1) files) → NamesDiffer files
 differ_later files i e lt is inv none later =
     inv (subst (λ (l : Files). NamesDiffer l) (sym (rest_at files i e lt is)) (none, later))
+
+pub differ_down : (files : Files) (i : ℕ) (e : Entry) → i < length files → e ≡ get_or files i e → (NamesDiffer files → NamesDiffer (drop i files)) → NamesDiffer files → HasNoName e.0 (drop (i + 1) files) × NamesDiffer (drop (i + 1) files)
+differ_down files i e lt is inv differ = subst (λ (l : Files). NamesDiffer l) (rest_at files i e lt is) (inv differ)
+
+-- a name that has a place is there
+pub has_place : (name : List ℕ) (files : Files) (at : ℕ) → IsPlaceOf name files at → HasNoName name files → ⊥
+has_place name [] at place none = place
+has_place name (f ∷ files) zero place none = none.0 place
+has_place name (f ∷ files) (suc at) place none = has_place name files at place.1 none.1
+
+-- names do not differ where the entry at an index has its name again behind it
+pub differ_not : (files : Files) (i : ℕ) (e : Entry) (name : List ℕ) (again : Option ℕ) → i < length files → e ≡ get_or files i e → name ≡ e.0 → (NamesDiffer files → NamesDiffer (drop i files))
+    → IfSome again (IsPlaceOf name (take (length files - (i + 1)) (drop (i + 1) files))) → is_some again ≡ true → NamesDiffer files → ⊥
+differ_not files i e name None lt is same inv place some differ = cc some
+differ_not files i e name (Some at) lt is same inv place some differ =
+    let here : IsPlaceOf e.0 (drop (i + 1) files) at = subst (λ (l : Files). IsPlaceOf e.0 l at) (take_rest files (i + 1)) (subst (λ (n : List ℕ). IsPlaceOf n (take (length files - (i + 1)) (drop (i + 1) files)) at) same place) in
+    has_place e.0 (drop (i + 1) files) at here (differ_down files i e lt is inv differ).0
 
 -- the file of a name where its entry stands at the head of the rest, and where it does not
 pub file_here : (name : List ℕ) (files : Files) (i : ℕ) (e : Entry) → i < length files → e ≡ get_or files i e → file_of (drop i files) name ≡ file_of files name → e.0 ≡ name → e.1.items ≡ file_of files name

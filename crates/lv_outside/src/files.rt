@@ -1,5 +1,5 @@
 //! What both folders in memory do with their entries.
-ghost use Rattle.std.specs.Prelude.{◌≡◌, ◌≢◌, ◌↔◌, ℕ, List, IfOk, OnOk, OnErr, IfSome, IfNone, Err, true};
+ghost use Rattle.std.specs.Prelude.{◌≡◌, ◌≢◌, ◌↔◌, ℕ, List, IfOk, OnOk, OnErr, IfSome, IfNone, IsTrue, Err};
 ghost use Rattle.lv_outside.specs.Mem.{file_of, has_name, is_listed, IsPlaceOf, HasNoName, NamesDiffer};
 ghost use Rattle.lv_outside.specs.Got.{IsRead};
 
@@ -9,7 +9,7 @@ use std::alloc::{AllocError, Global};
 
 /// Whether the names of these entries differ, which the folders in memory require.
 pub fn names_differ(files: &[(Text, Vec<u8>)]) -> bool
-    ensures { result ≡ true → NamesDiffer files.now }
+    ensures { IsTrue result ↔ NamesDiffer files.now }
 {
     for (i, entry) in files.iter().enumerate() {
         if place_of_name(&files[i + 1..], entry.0.as_bytes()).is_some() {

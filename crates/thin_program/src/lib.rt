@@ -16,3 +16,6 @@ pub use run_file::read_run;
 pub use thin::{Compare, Piece, Thin};
 pub use thin_run::{Ending, run};
 pub use values::Values;
+
+#[cfg(test)]
+mod tests;

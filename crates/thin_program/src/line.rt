@@ -13,6 +13,7 @@ pub struct Line {
 impl Line {
     ghost use Rattle.thin_program.specs.Line.{fresh_line, is_fresh, line_step, line_value};
 
+    /// A line of which nothing was read.
     pub fn fresh() -> Line
         ensures { result ≡ fresh_line }
     {
@@ -23,12 +24,14 @@ impl Line {
         }
     }
 
+    /// Whether nothing of it was read.
     pub fn is_fresh(&self) -> bool
         ensures { result ≡ is_fresh self.now }
     {
         !self.negative && self.empty
     }
 
+    /// The line with one more byte, none where no value goes on so.
     pub fn step(&self, byte: u8) -> Option<Line>
         ensures step { result ≡ line_step self.now byte }
         ensures small { IfSome result (λ l. l.value < 10 ^ 20) }
@@ -56,6 +59,7 @@ impl Line {
         })
     }
 
+    /// The value that it spells, none where it has no digit or is `-0`.
     pub fn value(&self) -> Option<i128>
         requires { self.now.value < 10 ^ 20 }
         ensures { result ≡ line_value self.now }

@@ -3,6 +3,7 @@ ghost use Rattle.std.specs.Prelude.{◌≡◌};
 use lv_base::Text;
 use std::marker::Model;
 
+/// How a test compares its variable with its number.
 #[derive(Clone, Copy, Debug, PartialEq, Eq)]
 pub enum Compare {
     Equal,
@@ -36,12 +37,14 @@ impl Model for Thin {
 }
 
 impl Thin {
+    /// The program of these pieces, which it takes over.
     pub fn new(pieces: Vec<Piece>) -> Thin
         ensures { result ≡ pieces.items }
     {
         Thin { pieces }
     }
 
+    /// Its pieces, in their order in the source.
     pub fn pieces(&self) -> &[Piece]
         ensures { result.now ≡ self.now }
     {

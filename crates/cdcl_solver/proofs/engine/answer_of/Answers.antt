@@ -5,4 +5,4 @@ use Rattle.cdcl_solver.proofs.RoundLaws.{met_answer}
 use Rattle.cdcl_solver.proofs.engine.answer_of.Goals as goal
 
 pub returns-in-Ok : goal.returns-in-Ok
-returns-in-Ok c clauses learn limit h = met_answer c.in-Met.trail.entries.items c.in-Ok.vars.items c.from_trues.result clauses (c.in-Ok.ensures ∙ ap trues_of c.as_slice.ensures.value) c.from_trues.ensures (subst (IsEnding clauses learn limit) c.in-Met.is h)
+returns-in-Ok c = met_answer c.in-Met.trail.entries.items c.in-Ok.vars.items c.from_trues.result c.args.clauses.now (c.in-Ok.ensures ∙ ap trues_of c.as_slice.ensures.value) c.from_trues.ensures (subst (IsEnding c.args.clauses.now c.args.learn c.args.limit) c.in-Met.is c.requires)

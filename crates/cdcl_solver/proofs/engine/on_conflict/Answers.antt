@@ -36,9 +36,9 @@ push-requires-2-clause-free_not c =
 learned : (c : After-len-2) → State c.args.clauses.now c.push-3.new.self c.least_level-low.result c.push-2.new.self.entries.items c.push-4.new.self
 learned c =
     let ch : Chain = record { first = c.args.k; pairs = c.in_ok-a.a.pairs } in
-    let e : Entry = record { lit = c.in-Some.u; level = c.least_level-low.result; reason = Some c.len-number.result } in
+    let e : Entry = record { lit = c.in-Some.u; level = c.least_level-low.result; reason = Some c.in_ok-number.number } in
     let low = c.least_level-low.result in
-    conflict_state c.args.clauses.now c.args.learn c.args.limit c.args.s c.requires.state c.analyze.new.trail.entries.items c.in_ok-a.a.clause.items c.in_ok-a.a.uip ch c.in_ok-a.ensures.told c.in-Some.u c.in-Some.is low c.jump.new.trail.entries.items c.least_level-low.ensures.within c.jump.ensures.back c.as_slice.result.now c.push-3.new.self c.push-2.new.self.entries.items c.push-4.new.self e c.least_level-low.ensures.at c.least_level-low.ensures.least c.as_slice.ensures.value refl refl (ap Some c.len-number.ensures) c.in_ok-push-2.ensures.entries (c.in_ok-push-3.ensures.pushed ∙ ap (λ w. c.args.s.known ++ (w ∷ [])) (c.as_slice-2.ensures.value ∙ sym c.as_slice.ensures.value)) c.in_ok-push-4.ensures.pushed
+    conflict_state c.args.clauses.now c.args.learn c.args.limit c.args.s c.requires.state c.analyze.new.trail.entries.items c.in_ok-a.a.clause.items c.in_ok-a.a.uip ch c.in_ok-a.ensures.told c.in-Some.u c.in-Some.is low c.jump.new.trail.entries.items c.least_level-low.ensures.within c.jump.ensures.back c.as_slice.result.now c.push-3.new.self c.push-2.new.self.entries.items c.push-4.new.self e c.least_level-low.ensures.at c.least_level-low.ensures.least c.as_slice.ensures.value refl refl (ap Some c.in_ok-number.ensures.value) c.in_ok-push-2.ensures.entries (c.in_ok-push-3.ensures.pushed ∙ ap (λ w. c.args.s.known ++ (w ∷ [])) (c.as_slice-2.ensures.value ∙ sym c.as_slice.ensures.value)) c.in_ok-push-4.ensures.pushed
 
 pub returns-then-len-learn-clause-turn : goal.returns-then-len-learn-clause-turn
 returns-then-len-learn-clause-turn c =
@@ -53,6 +53,6 @@ returns-then-total-limit-clause-turn c =
 pub returns-clause-turn : goal.returns-clause-turn
 returns-clause-turn c =
     let ch : Chain = record { first = c.args.k; pairs = c.in_ok-a.a.pairs } in
-    let e : Entry = record { lit = c.in-Some.u; level = c.least_level-low.result; reason = Some c.len-number.result } in
+    let e : Entry = record { lit = c.in-Some.u; level = c.least_level-low.result; reason = Some c.in_ok-number.number } in
     let s2 : Solver = record { known = c.push-3.new.self; trail = c.push-2.new.self; level = c.least_level-low.result; log = c.push-4.new.self; pairs = c.args.s.pairs + c.len.result } in
-    conflict_on c.args.clauses.now c.args.learn c.args.limit c.args.s c.requires.state c.analyze.new.trail.entries.items c.in_ok-a.a.clause.items c.in_ok-a.a.uip ch c.in_ok-a.ensures.told c.in-Some.u c.in-Some.is c.least_level-low.result c.jump.new.trail.entries.items c.least_level-low.ensures.within c.jump.ensures.back s2 c.as_slice.result.now e (learned (goal.at.returns-clause-turn c).After-len-2) refl c.in_ok-push-4.ensures.pushed (omega (arith, c.len-2.ensures, c.if-len-learn.false)) (ap (λ n. c.args.s.pairs + n) c.len.ensures.value) (omega (arith, c.len.ensures.value, c.if-total-limit.false)) c.as_slice.ensures.value (c.in_ok-push-3.ensures.pushed ∙ ap (λ w. c.args.s.known ++ (w ∷ [])) (c.as_slice-2.ensures.value ∙ sym c.as_slice.ensures.value)) (c.in_ok-push-2.ensures.vars ∙ c.jump.ensures.vars ∙ c.in_ok-a.ensures.vars) c.in_ok-push-2.ensures.entries refl c.jump.ensures.rises c.jump.ensures.level (omega (arith, c.len-number.ensures, c.if-number-ge-MOST_CLAUSES.false))
+    conflict_on c.args.clauses.now c.args.learn c.args.limit c.args.s c.requires.state c.analyze.new.trail.entries.items c.in_ok-a.a.clause.items c.in_ok-a.a.uip ch c.in_ok-a.ensures.told c.in-Some.u c.in-Some.is c.least_level-low.result c.jump.new.trail.entries.items c.least_level-low.ensures.within c.jump.ensures.back s2 c.as_slice.result.now e (learned (goal.at.returns-clause-turn c).After-len-2) refl c.in_ok-push-4.ensures.pushed (omega (arith, c.len-2.ensures, c.if-len-learn.false)) (ap (λ n. c.args.s.pairs + n) c.len.ensures.value) (omega (arith, c.len.ensures.value, c.if-total-limit.false)) c.as_slice.ensures.value (c.in_ok-push-3.ensures.pushed ∙ ap (λ w. c.args.s.known ++ (w ∷ [])) (c.as_slice-2.ensures.value ∙ sym c.as_slice.ensures.value)) (c.in_ok-push-2.ensures.vars ∙ c.jump.ensures.vars ∙ c.in_ok-a.ensures.vars) c.in_ok-push-2.ensures.entries refl c.jump.ensures.rises c.jump.ensures.level (omega (arith, c.in_ok-number.ensures.value, c.in_ok-number.ensures.few))

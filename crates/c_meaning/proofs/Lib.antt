@@ -1,0 +1,4 @@
+mod Endings
+mod Faults
+pub mod Induction
+pub mod Runs

@@ -1,0 +1,15 @@
+pub mod Kinds
+pub mod Tokens
+pub mod Scope
+pub mod Bindings
+pub mod Types
+pub mod Known
+pub mod Value
+pub mod Constants
+pub mod Execution
+pub mod Program
+pub mod Rules
+pub mod Jumps
+pub mod Good
+pub mod Places
+pub mod Laws

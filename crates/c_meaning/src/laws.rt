@@ -1,0 +1,16 @@
+ghost use Rattle.c_meaning.specs.Laws.{MoreTurns, DrawnInputs, ErrorPlaces};
+
+/// A run that isn't out of turns is the same with more turns.
+pub fn more_turns()
+    ensures { MoreTurns }
+{}
+
+/// The inputs behind those that were drawn don't matter to an error.
+pub fn drawn_inputs()
+    ensures { DrawnInputs }
+{}
+
+/// An error stands at a token of the source that calls, indexes or computes.
+pub fn error_places()
+    ensures { ErrorPlaces }
+{}

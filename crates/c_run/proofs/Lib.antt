@@ -1,0 +1,3 @@
+pub mod Related
+pub mod Relations
+mod Elements

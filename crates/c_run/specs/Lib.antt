@@ -1,0 +1,5 @@
+pub mod Run
+pub mod Operators
+pub mod Loops
+pub mod Laws
+pub mod Breaking

@@ -1,0 +1,2 @@
+mod Induction
+mod Small

@@ -1,0 +1,4 @@
+mod Compared
+pub mod Same
+pub mod Steps
+pub mod Whole

@@ -1,0 +1,3 @@
+pub mod Elaborated
+pub mod Fit
+pub mod Laws

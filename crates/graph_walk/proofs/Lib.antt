@@ -1,0 +1,3 @@
+pub mod Consuming
+pub mod Choosing
+pub mod Walking

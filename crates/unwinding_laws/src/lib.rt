@@ -1,0 +1,20 @@
+//! Laws of unwindings, each as the contract of a function that does nothing.
+//!
+//! An unwinding is a tree of paths through a graph with labels and coverings, as in K. McMillan, Lazy Abstraction with
+//! Interpolants (CAV 2006). Its definitions stand in `cover_engine`.
+#![tactic(auto)]
+
+ghost use Rattle.cover_engine.specs.WellLabelled.{LegalIsWellLabelled};
+ghost use Rattle.unwinding_laws.specs.Laws.{GrowingTablesKeepLegality};
+
+/// A legal unwinding is well labelled, whatever legal units made it: its root's label is true, each vertex's label with
+/// the edge to a child implies the child's label, a vertex has no children or one for each edge that leads on, and each
+/// pair is of one node, from a label to one that it implies, with a right side that is uncovered and not below the left.
+pub fn legal_is_well_labelled()
+    ensures { LegalIsWellLabelled }
+{}
+
+/// An unwinding stays legal where further terms come to its table, as `Unwinding::put` adds them.
+pub fn growing_tables_keep_legality()
+    ensures { GrowingTablesKeepLegality }
+{}
