@@ -23,7 +23,7 @@ pub record Extern : Type 0 where
 -- once a token has come that lets it be skipped.
 pub data Phase : Type 0 where
   Plain : Mode → Phase
-  Both : Extern → Option Turn → Phase
+  Both : Extern → Option Mode → Phase
   Skipping : Extern → Phase
 
 pub record State : Type 0 where
@@ -81,15 +81,20 @@ abbrev pub plain : Items → Option Turn → Option State
 plain is None = None
 plain is (Some u) = Some (state is u.names (Plain u.mode))
 
-abbrev pub go : Option Turn → Sign → Option Turn
-go None t = None
-go (Some u) t = next u.names t u.mode
+abbrev pub go : List (List ℕ) → Sign → Option Mode → Option Turn
+go names t None = None
+go names t (Some m) = next names t m
 
-abbrev pub step_both : Role → Items → List (List ℕ) → Sign → Extern → Option Turn → Option State
-step_both listedRole is names t x u = Some (state is names (Skipping (more x t)))
-step_both otherRole is names t x u = Some (state is names (Both (more x t) (go u t)))
-step_both semicolonRole is names t x u = plain is (go u t)
-step_both stopRole is names t x u = plain is (go u t)
+-- the item as it is read so far, or what can only be skipped
+abbrev pub both : Items → List (List ℕ) → Extern → Option Turn → State
+both is names x None = state is names (Both x None)
+both is names x (Some u) = state is u.names (Both x (Some u.mode))
+
+abbrev pub step_both : Role → Items → List (List ℕ) → Sign → Extern → Option Mode → Option State
+step_both listedRole is names t x m = Some (state is names (Skipping (more x t)))
+step_both otherRole is names t x m = Some (both is names (more x t) (go names t m))
+step_both semicolonRole is names t x m = plain is (go names t m)
+step_both stopRole is names t x m = plain is (go names t m)
 
 abbrev pub step_skipping : Role → Items → List (List ℕ) → Sign → Extern → Option State
 step_skipping semicolonRole is names t x = Some (state is names (Plain (Ended (tSkipped x.extension x.at x.raw t.at) 0)))
@@ -98,11 +103,11 @@ step_skipping _ is names t x = Some (state is names (Skipping (more x t)))
 
 abbrev pub step_plain : Option Extern → Items → List (List ℕ) → Sign → Mode → Option State
 step_plain None is names t m = plain is (next names t m)
-step_plain (Some x) is names t m = Some (state is names (Both x (next names t m)))
+step_plain (Some x) is names t m = Some (both is names x (next names t m))
 
 abbrev pub step_phase : Items → List (List ℕ) → Sign → Phase → Option State
 step_phase is names t (Plain m) = step_plain (opens t.symbol t.at m) is names t m
-step_phase is names t (Both x u) = step_both (role t.symbol) is names t x u
+step_phase is names t (Both x m) = step_both (role t.symbol) is names t x m
 step_phase is names t (Skipping x) = step_skipping (role t.symbol) is names t x
 
 abbrev pub step_state : Sign → State → Option State
