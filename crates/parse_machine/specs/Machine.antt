@@ -1,5 +1,5 @@
 -- The whole machine: files, items that are skipped, and the limit on the height.
-use Rattle.std.specs.Prelude.{ℕ, leb, List, [], ◌∷◌, Option, None, Some, if◌then◌else◌}
+use Rattle.std.specs.Prelude.{ℕ, leb, List, [], ◌∷◌, Option, None, Some, if◌then◌else◌, Bool, false, ◌||◌, not}
 use Rattle.c_tree.specs.declared.symbol.StorageWord.TheVariants as storage
 use Rattle.c_tree.specs.declared.symbol.Symbol.{Symbol}
 use Rattle.c_tree.specs.declared.symbol.Symbol.TheVariants as sy
@@ -8,7 +8,6 @@ use Rattle.c_tree.specs.Shape.{is_listed, is_stop}
 use Rattle.c_tree.specs.Tree.{Raw, no_raw, raw_and, Words, no_words, words_and, wExtension, tSkipped, Items, no_items, items_and}
 use Rattle.parse_machine.specs.Tokens.{is_unsupported}
 use Rattle.parse_machine.specs.Contexts.{placeFile, Around, aroundPlace, Mode, File, Ended, Specifiers, Finished}
-
 use Rattle.parse_machine.specs.Heights.{low}
 use Rattle.parse_machine.specs.Declarations.{Turn}
 use Rattle.parse_machine.specs.Steps.{next}
@@ -20,11 +19,13 @@ pub record Extern : Type 0 where
   pub raw : Raw
 
 -- An item that begins with `extern` is read and kept as tokens, until it is known which it is. As tokens alone it is kept
--- once a token has come that lets it be skipped.
+-- once a token has come that lets it be skipped. While both are open the limit on the height is not tested, and it is
+-- kept whether it was passed; where it was, and the item can't be skipped any more, all its trees are above the limit.
 pub data Phase : Type 0 where
   Plain : Mode → Phase
-  Both : Extern → Option Mode → Phase
+  Both : Extern → Option Mode → Bool → Phase
   Skipping : Extern → Phase
+  Above : Phase
 
 pub record State : Type 0 where
   pub items : Items
@@ -86,15 +87,20 @@ go names t None = None
 go names t (Some m) = next names t m
 
 -- the item as it is read so far, or what can only be skipped
-abbrev pub both : Items → List (List ℕ) → Extern → Option Turn → State
-both is names x None = state is names (Both x None)
-both is names x (Some u) = state is u.names (Both x (Some u.mode))
+abbrev pub both : Items → List (List ℕ) → Extern → Bool → Option Turn → State
+both is names x high None = state is names (Both x None high)
+both is names x high (Some u) = state is u.names (Both x (Some u.mode) (high || not (leb (low u.mode) 200)))
 
-abbrev pub step_both : Role → Items → List (List ℕ) → Sign → Extern → Option Mode → Option State
-step_both listedRole is names t x m = Some (state is names (Skipping (more x t)))
-step_both otherRole is names t x m = Some (both is names (more x t) (go names t m))
-step_both semicolonRole is names t x m = plain is (go names t m)
-step_both stopRole is names t x m = plain is (go names t m)
+-- the item can't be skipped any more
+abbrev pub settled : Bool → Items → Option Turn → Option State
+settled high is None = None
+settled high is (Some u) = Some (state is u.names (if high then Above else Plain u.mode))
+
+abbrev pub step_both : Role → Items → List (List ℕ) → Sign → Extern → Option Mode → Bool → Option State
+step_both listedRole is names t x m high = Some (state is names (Skipping (more x t)))
+step_both otherRole is names t x m high = Some (both is names (more x t) high (go names t m))
+step_both semicolonRole is names t x m high = settled high is (go names t m)
+step_both stopRole is names t x m high = settled high is (go names t m)
 
 abbrev pub step_skipping : Role → Items → List (List ℕ) → Sign → Extern → Option State
 step_skipping semicolonRole is names t x = Some (state is names (Plain (Ended (tSkipped x.extension x.at x.raw t.at) 0)))
@@ -103,12 +109,13 @@ step_skipping _ is names t x = Some (state is names (Skipping (more x t)))
 
 abbrev pub step_plain : Option Extern → Items → List (List ℕ) → Sign → Mode → Option State
 step_plain None is names t m = plain is (next names t m)
-step_plain (Some x) is names t m = Some (both is names x (next names t m))
+step_plain (Some x) is names t m = Some (both is names x false (next names t m))
 
 abbrev pub step_phase : Items → List (List ℕ) → Sign → Phase → Option State
 step_phase is names t (Plain m) = step_plain (opens t.symbol t.at m) is names t m
-step_phase is names t (Both x m) = step_both (role t.symbol) is names t x m
+step_phase is names t (Both x m high) = step_both (role t.symbol) is names t x m high
 step_phase is names t (Skipping x) = step_skipping (role t.symbol) is names t x
+step_phase is names t Above = None
 
 abbrev pub step_state : Sign → State → Option State
 step_state t s = step_phase s.items s.names t s.phase
@@ -119,6 +126,7 @@ step t s = step_state t (filed s.items s.names s.phase)
 -- the height that every tree has; an item that may be skipped has none
 abbrev pub phase_low : Phase → ℕ
 phase_low (Plain m) = low m
+phase_low Above = 201
 phase_low _ = 0
 
 -- what comes behind a token: a state, no tree, or only trees that are higher than 200

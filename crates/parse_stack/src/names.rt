@@ -1,6 +1,7 @@
 ghost use Rattle.std.specs.Prelude.{◌≡◌, ℕ, ◌∷◌, ◌++◌, [], List, length, take, bytes_eq, IfOk};
 ghost use Rattle.c_tree.specs.Shape.{has};
 
+use crate::fail::StepFail;
 use lv_base::Text;
 use std::alloc::{AllocError, Global};
 use std::marker::Model;
@@ -24,7 +25,29 @@ fn is_same(text: &Text, bytes: &[u8]) -> bool
     text.as_bytes() == bytes
 }
 
+/// The same texts.
+fn copy_all(alloc: Global, names: &[Text]) -> Result<Vec<Text>, StepFail>
+    ensures { IfOk result (λ v. v.items ≡ names.now) }
+{
+    let mut items = Vec::new(alloc);
+    let mut rest = names;
+    'names: while let Some((name, behind)) = rest.split_first() {
+        items.push(Text::copy_of(alloc, name.as_bytes())?)?;
+        rest = behind;
+    }
+    Ok(items)
+}
+
 impl Names {
+    /// The same names.
+    pub fn copy(&self, alloc: Global) -> Result<Names, StepFail>
+        ensures { IfOk result (λ n. n ≡ self.now) }
+    {
+        Ok(Names {
+            items: copy_all(alloc, &self.items)?,
+        })
+    }
+
     /// No names.
     pub fn new(alloc: Global) -> Names
         ensures { result ≡ [] }
