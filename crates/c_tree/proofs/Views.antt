@@ -1,5 +1,5 @@
 -- A list in the tree, seen by its elements.
-use Rattle.std.proofs.Common.{◌≡◌, ℕ, List, [], ◌∷◌, ◌++◌, Option, None, Some, refl, ap, ◌∙◌, Vec, Global}
+use Rattle.std.proofs.Common.{◌≡◌, ℕ, List, [], ◌∷◌, ◌++◌, Option, refl, ap, ◌∙◌, Vec, Global}
 use Rattle.std.specs.Prelude.{Box}
 use Rattle.c_tree.specs.declared.symbol.Sign.{Sign}
 use Rattle.c_tree.specs.declared.tree.Attribute.{Attribute}

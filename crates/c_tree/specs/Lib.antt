@@ -6,3 +6,4 @@ pub mod Words
 pub mod Shape
 pub mod Height
 pub mod Denotes
+pub mod Highest

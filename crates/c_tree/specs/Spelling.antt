@@ -1,5 +1,5 @@
 -- The tokens of a tree, each function with the rest that follows them, and how tight an expression binds.
-use Rattle.std.specs.Prelude.{ℕ, List, [], ◌∷◌, Option, None, Some}
+use Rattle.std.specs.Prelude.{ℕ, List, ◌∷◌, Option, None, Some}
 use Rattle.c_tree.specs.declared.symbol.BinaryOp.{BinaryOp}
 use Rattle.c_tree.specs.declared.symbol.BinaryOp.TheVariants as op
 use Rattle.c_tree.specs.declared.symbol.AssignOp.TheVariants as to

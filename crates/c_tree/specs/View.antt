@@ -1,5 +1,5 @@
 -- The program's trees, without where they lie in memory.
-use Rattle.std.specs.Prelude.{ℕ, List, [], ◌∷◌, Option, None, Some, Box, Vec}
+use Rattle.std.specs.Prelude.{List, [], ◌∷◌, Option, None, Some, Box}
 use Rattle.std.proofs.Common.{Global}
 use Rattle.c_tree.specs.declared.symbol.Sign.{Sign}
 use Rattle.c_tree.specs.declared.tree.Name.{Name}

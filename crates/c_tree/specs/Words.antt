@@ -1,13 +1,11 @@
 -- Which words of a declaration may stand together, in any order.
-use Rattle.std.specs.Prelude.{ℕ, Bool, true, false, ◌&&◌, ◌||◌, not, if◌then◌else◌, Option, Some, None}
+use Rattle.std.specs.Prelude.{Bool, true, false, ◌&&◌, ◌||◌, not, if◌then◌else◌, Option, Some, None}
 use Rattle.std.specs.Option.{option_map, option_and_then}
 use Rattle.c_tree.specs.declared.symbol.TypeWord.{TypeWord}
 use Rattle.c_tree.specs.declared.symbol.TypeWord.TheVariants as type
 use Rattle.c_tree.specs.declared.symbol.StorageWord.{StorageWord}
 use Rattle.c_tree.specs.declared.symbol.StorageWord.TheVariants as word
-use Rattle.c_tree.specs.declared.known.Signedness.{Signedness}
 use Rattle.c_tree.specs.declared.known.Signedness.TheVariants as sign
-use Rattle.c_tree.specs.declared.known.Size.{Size}
 use Rattle.c_tree.specs.declared.known.Size.TheVariants as size
 use Rattle.c_tree.specs.declared.known.Typing.{Typing}
 use Rattle.c_tree.specs.declared.known.Typing.TheVariants as ty

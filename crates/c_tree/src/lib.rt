@@ -2,11 +2,15 @@
 #![tactic(auto)]
 
 mod known;
+mod nodes;
 mod symbol;
+#[cfg(test)]
+mod tests;
 mod tree;
 mod words;
 
 pub use known::{Known, Signedness, Site, Size, Storage, Typing};
+pub use nodes::height;
 pub use symbol::{
     AssignOp, AttributeWord, BinaryOp, Bracket, ConstWord, Crement, Keyword, Sign, StatementWord,
     StorageWord, Symbol, TypeWord,

@@ -1,0 +1,10 @@
+pub mod Tokens
+pub mod Contexts
+pub mod Making
+pub mod Heights
+pub mod Expressions
+pub mod Specifiers
+pub mod Declarations
+pub mod Statements
+pub mod Steps
+pub mod Machine

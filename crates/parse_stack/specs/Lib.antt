@@ -1,0 +1,4 @@
+pub mod View
+pub mod Rows
+pub mod Folding
+pub mod Keywords

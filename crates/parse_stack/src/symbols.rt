@@ -1,0 +1,134 @@
+ghost use Rattle.std.specs.Prelude.{◌≡◌, IfOk, bytes_eq, map};
+ghost use Rattle.std.specs.Option.{option_map};
+ghost use Rattle.std.specs.List.{find};
+ghost use Rattle.parse_stack.specs.Keywords.{among, spelled};
+ghost use Rattle.c_tree.specs.Symbols as sg;
+
+use c_lexer::{Mark, Token, TokenKind};
+use c_tree::{AssignOp, BinaryOp, Bracket, Crement, Keyword, Sign, Symbol, KEYWORDS};
+use lv_base::{Memory, Text};
+use std::alloc::Global;
+
+/// Whether the word has these bytes.
+fn is_spelled(word: &str, text: &[u8]) -> bool
+    ensures { result ≡ bytes_eq word.now text.now }
+{
+    word.as_bytes() == text
+}
+
+fn first_word(words: &[(&str, Keyword)], text: &[u8]) -> Option<Keyword>
+    ensures { result ≡ option_map (λ k. k.1) (find (λ k. bytes_eq k.0.now text.now) words.now) }
+{
+    words
+        .iter()
+        .find(|k| is_spelled(k.0, text))
+        .map(|k| k.1)
+}
+
+/// The first of these words that is spelled so.
+fn find_word(words: &[(&str, Keyword)], text: &[u8]) -> Option<Keyword>
+    ensures { result ≡ among text.now (map (λ k. spelled k.0.now k.1) words.now) }
+{
+    first_word(words, text)
+}
+
+/// The keyword that is spelled so.
+fn keyword_of(text: &[u8]) -> Option<Keyword>
+    ensures { result ≡ sg.keyword_of text.now }
+{
+    find_word(&KEYWORDS, text)
+}
+
+fn mark_symbol(mark: Mark) -> Symbol
+    ensures { result ≡ sg.mark_symbol mark }
+{
+    match mark {
+        Mark::BracketOpen => Symbol::Open(Bracket::Square),
+        Mark::BracketClose => Symbol::Close(Bracket::Square),
+        Mark::ParenOpen => Symbol::Open(Bracket::Round),
+        Mark::ParenClose => Symbol::Close(Bracket::Round),
+        Mark::BraceOpen => Symbol::Open(Bracket::Curly),
+        Mark::BraceClose => Symbol::Close(Bracket::Curly),
+        Mark::Dot => Symbol::Dot,
+        Mark::Arrow => Symbol::Arrow,
+        Mark::Increment => Symbol::Crement(Crement::Increment),
+        Mark::Decrement => Symbol::Crement(Crement::Decrement),
+        Mark::Ampersand => Symbol::Binary(BinaryOp::BitAnd),
+        Mark::Star => Symbol::Binary(BinaryOp::Multiply),
+        Mark::Plus => Symbol::Binary(BinaryOp::Add),
+        Mark::Minus => Symbol::Binary(BinaryOp::Subtract),
+        Mark::Tilde => Symbol::Tilde,
+        Mark::Bang => Symbol::Bang,
+        Mark::Slash => Symbol::Binary(BinaryOp::Divide),
+        Mark::Percent => Symbol::Binary(BinaryOp::Remainder),
+        Mark::ShiftLeft => Symbol::Binary(BinaryOp::ShiftLeft),
+        Mark::ShiftRight => Symbol::Binary(BinaryOp::ShiftRight),
+        Mark::Less => Symbol::Binary(BinaryOp::Less),
+        Mark::Greater => Symbol::Binary(BinaryOp::Greater),
+        Mark::LessEqual => Symbol::Binary(BinaryOp::LessEqual),
+        Mark::GreaterEqual => Symbol::Binary(BinaryOp::GreaterEqual),
+        Mark::Equal => Symbol::Binary(BinaryOp::Equal),
+        Mark::NotEqual => Symbol::Binary(BinaryOp::NotEqual),
+        Mark::Caret => Symbol::Binary(BinaryOp::BitXor),
+        Mark::Bar => Symbol::Binary(BinaryOp::BitOr),
+        Mark::AndAnd => Symbol::Binary(BinaryOp::AndAlso),
+        Mark::OrOr => Symbol::Binary(BinaryOp::OrElse),
+        Mark::Question => Symbol::Question,
+        Mark::Colon => Symbol::Colon,
+        Mark::Semicolon => Symbol::Semicolon,
+        Mark::Ellipsis => Symbol::Ellipsis,
+        Mark::Assign => Symbol::Assign(AssignOp::Plain),
+        Mark::StarAssign => Symbol::Assign(AssignOp::Multiply),
+        Mark::SlashAssign => Symbol::Assign(AssignOp::Divide),
+        Mark::PercentAssign => Symbol::Assign(AssignOp::Remainder),
+        Mark::PlusAssign => Symbol::Assign(AssignOp::Add),
+        Mark::MinusAssign => Symbol::Assign(AssignOp::Subtract),
+        Mark::ShiftLeftAssign => Symbol::Assign(AssignOp::ShiftLeft),
+        Mark::ShiftRightAssign => Symbol::Assign(AssignOp::ShiftRight),
+        Mark::AmpersandAssign => Symbol::Assign(AssignOp::BitAnd),
+        Mark::CaretAssign => Symbol::Assign(AssignOp::BitXor),
+        Mark::BarAssign => Symbol::Assign(AssignOp::BitOr),
+        Mark::Comma => Symbol::Comma,
+    }
+}
+
+fn word_symbol(alloc: Global, bytes: &[u8]) -> Result<Symbol, Memory>
+    ensures { IfOk result (λ s. s ≡ sg.word_symbol bytes.now (sg.keyword_of bytes.now)) }
+{
+    Ok(match keyword_of(bytes) {
+        None => Symbol::Name(Text::copy_of(alloc, bytes)?),
+        Some(Keyword::Type(w)) => Symbol::Type(w),
+        Some(Keyword::Storage(w)) => Symbol::Storage(w),
+        Some(Keyword::Const(w)) => Symbol::Const(w),
+        Some(Keyword::Attribute(w)) => Symbol::Attribute(w),
+        Some(Keyword::Statement(w)) => Symbol::Statement(w),
+        Some(Keyword::Enum) => Symbol::Enum,
+        Some(Keyword::Extension) => Symbol::Extension,
+        Some(Keyword::Sizeof) => Symbol::Sizeof,
+        Some(Keyword::Listed) => Symbol::Listed(Text::copy_of(alloc, bytes)?),
+        Some(Keyword::Foreign) => Symbol::Foreign(Text::copy_of(alloc, bytes)?),
+    })
+}
+
+fn symbol_of(alloc: Global, kind: &TokenKind) -> Result<Symbol, Memory>
+    ensures { IfOk result (λ s. s ≡ sg.symbol_of kind.now) }
+{
+    match kind {
+        TokenKind::Word(text) => word_symbol(alloc, text.as_bytes()),
+        TokenKind::Number(value, form) => Ok(Symbol::Number(*value, *form)),
+        TokenKind::Letter(value) => Ok(Symbol::Letter(*value)),
+        TokenKind::Str => Ok(Symbol::Str),
+        TokenKind::Mark(m) => Ok(mark_symbol(*m)),
+        TokenKind::End => Ok(Symbol::End),
+    }
+}
+
+/// The token as the grammar sees it.
+pub fn sign_of(alloc: Global, token: &Token) -> Result<Sign, Memory>
+    ensures { IfOk result (λ s. s ≡ sg.sign_of token.now) }
+{
+    Ok(Sign {
+        symbol: symbol_of(alloc, &token.kind)?,
+        at: token.at,
+    })
+}
