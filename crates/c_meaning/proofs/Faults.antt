@@ -357,3 +357,17 @@ good_call_in_sizeof_source = (items_and (items_and no_items (tFunction (words_an
 
 pub good_call_in_sizeof : Good good_call_in_sizeof_source Ilp32
 good_call_in_sizeof = refl
+
+--   void main() { } int main() { }
+abbrev pub two_mains_source : Items
+two_mains_source = (items_and (items_and no_items (tFunction (words_and no_words (wType type.Void 0)) (named (codes "main") 5) (pUnknown 9 10) no_attributes (bBlock 12 no_statements 14))) (tFunction (words_and no_words (wType type.Int 16)) (named (codes "main") 20) (pUnknown 24 25) no_attributes (bBlock 27 no_statements 29)))
+
+pub two_mains : first_broken (broken two_mains_source Ilp32) ≡ Some (record { fault = fault.NoMain; at = 5 })
+two_mains = refl
+
+--   int main() { enum { B }; int a[sizeof(enum { B }) - 4]; }
+abbrev pub declared_again_inside_source : Items
+declared_again_inside_source = (items_and no_items (tFunction (words_and no_words (wType type.Int 0)) (named (codes "main") 4) (pUnknown 8 9) no_attributes (bBlock 11 (statements_and (statements_and no_statements (sDeclaration (declares (words_and no_words (wEnum 13 18 (plain_and no_enumerators None (codes "B") 20) None 22)) no_declarators 23))) (sDeclaration (declares (words_and no_words (wType type.Int 25)) (declarators_and no_declarators None (named (codes "a") 29) (fArray 30 (Some (eBinary (eSizeof 31 37 (words_and no_words (wEnum 38 43 (plain_and no_enumerators None (codes "B") 45) None 47)) 48) op.Subtract 50 (eNumber 4 (form true false 0) 52))) 53) no_attributes iNothing) 54))) 56)))
+
+pub declared_again_inside : first_broken (broken declared_again_inside_source Ilp32) ≡ Some (record { fault = fault.Redeclared; at = 45 })
+declared_again_inside = refl

@@ -151,6 +151,84 @@ module _ (env : Env) (model : Model) (bodies : List (List ℕ)) where
   cast_lines tVoid e = []
   cast_lines _ e = value_line e
 
+  -- ---- Names that are declared twice (C11 6.2.2, 6.7 p3, p4, 6.9 p3)
+
+  abbrev pub same_kinds : List Kind → List Kind → Bool
+  same_kinds [] [] = true
+  same_kinds (k ∷ ks) (l ∷ ls) = is_same_kind k l && same_kinds ks ls
+  same_kinds _ _ = false
+
+  abbrev pub same_length : Option ℕ → Option ℕ → Bool
+  same_length None None = true
+  same_length (Some n) (Some m) = nat_eq n m
+  same_length _ _ = false
+
+  abbrev pub same_const : Bool → Bool → Bool
+  same_const true true = true
+  same_const false false = true
+  same_const _ _ = false
+
+  abbrev pub same_result : Option Kind → Option Kind → Bool
+  same_result None None = true
+  same_result (Some k) (Some l) = is_same_kind k l
+  same_result _ _ = false
+
+  abbrev pub begins : Initial → Bool
+  begins iNothing = false
+  begins _ = true
+
+  -- Two declarations of one object or function agree: in kind, length and `const` of the object, or in the kinds of result
+  -- and parameters; at most one of them initializes or has a body.
+  abbrev pub agrees : What → What → Bool
+  agrees (anObject ws f i) (anObject vs g j) =
+      is_same_kind (kind_or_int (words_type env ws)) (kind_or_int (words_type env vs))
+      && (same_length (object_length env model f i) (object_length env model g j)
+      && (same_const (has_const env ws) (has_const env vs)
+      && not (begins i && begins j)))
+  agrees (aFunction ws ps b) (aFunction vs qs c) =
+      same_result (kind_in (words_type env ws)) (kind_in (words_type env vs))
+      && (same_kinds (parameter_kinds env ps) (parameter_kinds env qs)
+      && not (b && c))
+  agrees _ _ = false
+
+  abbrev pub same_space : What → What → Bool
+  same_space w v = if is_tag w then is_tag v else not (is_tag v)
+
+  -- the two are in one name space and one scope, and have one name; a parameter without a name has none
+  abbrev pub meets : Declared → Declared → Bool
+  meets d e = same_space d.what e.what && (is_same d.scope e.scope && (bytes_eq d.name e.name && nat_lt 0 (length d.name)))
+
+  abbrev pub clashes : Declared → Entry → Bool
+  clashes d e = meets d e.declared && not (is_file d.scope && agrees e.declared.what d.what)
+
+  -- the declared result and parameters of a function that means something without a body
+  abbrev pub is_known_right : Known → Option Kind → Bool
+  is_known_right reaches result = is_none result
+  is_known_right aborts result = is_none result
+  is_known_right (draws k) result = not (is_none result)
+
+  abbrev pub may_have_body : Known → Bool
+  may_have_body reaches = true
+  may_have_body _ = false
+
+  abbrev pub known_line : Option Known → ℕ → Option Kind → List Kind → Bool → List Broken
+  known_line None at result parameters has_body = []
+  known_line (Some k) at result parameters has_body =
+      line (not (is_known_right k result && (nat_eq (length parameters) 0 && (may_have_body k || not has_body)))) fault.Redeclared at
+
+  abbrev pub declared_line : Declared → What → List Broken
+  declared_line d (aFunction ws ps b) = known_line (known_of d.name) d.at (kind_in (words_type env ws)) (parameter_kinds env ps) b
+  declared_line d _ = []
+
+  abbrev pub redeclared : List Entry → List Entry → List Broken
+  redeclared before [] = []
+  redeclared before (e ∷ es) =
+      line (list_any (clashes e.declared) before) fault.Redeclared e.declared.at ++ declared_line e.declared e.declared.what ++ redeclared (e ∷ before) es
+
+  -- the name at this offset is declared a second time in its scope
+  abbrev pub is_redeclared : ℕ → Bool
+  is_redeclared at = list_any (λ b. nat_eq b.at at) (redeclared [] env.entries)
+
   -- ---- Expressions
 
   abbrev mutual
@@ -185,13 +263,13 @@ module _ (env : Env) (model : Model) (bodies : List (List ℕ)) where
     pub faults_of_word : Word → List Broken
     faults_of_word (wTag at n b) = line (is_none (visible env true n b)) fault.UnknownName b
     faults_of_word (wEnum at a es c b) = faults_of_enumerators es
-    faults_of_word (wTagEnum at n x a es c b) = faults_of_enumerators es
+    faults_of_word (wTagEnum at n x a es c b) = line (is_redeclared x) fault.Redeclared x ++ faults_of_enumerators es
     faults_of_word _ = []
 
     pub faults_of_enumerators : Ens → List Broken
     faults_of_enumerators no_enumerators = []
-    faults_of_enumerators (plain_and es c n at) = faults_of_enumerators es ++ range_line (constant_value (declared_at env at)) at
-    faults_of_enumerators (valued_and es c n at a e) = faults_of_enumerators es ++ unless (faults e) (constant_lines e ++ range_line (constant_value (declared_at env at)) (first_of e))
+    faults_of_enumerators (plain_and es c n at) = faults_of_enumerators es ++ line (is_redeclared at) fault.Redeclared at ++ range_line (constant_value (declared_at env at)) at
+    faults_of_enumerators (valued_and es c n at a e) = faults_of_enumerators es ++ line (is_redeclared at) fault.Redeclared at ++ unless (faults e) (constant_lines e ++ range_line (constant_value (declared_at env at)) (first_of e))
 
   -- an expression whose value is wanted, one whose value is not, and a constant
   abbrev pub faults_of_value : Ex → List Broken
@@ -340,89 +418,20 @@ module _ (env : Env) (model : Model) (bodies : List (List ℕ)) where
   faults_of_items no_items = []
   faults_of_items (items_and is i) = faults_of_items is ++ faults_of_item i
 
-  -- ---- Names that are declared twice (C11 6.2.2, 6.7 p3, p4, 6.9 p3)
-
-  abbrev pub same_kinds : List Kind → List Kind → Bool
-  same_kinds [] [] = true
-  same_kinds (k ∷ ks) (l ∷ ls) = is_same_kind k l && same_kinds ks ls
-  same_kinds _ _ = false
-
-  abbrev pub same_length : Option ℕ → Option ℕ → Bool
-  same_length None None = true
-  same_length (Some n) (Some m) = nat_eq n m
-  same_length _ _ = false
-
-  abbrev pub same_const : Bool → Bool → Bool
-  same_const true true = true
-  same_const false false = true
-  same_const _ _ = false
-
-  abbrev pub same_result : Option Kind → Option Kind → Bool
-  same_result None None = true
-  same_result (Some k) (Some l) = is_same_kind k l
-  same_result _ _ = false
-
-  abbrev pub begins : Initial → Bool
-  begins iNothing = false
-  begins _ = true
-
-  -- Two declarations of one object or function agree: in kind, length and `const` of the object, or in the kinds of result
-  -- and parameters; at most one of them initializes or has a body.
-  abbrev pub agrees : What → What → Bool
-  agrees (anObject ws f i) (anObject vs g j) =
-      is_same_kind (kind_or_int (words_type env ws)) (kind_or_int (words_type env vs))
-      && (same_length (object_length env model f i) (object_length env model g j)
-      && (same_const (has_const env ws) (has_const env vs)
-      && not (begins i && begins j)))
-  agrees (aFunction ws ps b) (aFunction vs qs c) =
-      same_result (kind_in (words_type env ws)) (kind_in (words_type env vs))
-      && (same_kinds (parameter_kinds env ps) (parameter_kinds env qs)
-      && not (b && c))
-  agrees _ _ = false
-
-  abbrev pub same_space : What → What → Bool
-  same_space w v = if is_tag w then is_tag v else not (is_tag v)
-
-  -- the two are in one name space and one scope, and have one name; a parameter without a name has none
-  abbrev pub meets : Declared → Declared → Bool
-  meets d e = same_space d.what e.what && (is_same d.scope e.scope && (bytes_eq d.name e.name && nat_lt 0 (length d.name)))
-
-  abbrev pub clashes : Declared → Entry → Bool
-  clashes d e = meets d e.declared && not (is_file d.scope && agrees e.declared.what d.what)
-
-  -- the declared result and parameters of a function that means something without a body
-  abbrev pub is_known_right : Known → Option Kind → Bool
-  is_known_right reaches result = is_none result
-  is_known_right aborts result = is_none result
-  is_known_right (draws k) result = not (is_none result)
-
-  abbrev pub may_have_body : Known → Bool
-  may_have_body reaches = true
-  may_have_body _ = false
-
-  abbrev pub known_line : Option Known → ℕ → Option Kind → List Kind → Bool → List Broken
-  known_line None at result parameters has_body = []
-  known_line (Some k) at result parameters has_body =
-      line (not (is_known_right k result && (nat_eq (length parameters) 0 && (may_have_body k || not has_body)))) fault.Redeclared at
-
-  abbrev pub declared_line : Declared → What → List Broken
-  declared_line d (aFunction ws ps b) = known_line (known_of d.name) d.at (kind_in (words_type env ws)) (parameter_kinds env ps) b
-  declared_line d _ = []
-
-  abbrev pub redeclared : List Entry → List Entry → List Broken
-  redeclared before [] = []
-  redeclared before (e ∷ es) =
-      line (list_any (clashes e.declared) before) fault.Redeclared e.declared.at ++ declared_line e.declared e.declared.what ++ redeclared (e ∷ before) es
-
   -- ---- `main` (C11 5.1.2.2.1): it has a body, no parameters, and the result `int`
 
   abbrev pub main_lines : ℕ → Option Kind → List Kind → List Broken
   main_lines at result parameters = line (not (same_result result (Some kind.Int) && nat_eq (length parameters) 0)) fault.NoMain at
 
+  -- those of each `main` with a body, none where there is no such
+  abbrev pub or_none : Option (List Broken) → List Broken
+  or_none None = []
+  or_none (Some lines) = lines
+
   abbrev pub main_in : Items → Option (List Broken)
   main_in no_items = None
   main_in (items_and is (tFunction ws (named n at) ps ats (bBlock a ss b))) =
-      if bytes_eq n (codes "main") then Some (main_lines at (kind_in (words_type env ws)) (parameter_kinds env ps)) else main_in is
+      if bytes_eq n (codes "main") then Some (or_none (main_in is) ++ main_lines at (kind_in (words_type env ws)) (parameter_kinds env ps)) else main_in is
   main_in (items_and is i) = main_in is
 
   abbrev pub main_line : Option (List Broken) → List Broken
