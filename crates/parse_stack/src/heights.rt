@@ -52,10 +52,8 @@ fn base_least(b: &Base) -> u8
     ensures { result ≡ hi.least (v.base b.now) }
 {
     match b {
-        Base::Case(..)
-        | Base::Length(..)
-        | Base::ParameterConstant(..)
-        | Base::PlaceConstant(..) => 2,
+        Base::Case(..) | Base::Length(..) | Base::ParameterConstant(..) | Base::PlaceConstant(..) =>
+            2,
         Base::Initial(..) | Base::Part(..) => 1,
         Base::Statement(_)
         | Base::Test(..)

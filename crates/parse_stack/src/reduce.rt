@@ -85,7 +85,12 @@ pub fn bound(alloc: Global, b: Bind, e: Part) -> Result<Part, AllocError>
     match b {
         Bind::Binary(a, op, at) => {
             let height = above(a.height.max(e.height));
-            make_part(alloc, level(op), height, Expr::Binary(a.node, op, at, e.node))
+            make_part(
+                alloc,
+                level(op),
+                height,
+                Expr::Binary(a.node, op, at, e.node),
+            )
         }
         Bind::Prefix(op, at) => {
             let height = above(e.height);

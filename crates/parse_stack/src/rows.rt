@@ -9,7 +9,8 @@ ghost use Rattle.parse_machine.specs.Declarations.{are_no_attributes};
 use crate::parts::{DeclaratorRow, EnumRow, ParamRow, Part, PartRow, Spoken};
 use crate::reduce::above;
 use c_tree::{
-    Attribute, Declarator, Enumerator, Known, Listed, Name, Parameter, Spec, Specs, Statement, Storage, Typing,
+    Attribute, Declarator, Enumerator, Known, Listed, Name, Parameter, Spec, Specs, Statement,
+    Storage, Typing,
 };
 use std::alloc::{AllocError, Global};
 

@@ -5,7 +5,7 @@ ghost use Rattle.parse_stack.specs.Keywords.{among, spelled};
 ghost use Rattle.c_tree.specs.Symbols as sg;
 
 use c_lexer::{Mark, Token, TokenKind};
-use c_tree::{AssignOp, BinaryOp, Bracket, Crement, Keyword, Sign, Symbol, KEYWORDS};
+use c_tree::{AssignOp, BinaryOp, Bracket, Crement, KEYWORDS, Keyword, Sign, Symbol};
 use lv_base::{Memory, Text};
 use std::alloc::Global;
 
@@ -19,10 +19,7 @@ fn is_spelled(word: &str, text: &[u8]) -> bool
 fn first_word(words: &[(&str, Keyword)], text: &[u8]) -> Option<Keyword>
     ensures { result ≡ option_map (λ k. k.1) (find (λ k. bytes_eq k.0.now text.now) words.now) }
 {
-    words
-        .iter()
-        .find(|k| is_spelled(k.0, text))
-        .map(|k| k.1)
+    words.iter().find(|k| is_spelled(k.0, text)).map(|k| k.1)
 }
 
 /// The first of these words that is spelled so.

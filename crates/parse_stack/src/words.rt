@@ -3,8 +3,8 @@ ghost use Rattle.c_tree.specs.Words as wo;
 ghost use Rattle.parse_machine.specs.Heights as hi;
 ghost use Rattle.parse_stack.specs.View as v;
 
-use c_tree::{Known, Signedness, Site, Size, Storage, StorageWord, TypeWord, Typing};
 use crate::places::Place;
+use c_tree::{Known, Signedness, Site, Size, Storage, StorageWord, TypeWord, Typing};
 
 /// Where a declaration stands, as its words see it.
 pub fn site_of_place(p: &Place) -> Site

@@ -13,11 +13,19 @@ ghost use Rattle.parse_stack.specs.View as v;
 ghost use Rattle.parse_steps.specs.ModeView.{Gives, GivesTurn, Declares};
 ghost use Rattle.parse_steps.specs.Keeping.{KeepsNames};
 
-use c_tree::{AssignOp, AttributeWord, Bracket, Declaration, Declarator, Expr, ForStart, Form, Initial, Item, Name, Parameters, Statement, Symbol, TypeWord};
 use crate::modes::{Mode, Skip, Waiting};
 use crate::specifiers::{parameters_more, step_specs};
+use c_tree::{
+    AssignOp, AttributeWord, Bracket, Declaration, Declarator, Expr, ForStart, Form, Initial, Item,
+    Name, Parameters, Statement, Symbol, TypeWord,
+};
 use lv_base::Text;
-use parse_stack::{Around, Attributed, Base, Declared, Declaring, FunctionHead, Names, Opening, Outer, ParamRow, Part, PartRow, Place, Spoken, StepFail, TallForm, above, add_declarator, add_parameter, attributes_height, is_first, is_object, is_skipped_name, is_typedef, may_be_array, may_be_function, may_be_whole, may_have_attribute, rooted, unspoken};
+use parse_stack::{
+    Around, Attributed, Base, Declared, Declaring, FunctionHead, Names, Opening, Outer, ParamRow,
+    Part, PartRow, Place, Spoken, StepFail, TallForm, above, add_declarator, add_parameter,
+    attributes_height, is_first, is_object, is_skipped_name, is_typedef, may_be_array,
+    may_be_function, may_be_whole, may_have_attribute, rooted, unspoken,
+};
 use std::alloc::{AllocError, Global};
 
 /// Behind a declared name.
@@ -51,12 +59,7 @@ pub fn declared_name(
 }
 
 /// What stands behind the name is known.
-fn with_form(
-    alloc: Global,
-    d: Box<Declared>,
-    form: Form,
-    height: u32,
-) -> Result<Mode, StepFail>
+fn with_form(alloc: Global, d: Box<Declared>, form: Form, height: u32) -> Result<Mode, StepFail>
     ensures { Gives result (Some (m.Behind (mk.with_form (v.declared d.value) (mk.tall (form_of form) height)))) }
 {
     let form = Box::new(alloc, TallForm { form, height })?;
@@ -142,11 +145,7 @@ fn with_initial(d: Box<Declared>, i: Initial, height: u32) -> Result<Declaring, 
         form,
         height: form_height,
     } = Box::into_inner(form);
-    let more = above(
-        form_height
-            .max(attributes_height(&attributes))
-            .max(height),
-    );
+    let more = above(form_height.max(attributes_height(&attributes)).max(height));
     let before = add_declarator(
         before,
         Declarator {
@@ -194,14 +193,8 @@ fn end_in(alloc: Global, p: Box<Place>, d: Declaration, height: u32) -> Result<M
     ensures { Gives result (Some (ex.ended_at (v.place p.value) (declaration_of d) height)) }
 {
     match Box::into_inner(p) {
-        Place::File => Ok(Mode::Ended(
-            Box::new(alloc, Item::Declaration(d))?,
-            height,
-        )),
-        Place::Block(o) => Ok(Mode::Whole(
-            Box::new(alloc, Statement::Declaration(d))?,
-            o,
-        )),
+        Place::File => Ok(Mode::Ended(Box::new(alloc, Item::Declaration(d))?, height)),
+        Place::Block(o) => Ok(Mode::Whole(Box::new(alloc, Statement::Declaration(d))?, o)),
         Place::For(mark, x, a, o) => {
             let start = Box::new(alloc, ForStart::Declaration(d))?;
             Ok(Mode::Maybe(rooted(alloc, Base::More(mark, x, a, start, o))?))

@@ -8,11 +8,14 @@ ghost use Rattle.parse_machine.specs.Specifiers as sf;
 ghost use Rattle.parse_stack.specs.View as v;
 ghost use Rattle.parse_steps.specs.ModeView.{Gives};
 
-use c_tree::{AssignOp, Bracket, Spec, Symbol};
 use crate::modes::Mode;
 use crate::specifiers::step_specs;
+use c_tree::{AssignOp, Bracket, Spec, Symbol};
 use lv_base::Text;
-use parse_stack::{Around, Base, EnumHead, EnumRow, Frame, Inner, Listing, Names, Nest, Part, Spoken, StepFail, Valuing, above, add_word, enumeration, plain_more, push, rooted, valued_more};
+use parse_stack::{
+    Around, Base, EnumHead, EnumRow, Frame, Inner, Listing, Names, Nest, Part, Spoken, StepFail,
+    Valuing, above, add_word, enumeration, plain_more, push, rooted, valued_more,
+};
 use std::alloc::{AllocError, Global};
 
 /// The words of a cast or of `sizeof`.

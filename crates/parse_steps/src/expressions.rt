@@ -8,11 +8,14 @@ ghost use Rattle.parse_machine.specs.Expressions as ex;
 ghost use Rattle.parse_stack.specs.View as v;
 ghost use Rattle.parse_steps.specs.ModeView.{Gives};
 
-use c_tree::{AssignOp, BinaryOp, Bracket, Crement, Expr, PrefixOp, Symbol};
 use crate::modes::{Fork, Mode};
 use crate::values::step_folded;
+use c_tree::{AssignOp, BinaryOp, Bracket, Crement, Expr, PrefixOp, Symbol};
 use lv_base::Text;
-use parse_stack::{Bind, Frame, Inner, Names, Opened, Part, StepFail, above, add_part, fold, least, level, make_part, no_parts, push};
+use parse_stack::{
+    Bind, Frame, Inner, Names, Opened, Part, StepFail, above, add_part, fold, least, level,
+    make_part, no_parts, push,
+};
 use std::alloc::Global;
 
 /// A whole operand that is one token.
@@ -34,13 +37,7 @@ fn open_round(alloc: Global, at: u32, k: Inner) -> Result<Mode, StepFail>
     }
 }
 
-fn name_operand(
-    alloc: Global,
-    names: &Names,
-    n: Text,
-    at: u32,
-    k: Inner,
-) -> Result<Mode, StepFail>
+fn name_operand(alloc: Global, names: &Names, n: Text, at: u32, k: Inner) -> Result<Mode, StepFail>
     ensures { Gives result (ex.step_operand names.now (tk.preName n) at (v.inner k)) }
 {
     if names.has(&n) {

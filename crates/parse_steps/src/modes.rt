@@ -2,7 +2,10 @@ ghost use Rattle.std.specs.Prelude.{◌≤◌, vec_len};
 
 use c_tree::{Attribute, AttributeWord, Head, Item, Sign, Statement};
 use lv_base::Text;
-use parse_stack::{Around, Attributed, Declared, Declaring, FunctionHead, Inner, Listing, Outer, ParamRow, Part, Spoken, Test};
+use parse_stack::{
+    Around, Attributed, Declared, Declaring, FunctionHead, Inner, Listing, Outer, ParamRow, Part,
+    Spoken, Test,
+};
 
 /// Tokens that are kept as they stand, and how many brackets are open behind them.
 #[derive(Drop)]

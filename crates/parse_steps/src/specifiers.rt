@@ -10,11 +10,15 @@ ghost use Rattle.parse_machine.specs.Specifiers as sf;
 ghost use Rattle.parse_stack.specs.View as v;
 ghost use Rattle.parse_steps.specs.ModeView.{Gives};
 
-use c_tree::{AttributeWord, Bracket, Known, Name, Site, Spec, Symbol};
 use crate::declarations::{declared_name, end_declaration, parameters_end};
 use crate::modes::{Mode, Waiting};
+use c_tree::{AttributeWord, Bracket, Known, Name, Site, Spec, Symbol};
 use lv_base::Text;
-use parse_stack::{Around, Attributed, Bind, Declared, Declaring, Frame, Inner, Names, ParamRow, Place, Spoken, StepFail, above, add_parameter, is_typed, is_void, make_part, no_declarators, push, say, site_of_place, sizeof_node, unspoken, with_named, with_storage, with_type};
+use parse_stack::{
+    Around, Attributed, Bind, Declared, Declaring, Frame, Inner, Names, ParamRow, Place, Spoken,
+    StepFail, above, add_parameter, is_typed, is_void, make_part, no_declarators, push, say,
+    site_of_place, sizeof_node, unspoken, with_named, with_storage, with_type,
+};
 use std::alloc::Global;
 
 fn site_of(w: &Around) -> Site

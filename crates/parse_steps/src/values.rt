@@ -9,12 +9,16 @@ ghost use Rattle.parse_machine.specs.Expressions as ex;
 ghost use Rattle.parse_stack.specs.View as v;
 ghost use Rattle.parse_steps.specs.ModeView.{Gives};
 
-use c_tree::{Bracket, Expr, ForHead, ForStart, Head, Statement, Symbol};
 use crate::declarations::{array_of, end_declaration, listed, with_value};
 use crate::enumerations::{nested, valued_close, valued_comma};
 use crate::expressions::{assign, binary, question, sequence, step_operand};
 use crate::modes::{Mode, Waiting};
-use parse_stack::{Around, Base, Bind, Declared, Frame, Inner, Names, Opened, Outer, OuterFrame, Part, PartRow, StepFail, Test, Top, Wrap, above, add_part, call_node, make_part, pop, push, push_outer, rooted, tested};
+use c_tree::{Bracket, Expr, ForHead, ForStart, Head, Statement, Symbol};
+use parse_stack::{
+    Around, Base, Bind, Declared, Frame, Inner, Names, Opened, Outer, OuterFrame, Part, PartRow,
+    StepFail, Test, Top, Wrap, above, add_part, call_node, make_part, pop, push, push_outer,
+    rooted, tested,
+};
 use std::alloc::Global;
 
 /// A statement is to come inside of this.
@@ -175,9 +179,7 @@ fn colon_open(at: u32, e: Part, o: Opened, k: Inner) -> Result<Mode, StepFail>
     ensures { Gives result (ex.colon_open at (v.part e) (v.opened o) (v.inner k)) }
 {
     match o {
-        Opened::Then(c, x) => {
-            Ok(Mode::Operand(push(k, Frame::Bind(Bind::Else(c, x, e, at)))?))
-        }
+        Opened::Then(c, x) => { Ok(Mode::Operand(push(k, Frame::Bind(Bind::Else(c, x, e, at)))?)) }
         _ => Err(StepFail::Refused),
     }
 }
@@ -205,10 +207,7 @@ fn paren(alloc: Global, at: u32, e: Part, a: u32, k: Inner) -> Result<Mode, Step
     ensures { Gives result (ex.close_round_open at (v.part e) (m.oParen a) (v.inner k)) }
 {
     let height = above(e.height);
-    Ok(Mode::Value(
-        make_part(alloc, 15, height, Expr::Paren(a, e.node, at))?,
-        k,
-    ))
+    Ok(Mode::Value(make_part(alloc, 15, height, Expr::Paren(a, e.node, at))?, k))
 }
 
 fn last_argument(
@@ -271,13 +270,7 @@ fn for_head(
 }
 
 /// The condition of a `do` is whole.
-fn do_head(
-    alloc: Global,
-    at: u32,
-    s: Box<Statement>,
-    h: Head,
-    o: Outer,
-) -> Result<Mode, StepFail>
+fn do_head(alloc: Global, at: u32, s: Box<Statement>, h: Head, o: Outer) -> Result<Mode, StepFail>
     ensures { Gives result (Some (m.Wait (m.waitDone at (statement s.value) (head_of h) (v.outer o)))) }
 {
     Ok(Mode::Wait(Box::new(alloc, Waiting::Done(at, s, h, o))?))
