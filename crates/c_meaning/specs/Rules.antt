@@ -160,7 +160,7 @@ module _ (env : Env) (model : Model) (bodies : List (List ℕ)) where
 
   abbrev pub same_length : Option ℕ → Option ℕ → Bool
   same_length None None = true
-  same_length (Some n) (Some m) = nat_eq n m
+  same_length (Some n) (Some m) = nat_eq n m || (nat_eq n 0 || nat_eq m 0)
   same_length _ _ = false
 
   abbrev pub same_const : Bool → Bool → Bool
