@@ -1,0 +1,6 @@
+pub mod Views
+pub mod Stacks
+pub mod ItemLemmas
+pub mod OtherLemmas
+pub mod RunLemmas
+pub mod TurnLemmas

@@ -1,0 +1,13 @@
+//! Reads the tokens of a source into their tree, one after another.
+#![tactic(auto)]
+
+mod externs;
+mod measures;
+mod parser;
+mod settling;
+mod statements;
+mod steps;
+#[cfg(test)]
+mod tests;
+
+pub use parser::parse;
