@@ -1,3 +1,4 @@
 pub mod StackLemmas
 pub mod Views
 pub mod WordLemmas
+pub mod MarkLemmas

@@ -2,6 +2,7 @@ ghost use Rattle.std.specs.Prelude.{◌≡◌, IfOk, bytes_eq, map};
 ghost use Rattle.std.specs.Option.{option_map};
 ghost use Rattle.std.specs.List.{find};
 ghost use Rattle.parse_stack.specs.Keywords.{among, spelled};
+ghost use Rattle.parse_stack.specs.Marks as mk;
 ghost use Rattle.c_tree.specs.Symbols as sg;
 
 use c_lexer::{Mark, Token, TokenKind};
@@ -36,8 +37,56 @@ fn keyword_of(text: &[u8]) -> Option<Keyword>
     find_word(&KEYWORDS, text)
 }
 
-fn mark_symbol(mark: Mark) -> Symbol
-    ensures { result ≡ sg.mark_symbol mark }
+/// The assignment that the mark is.
+fn assignment(mark: Mark) -> Option<AssignOp>
+    ensures { result ≡ mk.assignment_in (sg.mark_symbol mark) }
+{
+    match mark {
+        Mark::Assign => Some(AssignOp::Plain),
+        Mark::StarAssign => Some(AssignOp::Multiply),
+        Mark::SlashAssign => Some(AssignOp::Divide),
+        Mark::PercentAssign => Some(AssignOp::Remainder),
+        Mark::PlusAssign => Some(AssignOp::Add),
+        Mark::MinusAssign => Some(AssignOp::Subtract),
+        Mark::ShiftLeftAssign => Some(AssignOp::ShiftLeft),
+        Mark::ShiftRightAssign => Some(AssignOp::ShiftRight),
+        Mark::AmpersandAssign => Some(AssignOp::BitAnd),
+        Mark::CaretAssign => Some(AssignOp::BitXor),
+        Mark::BarAssign => Some(AssignOp::BitOr),
+        _ => None,
+    }
+}
+
+/// The operator of two operands that the mark is.
+fn operator(mark: Mark) -> Option<BinaryOp>
+    ensures { result ≡ mk.operator_in (sg.mark_symbol mark) }
+{
+    match mark {
+        Mark::Ampersand => Some(BinaryOp::BitAnd),
+        Mark::Star => Some(BinaryOp::Multiply),
+        Mark::Plus => Some(BinaryOp::Add),
+        Mark::Minus => Some(BinaryOp::Subtract),
+        Mark::Slash => Some(BinaryOp::Divide),
+        Mark::Percent => Some(BinaryOp::Remainder),
+        Mark::ShiftLeft => Some(BinaryOp::ShiftLeft),
+        Mark::ShiftRight => Some(BinaryOp::ShiftRight),
+        Mark::Less => Some(BinaryOp::Less),
+        Mark::Greater => Some(BinaryOp::Greater),
+        Mark::LessEqual => Some(BinaryOp::LessEqual),
+        Mark::GreaterEqual => Some(BinaryOp::GreaterEqual),
+        Mark::Equal => Some(BinaryOp::Equal),
+        Mark::NotEqual => Some(BinaryOp::NotEqual),
+        Mark::Caret => Some(BinaryOp::BitXor),
+        Mark::Bar => Some(BinaryOp::BitOr),
+        Mark::AndAnd => Some(BinaryOp::AndAlso),
+        Mark::OrOr => Some(BinaryOp::OrElse),
+        _ => None,
+    }
+}
+
+/// The mark, where it is neither; the end stands for what is one of them.
+fn other_mark(mark: Mark) -> Symbol
+    ensures { result ≡ mk.other_in (sg.mark_symbol mark) }
 {
     match mark {
         Mark::BracketOpen => Symbol::Open(Bracket::Square),
@@ -50,43 +99,31 @@ fn mark_symbol(mark: Mark) -> Symbol
         Mark::Arrow => Symbol::Arrow,
         Mark::Increment => Symbol::Crement(Crement::Increment),
         Mark::Decrement => Symbol::Crement(Crement::Decrement),
-        Mark::Ampersand => Symbol::Binary(BinaryOp::BitAnd),
-        Mark::Star => Symbol::Binary(BinaryOp::Multiply),
-        Mark::Plus => Symbol::Binary(BinaryOp::Add),
-        Mark::Minus => Symbol::Binary(BinaryOp::Subtract),
         Mark::Tilde => Symbol::Tilde,
         Mark::Bang => Symbol::Bang,
-        Mark::Slash => Symbol::Binary(BinaryOp::Divide),
-        Mark::Percent => Symbol::Binary(BinaryOp::Remainder),
-        Mark::ShiftLeft => Symbol::Binary(BinaryOp::ShiftLeft),
-        Mark::ShiftRight => Symbol::Binary(BinaryOp::ShiftRight),
-        Mark::Less => Symbol::Binary(BinaryOp::Less),
-        Mark::Greater => Symbol::Binary(BinaryOp::Greater),
-        Mark::LessEqual => Symbol::Binary(BinaryOp::LessEqual),
-        Mark::GreaterEqual => Symbol::Binary(BinaryOp::GreaterEqual),
-        Mark::Equal => Symbol::Binary(BinaryOp::Equal),
-        Mark::NotEqual => Symbol::Binary(BinaryOp::NotEqual),
-        Mark::Caret => Symbol::Binary(BinaryOp::BitXor),
-        Mark::Bar => Symbol::Binary(BinaryOp::BitOr),
-        Mark::AndAnd => Symbol::Binary(BinaryOp::AndAlso),
-        Mark::OrOr => Symbol::Binary(BinaryOp::OrElse),
         Mark::Question => Symbol::Question,
         Mark::Colon => Symbol::Colon,
         Mark::Semicolon => Symbol::Semicolon,
         Mark::Ellipsis => Symbol::Ellipsis,
-        Mark::Assign => Symbol::Assign(AssignOp::Plain),
-        Mark::StarAssign => Symbol::Assign(AssignOp::Multiply),
-        Mark::SlashAssign => Symbol::Assign(AssignOp::Divide),
-        Mark::PercentAssign => Symbol::Assign(AssignOp::Remainder),
-        Mark::PlusAssign => Symbol::Assign(AssignOp::Add),
-        Mark::MinusAssign => Symbol::Assign(AssignOp::Subtract),
-        Mark::ShiftLeftAssign => Symbol::Assign(AssignOp::ShiftLeft),
-        Mark::ShiftRightAssign => Symbol::Assign(AssignOp::ShiftRight),
-        Mark::AmpersandAssign => Symbol::Assign(AssignOp::BitAnd),
-        Mark::CaretAssign => Symbol::Assign(AssignOp::BitXor),
-        Mark::BarAssign => Symbol::Assign(AssignOp::BitOr),
         Mark::Comma => Symbol::Comma,
+        _ => Symbol::End,
     }
+}
+
+fn joined(assignment: Option<AssignOp>, operator: Option<BinaryOp>, other: Symbol) -> Symbol
+    ensures { result ≡ mk.joined assignment operator other }
+{
+    match (assignment, operator) {
+        (Some(op), _) => Symbol::Assign(op),
+        (None, Some(op)) => Symbol::Binary(op),
+        (None, None) => other,
+    }
+}
+
+fn mark_symbol(mark: Mark) -> Symbol
+    ensures { result ≡ sg.mark_symbol mark }
+{
+    joined(assignment(mark), operator(mark), other_mark(mark))
 }
 
 fn word_symbol(alloc: Global, bytes: &[u8]) -> Result<Symbol, Memory>
