@@ -1,3 +1,4 @@
+pub mod Reading
 pub mod Settling
 pub mod Skipping
 pub mod StateView

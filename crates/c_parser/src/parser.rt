@@ -1,7 +1,9 @@
-ghost use Rattle.std.specs.Prelude.{◌≡◌, Some, if◌then◌else◌};
+ghost use Rattle.std.specs.Prelude.{◌≡◌, Some, if◌then◌else◌, IfOk, IfErr};
 ghost use Rattle.c_tree.specs.Symbols as sg;
+ghost use Rattle.c_tree.specs.Denotes.{Denotes, tree_of};
 ghost use Rattle.parse_machine.specs.Tokens as tk;
 ghost use Rattle.parse_machine.specs.Machine as ma;
+ghost use Rattle.c_parser.specs.Reading.{IsOnly, IsRefusal};
 ghost use Rattle.c_parser.specs.StateView.{Answers, Advances, StopsWith, state_of, phase_of};
 ghost use Rattle.c_tree.specs.declared.symbol.Sign.{Sign};
 
@@ -102,8 +104,19 @@ fn finish(state: State) -> Result<Unit, SourceFail>
 /// The tree of a source's tokens.
 ///
 /// Refused with `Syntax` or `Unsupported` at the first token with which no shaped tree goes on, and for limit 3 where each
-/// tree that goes on is higher than 200.
+/// tree that goes on is higher than 200. Tokens that don't end with a source's end are refused with `Syntax` at 0 where none
+/// of them is refused before.
 pub fn parse(alloc: Global, tokens: &[Token]) -> Result<Unit, SourceFail>
+    ensures machine { Answers result (ma.parse_of (sg.signs_of tokens.now)) }
+    ensures tree { IfOk result (λ unit. Denotes tokens.now unit) }
+    ensures only { IfOk result (λ unit. IsOnly (sg.signs_of tokens.now) (tree_of unit)) }
+    ensures refused { IfErr result (λ fail. IsRefusal (sg.signs_of tokens.now) fail) }
+{
+    read(alloc, tokens)
+}
+
+// The machine over all tokens.
+fn read(alloc: Global, tokens: &[Token]) -> Result<Unit, SourceFail>
     ensures { Answers result (ma.parse_of (sg.signs_of tokens.now)) }
 {
     let mut state = State {

@@ -374,6 +374,64 @@ fn reads_deep_sources(rt: HostRuntime) -> Result<(), Fail> {
     Ok(())
 }
 
+/// Whole sources, with the number of their items: a task as its usual producers write it, with a line marker, skipped
+/// declarations and a skipped body; a recursion; a function that ends without a value.
+const WORKED: [(&str, usize); 3] = [
+    (
+        "# 1 \"count.c\"\nextern void abort(void);\nextern void __assert_fail (const char *__assertion, const char *__file,\n      unsigned int __line, const char *__function)\n     __attribute__ ((__nothrow__ , __leaf__)) __attribute__ ((__noreturn__));\nvoid reach_error() { ((void) sizeof ((0) ? 1 : 0), __extension__ ({ if (0) ; else __assert_fail (\"0\", \"count.c\", 3, __extension__ __PRETTY_FUNCTION__); })); }\nvoid __VERIFIER_assert(int cond) {\n  if (!(cond)) {\n    ERROR: {reach_error();abort();}\n  }\n  return;\n}\nint main() {\n  unsigned int i = 0;\n  while (i < 4) {\n    i++;\n  }\n  __VERIFIER_assert(i == 4);\n  return 0;\n}\n",
+        5,
+    ),
+    (
+        "int f(int n) {\n  return f(n);\n}\nint main() {\n  return f(1);\n}\n",
+        2,
+    ),
+    ("int f(void) { }\nint main() {\n  int x = f();\n}\n", 2),
+];
+
+/// What stands before the pieces of a worked body.
+const HEAD: &str =
+    "extern void abort(void);\nextern int __VERIFIER_nondet_int(void);\nvoid reach_error() {}\nint main() {\n  ";
+
+/// Pieces of a worked body.
+const PIECES: [&str; 13] = [
+    "int x = __VERIFIER_nondet_int();\n  if (x == 7) reach_error();",
+    "int x = __VERIFIER_nondet_int();\n  x = x + 1;",
+    "unsigned int x = __VERIFIER_nondet_int();\n  x = x + 1;",
+    "int s = 1 << 31;",
+    "unsigned s = 1u << 31;",
+    "int m = -2147483647 - 1;\n  int d = -1;\n  m = m % d;",
+    "if (-1 < 0u) reach_error();",
+    "long x = 2147483647;\n  x = x + 1;",
+    "int a[4];\n  int i = __VERIFIER_nondet_int();\n  if (i >= 0 && i <= 4) a[i] = 1;",
+    "while (1) {}",
+    "int x = 0;\n  L: if (x != 0) reach_error();\n  if (__VERIFIER_nondet_int()) goto L;",
+    "int x = 0;\n  x = x++;",
+    "int d = 0;\n  d = 1 / d;",
+];
+
+/// How many items a source has.
+fn count(alloc: Global, source: &[u8]) -> Option<usize> {
+    let tokens = lex(alloc, source).ok()?;
+    let unit = parse(alloc, &tokens).ok()?;
+    Some(unit.items.len())
+}
+
+#[test]
+fn reads_worked_sources(rt: HostRuntime) -> Result<(), Fail> {
+    for (source, items) in WORKED {
+        assert_eq!(rt;
+            count(rt.alloc(), source.as_bytes()),
+            Some(items),
+            "{source}"
+        );
+    }
+    for pieces in PIECES {
+        let source = nested(rt.alloc(), (HEAD, pieces, "\n}\n", "", ""), 1, 0)?;
+        assert_eq!(rt; count(rt.alloc(), &source), Some(4), "{pieces}");
+    }
+    Ok(())
+}
+
 /// Whether the only statement is an `if` without `else` around one that has it.
 fn is_inner_else(statements: &[Statement]) -> bool {
     match statements {

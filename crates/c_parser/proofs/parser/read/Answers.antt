@@ -3,7 +3,7 @@ use Rattle.c_tree.specs.Symbols as sg
 use Rattle.parse_machine.specs.Machine as ma
 use Rattle.c_parser.specs.StateView.{state_of}
 use Rattle.c_parser.proofs.RunLemmas.{stopped}
-use Rattle.c_parser.proofs.parser.parse.Goals as goal
+use Rattle.c_parser.proofs.parser.read.Goals as goal
 
 pub returns-in-Err : goal.returns-in-Err
 returns-in-Err c =
