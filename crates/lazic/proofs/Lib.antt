@@ -1,1 +1,1 @@
-mod MeaningLaws
+pub mod MeaningLaws

@@ -3,9 +3,11 @@ use Rattle.std.specs.Prelude.{ℕ, ◌≡◌, List, length, take, nat_lt, if◌t
 use Rattle.lv_base.specs.Place.{place_at}
 use Rattle.lv_base.specs.declared.fail.SourceFail.{SourceFail}
 use Rattle.lv_base.specs.declared.fail.SourceFail.TheVariants.{Fault, Over as OverLimit, Memory}
-use Rattle.lv_base.specs.declared.fault.SourceFault.TheVariants.{Unsupported}
+use Rattle.lv_base.specs.declared.fault.SourceFault.TheVariants.{Syntax, Unsupported}
 use Rattle.c_lexer.specs.Lexed.{lexed}
 use Rattle.c_lexer.specs.declared.token.Token.{Token}
+use Rattle.c_tree.specs.Symbols.{signs_of}
+use Rattle.parse_machine.specs.Machine as ma
 use Rattle.thin_program.specs.declared.thin.Piece.{Piece}
 use Rattle.thin_program.specs.Grammar.{thin_of}
 use Rattle.thin_program.specs.RunFile.{values_of}
@@ -30,10 +32,16 @@ values_outcome source pieces (Some values) = said_of source values (run_of piece
 abbrev pub run_outcome : List ℕ → List Piece → List ℕ → Outcome
 run_outcome source pieces run = if nat_lt 22006 (length run) then BadRun else values_outcome source pieces (values_of run)
 
--- a source that isn't thin is not supported as a whole
-abbrev pub thin_outcome : List ℕ → Option (List Piece) → List ℕ → Outcome
-thin_outcome source None run = Faulty Unsupported (place_at source 0)
-thin_outcome source (Some pieces) run = run_outcome source pieces run
+-- the answer to a source that isn't thin, by what reading it as a tree gives: a tree is not supported as a whole
+abbrev pub shape_outcome : List ℕ → ma.Result → Outcome
+shape_outcome source (ma.Tree tree) = Faulty Unsupported (place_at source 0)
+shape_outcome source (ma.Syntax at) = Faulty Syntax (place_at source at)
+shape_outcome source (ma.Unsupported at) = Faulty Unsupported (place_at source at)
+shape_outcome source ma.TooHigh = Over 3 201
+
+abbrev pub thin_outcome : List ℕ → List Token → Option (List Piece) → List ℕ → Outcome
+thin_outcome source tokens None run = shape_outcome source (ma.parse_of (signs_of tokens))
+thin_outcome source tokens (Some pieces) run = run_outcome source pieces run
 
 abbrev pub refused : List ℕ → SourceFail → Outcome
 refused source (Fault fault at) = Faulty fault (place_at source at)
@@ -42,7 +50,7 @@ refused source Memory = NoMemory
 
 abbrev pub tokens_outcome : List ℕ → Result (List Token) SourceFail → List ℕ → Outcome
 tokens_outcome source (Err fail) run = refused source fail
-tokens_outcome source (Ok tokens) run = thin_outcome source (thin_of tokens) run
+tokens_outcome source (Ok tokens) run = thin_outcome source tokens (thin_of tokens) run
 
 abbrev pub source_outcome : List ℕ → List ℕ → Outcome
 source_outcome source run = if nat_lt 1048576 (length source) then Over 1 1048577 else tokens_outcome source (lexed source) run

@@ -1,9 +1,11 @@
-ghost use Rattle.std.specs.Prelude.{◌≡◌, ◌≤◌, ◌^◌, ℕ, List, map, length, IfOk, IsNone, Some, ◌↔◌, ◌≢◌};
+ghost use Rattle.std.specs.Prelude.{◌≡◌, ◌≤◌, ◌^◌, ◌⊎◌, ℕ, List, map, length, IfOk, IsNone, Some, ◌↔◌, ◌≢◌};
 ghost use Rattle.lazic.specs.Words.{request_of};
 ghost use Rattle.lv_outside.specs.Counts.{Rose};
 ghost use Rattle.c_lexer.specs.Lexed.{lexed};
+ghost use Rattle.c_tree.specs.Symbols.{signs_of};
+ghost use Rattle.parse_machine.specs.Machine.{parse_of};
 ghost use Rattle.thin_program.specs.Grammar.{thin_of};
-ghost use Rattle.lazic.specs.Answer.{outcome_of, source_outcome, tokens_outcome, thin_outcome, run_outcome, said_of, refused, IsCaused};
+ghost use Rattle.lazic.specs.Answer.{outcome_of, source_outcome, tokens_outcome, thin_outcome, shape_outcome, run_outcome, said_of, refused, IsCaused};
 
 use crate::outcome::Outcome;
 use crate::words::request;
@@ -77,15 +79,27 @@ fn decide_thin<F: Folder>(
     run: &str,
 ) -> Outcome
     requires { length source.now ≤ 2 ^ 20 }
-    ensures caused { IsCaused (Rose (F.read_faults folder.old) (F.read_faults folder.new)) (F.tells folder.old) (thin_outcome source.now (thin_of tokens.now) (F.file folder.old run.now)) result }
+    ensures caused { IsCaused (Rose (F.read_faults folder.old) (F.read_faults folder.new)) (F.tells folder.old) (thin_outcome source.now tokens.now (thin_of tokens.now) (F.file folder.old run.now)) result }
     ensures asked { result ≢ Outcome.Usage }
     ensures files { (n : List ℕ) → F.file folder.new n ≡ F.file folder.old n }
     ensures later { F.read_faults folder.old ≤ F.read_faults folder.new }
 {
     match parse(alloc, tokens) {
         Ok(Some(thin)) => decide_run(alloc, folder, source, &thin, run),
-        Ok(None) => Outcome::Faulty(SourceFault::Unsupported, place_of(source, 0)),
+        Ok(None) => decide_shape(alloc, source, tokens),
         Err(_) => Outcome::NoMemory,
+    }
+}
+
+// The answer to a source that isn't thin.
+fn decide_shape(alloc: Global, source: &[u8], tokens: &[Token]) -> Outcome
+    requires { length source.now ≤ 2 ^ 20 }
+    ensures value { (result ≡ Outcome.NoMemory) ⊎ (result ≡ shape_outcome source.now (parse_of (signs_of tokens.now))) }
+    ensures asked { result ≢ Outcome.Usage }
+{
+    match c_parser::parse(alloc, tokens) {
+        Ok(_) => Outcome::Faulty(SourceFault::Unsupported, place_of(source, 0)),
+        Err(fail) => refuse(source, fail),
     }
 }
 

@@ -5,7 +5,7 @@ ghost use Rattle.lv_outside.specs.Bytes.{GrewByFront};
 ghost use Rattle.lazic.specs.declared.outcome.Outcome.{Outcome};
 ghost use Rattle.lazic.specs.Outcome.{status_of, text_of};
 ghost use Rattle.lazic.specs.Answer.{outcome_of, IsCaused};
-ghost use Rattle.lazic.specs.Meaning.{OneAnswer};
+ghost use Rattle.lazic.specs.Meaning.{OneAnswer, ShapesAreTold};
 ghost use Rattle.lazic.specs.Report.{MeansReport, kept_of, told_text, IsFree};
 
 use crate::answer::decide;
@@ -29,6 +29,7 @@ pub fn run_words<F: Folder, S: Sink, G: Gate>(
     // Some words over some files have exactly one answer, by what is written in them. Each answer but a fault of the
     // outside and want of memory is that one.
     ensures one_answer { OneAnswer }
+    ensures shapes { ShapesAreTold }
     ensures means { F.tells folder.old → IsFree result.status ⊎ MeansReport (map (λ w. w.now) words.now) (F.file folder.old) result.status result.kept }
     ensures status { F.tells folder.old → IsFree result.status ⊎ (result.status ≡ status_of (outcome_of (map (λ w. w.now) words.now) (F.file folder.old))) }
     ensures kept { F.tells folder.old → IsFree result.status ⊎ (result.kept ≡ kept_of (outcome_of (map (λ w. w.now) words.now) (F.file folder.old))) }
