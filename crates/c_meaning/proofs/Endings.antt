@@ -13,6 +13,7 @@ use Rattle.c_tree.specs.declared.tree.PrefixOp.TheVariants as pre
 use Rattle.c_tree.specs.Tree.{no_raw, no_attributes, eName, eNumber, eParen, eCall, eIndex, ePostfix, ePrefix, eBinary, eCond, eAssign, eComma, no_parts, parts_and, no_words, words_and, wType, wStorage, wTypedef, wTag, wTagEnum, no_enumerators, plain_and, valued_and, named, no_params, params_and, pUnknown, pVoid, pSome, fPlain, fArray, fFunction, iNothing, iValue, iList, no_declarators, declarators_and, declares, head, forDeclares, for_head, sDeclaration, sBlock, sEmpty, sExpr, sIf, sWhile, sSwitch, sDo, sFor, sCase, sDefault, sLabel, sGoto, sBreak, sContinue, sReturn, no_statements, statements_and, bBlock, bSkipped, tFunction, tDeclaration, Items, no_items, items_and}
 use Rattle.c_run.specs.Run.{Error, Ended, NoInput, BadInput, Spent}
 use Rattle.c_meaning.specs.Program.{run}
+use Rattle.c_meaning.specs.Good.{broken}
 
 abbrev form : Bool → Bool → ℕ → NumberForm
 form decimal unsigned longs = record { decimal = decimal; unsigned_suffix = unsigned; longs = longs }
@@ -289,16 +290,20 @@ pub goto_into_a_loop : run 10 goto_into_a_loop_source Ilp32 ([]) ≡ (Error erro
 goto_into_a_loop = refl
 
 --   void reach_error() {}
+--   int x = 1;
+--   int s(void) { x = 2; return 2; }
 --   int f(int a, int b) { return a * 10 + b; }
 --   int main() {
---     int x = 1;
---     if (f(x, x = 2) == 12) reach_error();
+--     if (f(x, s()) == 12) reach_error();
 --   }
 abbrev pub calls_and_arguments_source : Items
-calls_and_arguments_source = (items_and (items_and (items_and no_items (tFunction (words_and no_words (wType type.Void 0)) (named (codes "reach_error") 5) (pUnknown 16 17) no_attributes (bSkipped 19 no_raw 20))) (tFunction (words_and no_words (wType type.Int 22)) (named (codes "f") 26) (pSome 27 (params_and (params_and no_params None (words_and no_words (wType type.Int 28)) (Some (named (codes "a") 32))) (Some 33) (words_and no_words (wType type.Int 35)) (Some (named (codes "b") 39))) 40) no_attributes (bBlock 42 (statements_and no_statements (sReturn 44 (Some (eBinary (eBinary (eName (codes "a") 51) op.Multiply 53 (eNumber 10 (form true false 0) 55)) op.Add 58 (eName (codes "b") 60))) 61)) 63))) (tFunction (words_and no_words (wType type.Int 65)) (named (codes "main") 69) (pUnknown 73 74) no_attributes (bBlock 76 (statements_and (statements_and no_statements (sDeclaration (declares (words_and no_words (wType type.Int 80)) (declarators_and no_declarators None (named (codes "x") 84) fPlain no_attributes (iValue 86 (eNumber 1 (form true false 0) 88))) 89))) (sIf (head 93 96 (eBinary (eCall (eName (codes "f") 97) 98 (parts_and (parts_and no_parts None (eName (codes "x") 99)) (Some 100) (eAssign (eName (codes "x") 102) to.Plain 104 (eNumber 2 (form true false 0) 106))) 107) op.Equal 109 (eNumber 12 (form true false 0) 112)) 114) (sExpr (eCall (eName (codes "reach_error") 116) 127 no_parts 128) 129))) 131)))
+calls_and_arguments_source = (items_and (items_and (items_and (items_and (items_and no_items (tFunction (words_and no_words (wType type.Void 0)) (named (codes "reach_error") 5) (pUnknown 16 17) no_attributes (bSkipped 19 no_raw 20))) (tDeclaration (declares (words_and no_words (wType type.Int 22)) (declarators_and no_declarators None (named (codes "x") 26) fPlain no_attributes (iValue 28 (eNumber 1 (form true false 0) 30))) 31))) (tFunction (words_and no_words (wType type.Int 33)) (named (codes "s") 37) (pVoid 38 39 43) no_attributes (bBlock 45 (statements_and (statements_and no_statements (sExpr (eAssign (eName (codes "x") 47) to.Plain 49 (eNumber 2 (form true false 0) 51)) 52)) (sReturn 54 (Some (eNumber 2 (form true false 0) 61)) 62)) 64))) (tFunction (words_and no_words (wType type.Int 66)) (named (codes "f") 70) (pSome 71 (params_and (params_and no_params None (words_and no_words (wType type.Int 72)) (Some (named (codes "a") 76))) (Some 77) (words_and no_words (wType type.Int 79)) (Some (named (codes "b") 83))) 84) no_attributes (bBlock 86 (statements_and no_statements (sReturn 88 (Some (eBinary (eBinary (eName (codes "a") 95) op.Multiply 97 (eNumber 10 (form true false 0) 99)) op.Add 102 (eName (codes "b") 104))) 105)) 107))) (tFunction (words_and no_words (wType type.Int 109)) (named (codes "main") 113) (pUnknown 117 118) no_attributes (bBlock 120 (statements_and no_statements (sIf (head 124 127 (eBinary (eCall (eName (codes "f") 128) 129 (parts_and (parts_and no_parts None (eName (codes "x") 130)) (Some 131) (eCall (eName (codes "s") 133) 134 no_parts 135)) 136) op.Equal 138 (eNumber 12 (form true false 0) 141)) 143) (sExpr (eCall (eName (codes "reach_error") 145) 156 no_parts 157) 158))) 160)))
 
-pub calls_and_arguments : run 10 calls_and_arguments_source Ilp32 ([]) ≡ (Error error.Reach 116 0)
+pub calls_and_arguments : run 10 calls_and_arguments_source Ilp32 ([]) ≡ (Error error.Reach 145 0)
 calls_and_arguments = refl
+
+pub calls_and_arguments_is_good : broken calls_and_arguments_source Ilp32 ≡ []
+calls_and_arguments_is_good = refl
 
 --   extern void abort(void);
 --   extern int __VERIFIER_nondet_int(void);
@@ -430,16 +435,18 @@ aborts_source = (items_and (items_and (items_and (items_and no_items (tDeclarati
 pub aborts : run 10 aborts_source Ilp32 ([]) ≡ Ended
 aborts = refl
 
---   extern void abort(void);
---   extern int __VERIFIER_nondet_int(void);
 --   void reach_error() {}
+--   int x = 1;
+--   int s(void) { x = 5; return 2; }
 --   int main() {
---     int x = 1;
---     x += (x = 5, 1) ? 2 : 3;
+--     x += s();
 --     if (x == 3) reach_error();
 --   }
 abbrev pub op_reads_first_source : Items
-op_reads_first_source = (items_and (items_and (items_and (items_and no_items (tDeclaration (declares (words_and (words_and no_words (wStorage storage.Extern 0)) (wType type.Void 7)) (declarators_and no_declarators None (named (codes "abort") 12) (fFunction (pVoid 17 18 22)) no_attributes iNothing) 23))) (tDeclaration (declares (words_and (words_and no_words (wStorage storage.Extern 25)) (wType type.Int 32)) (declarators_and no_declarators None (named (codes "__VERIFIER_nondet_int") 36) (fFunction (pVoid 57 58 62)) no_attributes iNothing) 63))) (tFunction (words_and no_words (wType type.Void 65)) (named (codes "reach_error") 70) (pUnknown 81 82) no_attributes (bSkipped 84 no_raw 85))) (tFunction (words_and no_words (wType type.Int 87)) (named (codes "main") 91) (pUnknown 95 96) no_attributes (bBlock 98 (statements_and (statements_and (statements_and no_statements (sDeclaration (declares (words_and no_words (wType type.Int 102)) (declarators_and no_declarators None (named (codes "x") 106) fPlain no_attributes (iValue 108 (eNumber 1 (form true false 0) 110))) 111))) (sExpr (eAssign (eName (codes "x") 115) to.Add 117 (eCond (eParen 120 (eComma (parts_and (parts_and no_parts None (eAssign (eName (codes "x") 121) to.Plain 123 (eNumber 5 (form true false 0) 125))) (Some 126) (eNumber 1 (form true false 0) 128))) 129) 131 (eNumber 2 (form true false 0) 133) 135 (eNumber 3 (form true false 0) 137))) 138)) (sIf (head 142 145 (eBinary (eName (codes "x") 146) op.Equal 148 (eNumber 3 (form true false 0) 151)) 152) (sExpr (eCall (eName (codes "reach_error") 154) 165 no_parts 166) 167))) 169)))
+op_reads_first_source = (items_and (items_and (items_and (items_and no_items (tFunction (words_and no_words (wType type.Void 0)) (named (codes "reach_error") 5) (pUnknown 16 17) no_attributes (bSkipped 19 no_raw 20))) (tDeclaration (declares (words_and no_words (wType type.Int 22)) (declarators_and no_declarators None (named (codes "x") 26) fPlain no_attributes (iValue 28 (eNumber 1 (form true false 0) 30))) 31))) (tFunction (words_and no_words (wType type.Int 33)) (named (codes "s") 37) (pVoid 38 39 43) no_attributes (bBlock 45 (statements_and (statements_and no_statements (sExpr (eAssign (eName (codes "x") 47) to.Plain 49 (eNumber 5 (form true false 0) 51)) 52)) (sReturn 54 (Some (eNumber 2 (form true false 0) 61)) 62)) 64))) (tFunction (words_and no_words (wType type.Int 66)) (named (codes "main") 70) (pUnknown 74 75) no_attributes (bBlock 77 (statements_and (statements_and no_statements (sExpr (eAssign (eName (codes "x") 81) to.Add 83 (eCall (eName (codes "s") 86) 87 no_parts 88)) 89)) (sIf (head 93 96 (eBinary (eName (codes "x") 97) op.Equal 99 (eNumber 3 (form true false 0) 102)) 103) (sExpr (eCall (eName (codes "reach_error") 105) 116 no_parts 117) 118))) 120)))
 
-pub op_reads_first : run 10 op_reads_first_source Ilp32 ([]) ≡ (Error error.Reach 154 0)
+pub op_reads_first : run 10 op_reads_first_source Ilp32 ([]) ≡ (Error error.Reach 105 0)
 op_reads_first = refl
+
+pub op_reads_first_is_good : broken op_reads_first_source Ilp32 ≡ []
+op_reads_first_is_good = refl
