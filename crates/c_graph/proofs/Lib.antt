@@ -1,3 +1,4 @@
 pub mod Kept
 pub mod Keeping
 pub mod Checking
+pub mod Chaining

@@ -1,4 +1,5 @@
 pub mod Shape
+pub mod Chains
 pub mod Stores
 pub mod Steps
 pub mod Runs

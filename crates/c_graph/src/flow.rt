@@ -1,5 +1,6 @@
-ghost use Rattle.std.specs.Prelude.{◌≡◌, ◌<◌, ◌≤◌, ◌+◌, length, map, slice_get, IfOk, Some};
+ghost use Rattle.std.specs.Prelude.{ℕ, ◌≡◌, ◌<◌, ◌≤◌, ◌+◌, length, replicate, IfOk};
 ghost use Rattle.c_graph.specs.Shape.{IsFlow, Flow, outs};
+ghost use Rattle.c_graph.specs.Chains.{AreChains, Linked, chain, source_of};
 
 use crate::graph::{Cell, Edge, EdgeId, LoopAt, Node, NodeId};
 use bv_term::Terms;
@@ -10,6 +11,10 @@ use std::marker::Model;
 /// The graph of a program: nodes, edges with operations, the cells of the store, and the terms of the operations. Its
 /// type keeps that all numbers are in range, that operations fit their cells and terms, that edges lead from plain
 /// nodes alone, and that no run stops at a plain node for want of an edge.
+///
+/// The edges of each node are linked: `first` has the number of the first edge that leads from a node, `next` that of
+/// the next edge from the same node, and the number of all edges stands where there is none. So a node's edges are
+/// found without a look at any other.
 #[derive(Drop)]
 pub struct Graph {
     nodes: Vec<Node>,
@@ -18,10 +23,13 @@ pub struct Graph {
     terms: Terms,
     entry: NodeId,
     loops: Vec<LoopAt>,
+    first: Vec<u32>,
+    next: Vec<u32>,
 }
 
 impl Model for Graph {
     ghost use Rattle.c_graph.specs.Shape.{Flow, IsFlow};
+    ghost use Rattle.c_graph.specs.Chains.{AreChains};
 
     ghost Value = { Flow };
 
@@ -41,19 +49,20 @@ impl Model for Graph {
       terms = g.terms;
       entry = g.entry;
       loops = g.loops.items;
-    }) };
+    }) × AreChains g.nodes.items g.edges.items g.first.items g.next.items };
 }
 
 impl Graph {
-    /// The graph of these parts. It takes no memory.
+    /// The graph of these parts, with its edges linked.
     pub fn new(
+        alloc: Global,
         nodes: Vec<Node>,
         edges: Vec<Edge>,
         cells: Vec<Cell>,
         terms: Terms,
         entry: NodeId,
         loops: Vec<LoopAt>,
-    ) -> Graph
+    ) -> Result<Graph, Memory>
         requires { IsFlow (record {
           nodes = nodes.items;
           edges = edges.items;
@@ -62,23 +71,26 @@ impl Graph {
           entry = entry;
           loops = loops.items;
         }) }
-        ensures { result ≡ record {
+        ensures { IfOk result (λ g. g ≡ record {
           nodes = nodes.items;
           edges = edges.items;
           cells = cells.items;
           terms = terms;
           entry = entry;
           loops = loops.items;
-        } }
+        }) }
     {
-        Graph {
+        let (first, next) = links(alloc, nodes.len(), &edges)?;
+        Ok(Graph {
             nodes,
             edges,
             cells,
             terms,
             entry,
             loops,
-        }
+            first,
+            next,
+        })
     }
 
     /// The nodes, by number.
@@ -133,13 +145,15 @@ impl Graph {
     pub fn outs(&self, alloc: Global, node: NodeId) -> Result<Vec<EdgeId>, Memory>
         ensures { IfOk result (λ v. v.items ≡ outs self.now node) }
     {
-        let mut found = Vec::new(alloc);
-        for (number, edge) in self.edges.iter().enumerate() {
-            if edge.from.0 == node.0 {
-                found.push(EdgeId(number as u32))?;
-            }
+        if node.0 as usize >= self.first.len() {
+            return Ok(Vec::new(alloc));
         }
-        Ok(found)
+        follow(
+            alloc,
+            &self.next,
+            self.first[node.0 as usize],
+            self.edges.len(),
+        )
     }
 }
 
@@ -149,4 +163,55 @@ pub fn edge_count(graph: &Graph) -> u32
     ensures flow { IsFlow graph.now }
 {
     graph.edges.len() as u32
+}
+
+/// The number of the node from which the edge of a number leads.
+fn source(edges: &[Edge], number: usize) -> u32
+    requires { number < length edges.now }
+    ensures { result ≡ source_of edges.now number }
+{
+    edges[number].from.0
+}
+
+/// The first edge from each node, and the next edge from the same node: linked from the last edge to the first, so that
+/// the numbers in a chain rise.
+fn links(alloc: Global, nodes: usize, edges: &[Edge]) -> Result<(Vec<u32>, Vec<u32>), Memory>
+    requires few { length edges.now < 4294967296 }
+    requires sources { (k : ℕ) → k < length edges.now → source_of edges.now k < nodes }
+    ensures { IfOk result (λ l. Linked nodes edges.now 0 l.0.items l.1.items) }
+{
+    let none = edges.len() as u32;
+    let mut first = filled(alloc, none, nodes)?;
+    let mut next = filled(alloc, none, edges.len())?;
+    let mut number = edges.len();
+    while number > 0 {
+        number -= 1;
+        let from = source(edges, number) as usize;
+        next[number] = first[from];
+        first[from] = number as u32;
+    }
+    Ok((first, next))
+}
+
+/// So many times the value.
+fn filled(alloc: Global, value: u32, count: usize) -> Result<Vec<u32>, Memory>
+    ensures { IfOk result (λ v. v.items ≡ replicate count value) }
+{
+    let values = vec![in alloc; value; count]?;
+    Ok(values)
+}
+
+/// The chain from a number on, at most so long.
+fn follow(alloc: Global, next: &[u32], from: u32, most: usize) -> Result<Vec<EdgeId>, Memory>
+    ensures { IfOk result (λ v. v.items ≡ chain next.now most from) }
+{
+    let mut found = Vec::new(alloc);
+    let mut at = from;
+    let mut left = most;
+    while left > 0 && (at as usize) < next.len() {
+        found.push(EdgeId(at))?;
+        at = next[at as usize];
+        left -= 1;
+    }
+    Ok(found)
 }

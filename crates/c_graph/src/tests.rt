@@ -83,7 +83,7 @@ fn a_graph_of_a_loop(rt: HostRuntime) -> Result<(), Fail> {
     let terms = terms(&rt, alloc)?;
     let loops = LOOPS.to_vec(alloc)?;
     assert!(rt; is_graph(&nodes, &edges, &cells, &terms, NodeId(0), &loops));
-    let graph = Graph::new(nodes, edges, cells, terms, NodeId(0), loops);
+    let graph = Graph::new(alloc, nodes, edges, cells, terms, NodeId(0), loops)?;
     assert_eq!(rt; edge_count(&graph), 6);
     let from_loop = graph.outs(alloc, NodeId(1))?;
     assert_eq!(rt; from_loop.as_slice(), [EdgeId(1), EdgeId(2)].as_slice());

@@ -2,3 +2,10 @@ pub mod Climbing
 pub mod Legality
 pub mod UnitLemmas
 pub mod RefineLemmas
+pub mod Subtrees
+pub mod Counting
+pub mod Growing
+pub mod LastSettled
+pub mod Labelling
+pub mod Walking
+pub mod Kept

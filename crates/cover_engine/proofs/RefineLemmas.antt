@@ -7,26 +7,18 @@ use Rattle.reach_tree.specs.declared.vertex.VertexId.{VertexId}
 use Rattle.reach_tree.specs.declared.vertex.Vertex.{Vertex}
 use Rattle.reach_tree.specs.Trees.{vertex_at}
 use Rattle.cover_engine.specs.Unwindings.{path_up}
-use Rattle.cover_engine.specs.Units.{refined_along, strengthened_along}
+use Rattle.reach_tree.specs.declared.vertex.NewLabel.{NewLabel}
+use Rattle.cover_engine.specs.Keeping.{new_labels_of}
 
-refined-nil : (table : Table) (vs : List Vertex) (xs : List ℕ) → refined_along table vs xs [] ≡ vs
-refined-nil table vs [] = refl
-refined-nil table vs (x ∷ xs) = refl
+labels-nil : (table : Table) (vs : List Vertex) (xs : List ℕ) → new_labels_of table vs xs [] ≡ []
+labels-nil table vs [] = refl
+labels-nil table vs (x ∷ xs) = refl
 
-strengthened-nil : (table : Table) (vs : List Vertex) (xs : List ℕ) → strengthened_along table vs xs [] ≡ []
-strengthened-nil table vs [] = refl
-strengthened-nil table vs (x ∷ xs) = refl
-
-pub refined-end : (table : Table) (vs whole : List Vertex) (xs : List ℕ) (fs : List TermId) (n : ℕ) → length fs ≤ n
-    → refined_along table vs xs (drop n fs) ≡ whole → vs ≡ whole
-refined-end table vs whole xs fs n le h =
-    sym (ap (λ (z : List TermId). refined_along table vs xs z) (drop_all n fs le) ∙ refined-nil table vs xs) ∙ h
-
-pub strengthened-end : (table : Table) (vs : List Vertex) (acc whole : List ℕ) (xs : List ℕ) (fs : List TermId) (n : ℕ) → length fs ≤ n
-    → acc ++ strengthened_along table vs xs (drop n fs) ≡ whole → acc ≡ whole
-strengthened-end table vs acc whole xs fs n le h =
+pub labels-end : (table : Table) (vs : List Vertex) (acc whole : List NewLabel) (xs : List ℕ) (fs : List TermId) (n : ℕ) → length fs ≤ n
+    → acc ++ new_labels_of table vs xs (drop n fs) ≡ whole → acc ≡ whole
+labels-end table vs acc whole xs fs n le h =
     sym (append-nil acc)
-    ∙ sym (ap (λ (z : List ℕ). acc ++ z) (ap (λ (z : List TermId). strengthened_along table vs xs z) (drop_all n fs le) ∙ strengthened-nil table vs xs))
+    ∙ sym (ap (λ (z : List NewLabel). acc ++ z) (ap (λ (z : List TermId). new_labels_of table vs xs z) (drop_all n fs le) ∙ labels-nil table vs xs))
     ∙ h
 
 -- a path goes on at the parent

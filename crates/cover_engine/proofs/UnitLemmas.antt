@@ -1,11 +1,17 @@
 -- What the calls of an unwinding need and keep.
-use Rattle.std.proofs.Common.{◌≡◌, List, [], ◌∷◌, sym, refl, subst, Bool, true, false, ◌&&◌}
+use Rattle.std.proofs.Common.{◌≡◌, ◌<◌, ◌∙◌, ℕ, ap, length, slice_index_or, ◌++◌, reverse, List, [], ◌∷◌, sym, refl, subst, Bool, true, false, ◌&&◌}
 use Rattle.c_graph.specs.Shape.{Flow}
 use Rattle.reach_tree.specs.declared.vertex.VertexId.{VertexId}
-use Rattle.reach_tree.specs.Trees.{vertex_at}
+use Rattle.std.proofs.lemmas.List.{get_or_default}
+use Rattle.reach_tree.specs.declared.vertex.Vertex.{Vertex}
+use Rattle.reach_tree.specs.Trees.{root_at, vertex_at}
 use Rattle.cover_engine.specs.declared.unit.UnitDone.{UnitDone}
-use Rattle.cover_engine.specs.Unwindings.{Unwound, is_none, is_open_leaf, is_closed, is_covered}
-use Rattle.cover_engine.specs.Units.{Can, Legal, after}
+use Rattle.cover_engine.specs.Unwindings.{Pair, Unwound, path_of, is_none, is_open_leaf, is_closed, is_covered}
+use Rattle.bv_term.specs.declared.term.TermId.{TermId}
+use Rattle.bv_term.specs.WellFormed.{Table}
+use Rattle.cover_engine.specs.declared.unit.Apart.{Apart}
+use Rattle.cover_engine.specs.declared.unit.UnitDone.TheVariants.{CoverYes, Refine}
+use Rattle.cover_engine.specs.Units.{Can, Legal, after, after_cover, after_refine, pairs_but_onto, pairs_but_under, refined_along, strengthened_along}
 use Rattle.cover_engine.proofs.Legality.{legal-unit}
 
 and-left : (a b : Bool) → (a && b) ≡ true → a ≡ true
@@ -26,3 +32,31 @@ legal-after g old new x h can e = let P : Unwound → Type 0 = Legal g in subst 
 
 pub legal-same : (g : Flow) (old new : Unwound) → Legal g old → new ≡ old → Legal g new
 legal-same g old new h e = let P : Unwound → Type 0 = Legal g in subst P (sym e) h
+
+-- what is read at a vertex
+pub vertex-read : (us vs : List Vertex) (x : Vertex) (k : ℕ) → us ≡ vs → k < length vs → slice_index_or us k x ≡ vertex_at vs k
+vertex-read us vs x k same lt = ap (λ (ws : List Vertex). slice_index_or ws k x) same ∙ get_or_default vs k x (root_at (record { 0 = 0 })) lt
+
+-- parts that are those of a unit make its unwinding
+
+made : (vs : List Vertex) (table : Table) (ps qs : List Pair) (js ks : List UnitDone) (others : List Apart) → ps ≡ qs → js ≡ ks
+    → (let u : Unwound = record { vertices = vs; terms = table; pairs = ps; journal = js; apart = others } in u) ≡ record { vertices = vs; terms = table; pairs = qs; journal = ks; apart = others }
+made vs table ps qs js ks others a b =
+    ap (λ (x : List Pair). let u : Unwound = record { vertices = vs; terms = table; pairs = x; journal = js; apart = others } in u) a
+    ∙ ap (λ (y : List UnitDone). let u : Unwound = record { vertices = vs; terms = table; pairs = qs; journal = y; apart = others } in u) b
+
+pub made_cover : (vs : List Vertex) (table : Table) (ps kept : List Pair) (js ks : List UnitDone) (others : List Apart) (v w : VertexId) (old : Unwound)
+    → record { vertices = vs; terms = table; pairs = ps; journal = js; apart = others } ≡ old → kept ≡ pairs_but_under vs v ps ++ (v, w) ∷ [] → ks ≡ js ++ CoverYes v w ∷ []
+    → record { vertices = vs; terms = table; pairs = kept; journal = ks; apart = others } ≡ after_cover old v w
+made_cover vs table ps kept js ks others v w old is ke ends =
+    made vs table kept (pairs_but_under vs v ps ++ (v, w) ∷ []) ks (js ++ CoverYes v w ∷ []) others ke ends ∙ ap (λ (u : Unwound). after_cover u v w) is
+
+pub made_refine : (vs ws : List Vertex) (table table' : Table) (ps kept : List Pair) (js ks : List UnitDone) (others : List Apart) (v : VertexId) (fs : List TermId) (old : Unwound)
+    → record { vertices = vs; terms = table; pairs = ps; journal = js; apart = others } ≡ old
+    → ws ≡ refined_along table vs (path_of vs v) (reverse fs) → table' ≡ table → kept ≡ pairs_but_onto (strengthened_along table vs (path_of vs v) (reverse fs)) ps → ks ≡ js ++ Refine v fs ∷ []
+    → record { vertices = ws; terms = table'; pairs = kept; journal = ks; apart = others } ≡ after_refine old v fs
+made_refine vs ws table table' ps kept js ks others v fs old is a t ke ends =
+    ap (λ (x : List Vertex). let u : Unwound = record { vertices = x; terms = table'; pairs = kept; journal = ks; apart = others } in u) a
+    ∙ ap (λ (y : Table). let u : Unwound = record { vertices = refined_along table vs (path_of vs v) (reverse fs); terms = y; pairs = kept; journal = ks; apart = others } in u) t
+    ∙ made (refined_along table vs (path_of vs v) (reverse fs)) table kept (pairs_but_onto (strengthened_along table vs (path_of vs v) (reverse fs)) ps) ks (js ++ Refine v fs ∷ []) others ke ends
+    ∙ ap (λ (u : Unwound). after_refine u v fs) is

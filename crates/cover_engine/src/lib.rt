@@ -1,8 +1,10 @@
 //! Unwindings: trees of paths whose vertices cover each other, with a journal of the units that made them.
 #![tactic(auto)]
 
+mod covering;
 mod look_up;
 mod refinement;
+mod settling;
 mod unit;
 mod unwinding;
 

@@ -2,9 +2,10 @@
 ghost use Rattle.std.specs.Prelude.{◌≡◌, ◌<◌, ◌||◌, length, false, slice_get, IfOk};
 ghost use Rattle.cover_engine.specs.Units.{apart_now, pairs_but_under};
 ghost use Rattle.reach_tree.specs.Trees.{vertex_at};
-ghost use Rattle.cover_engine.specs.Unwindings.{any_of, has, is_end, is_false_term, is_left, path_up, some_false, stays_apart, yes_since};
+ghost use Rattle.cover_engine.specs.Unwindings.{has, is_end, is_false_term, path_up, some_false};
+ghost use Rattle.cover_engine.specs.Caches.{AreInside, IsFamily};
 
-use crate::unit::{Apart, UnitDone};
+use crate::unit::Apart;
 use bv_term::{Term, TermId, Terms};
 use c_graph::Node;
 use lv_base::Memory;
@@ -22,46 +23,17 @@ pub fn parent_of(vertices: &[Vertex], v: usize) -> Option<VertexId>
     }
 }
 
-/// Whether the vertex of this number is the left side of a pair.
-pub fn is_left_side(pairs: &[(VertexId, VertexId)], v: usize) -> bool
-    ensures { result ≡ is_left pairs.now v }
-{
-    for pair in pairs {
-        if pair.0.0 as usize == v {
-            return true;
-        }
-    }
-    false
-}
-
-/// Whether the vertex of this number or an ancestor is the left side of a pair.
-#[tactic(auto, using(crate::proofs::Climbing::climbing))]
-pub fn covered_at(vertices: &[Vertex], pairs: &[(VertexId, VertexId)], v: usize) -> bool
-    ensures { result ≡ any_of (is_left pairs.now) (path_up vertices.now (length vertices.now) v) }
-{
-    let mut at = v;
-    let mut left = vertices.len();
-    while left > 0 {
-        if is_left_side(pairs, at) {
-            return true;
-        }
-        match parent_of(vertices, at) {
-            None => return false,
-            Some(parent) => at = parent.0 as usize,
-        }
-        left -= 1;
-    }
-    false
-}
-
-/// Whether the vertex u is the vertex of the second number or an ancestor of it.
-#[tactic(auto, using(crate::proofs::Climbing::climbing))]
+/// Whether the vertex u is the vertex of the second number or an ancestor of it. It climbs only as far as u, since parents
+/// have lower numbers.
+#[tactic(auto, using(crate::proofs::Climbing::climbing, crate::proofs::Subtrees::not_on))]
 pub fn above_at(vertices: &[Vertex], u: usize, v: usize) -> bool
+    requires family { IsFamily vertices.now }
+    requires inside { v < length vertices.now }
     ensures { result ≡ has u (path_up vertices.now (length vertices.now) v) }
 {
     let mut at = v;
     let mut left = vertices.len();
-    while left > 0 {
+    while left > 0 && u <= at {
         if at == u {
             return true;
         }
@@ -70,41 +42,6 @@ pub fn above_at(vertices: &[Vertex], u: usize, v: usize) -> bool
             Some(parent) => at = parent.0 as usize,
         }
         left -= 1;
-    }
-    false
-}
-
-/// Whether a CoverYes of the pair stands since the last Refine.
-pub fn yes_stands(journal: &[UnitDone], v: VertexId, w: VertexId) -> bool
-    ensures { result ≡ yes_since false journal.now v w }
-{
-    let mut stands = false;
-    for unit in journal {
-        match unit {
-            UnitDone::Expand(_) | UnitDone::CoverNo(_, _, _) => {}
-            UnitDone::Refine(_, _) => stands = false,
-            UnitDone::CoverYes(x, y) => stands = stands || (x.0 == v.0 && y.0 == w.0),
-        }
-    }
-    stands
-}
-
-/// Whether the pair was kept apart, with both labels as they are.
-pub fn is_apart(apart: &[Apart], vertices: &[Vertex], v: VertexId, w: VertexId) -> bool
-    requires left { v.0 < length vertices.now }
-    requires right { w.0 < length vertices.now }
-    ensures { result ≡ stays_apart apart.now vertices.now v w }
-{
-    let left = vertices[v.0 as usize].version;
-    let right = vertices[w.0 as usize].version;
-    for entry in apart {
-        if entry.left.0 == v.0
-            && entry.right.0 == w.0
-            && entry.left_version == left
-            && entry.right_version == right
-        {
-            return true;
-        }
     }
     false
 }
@@ -175,6 +112,8 @@ pub fn pairs_kept(
     v: VertexId,
     pairs: &[(VertexId, VertexId)],
 ) -> Result<Vec<(VertexId, VertexId)>, Memory>
+    requires family { IsFamily vertices.now }
+    requires inside { AreInside vertices.now pairs.now }
     ensures { IfOk result (λ r. r.items ≡ pairs_but_under vertices.now v pairs.now) }
 {
     let mut kept = Vec::new(alloc);

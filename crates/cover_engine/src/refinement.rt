@@ -1,18 +1,20 @@
 //! The parts of a Refine unit.
-ghost use Rattle.std.specs.Prelude.{◌≡◌, All, length, IfOk};
-ghost use Rattle.c_graph.specs.Shape.{HasWidth};
+ghost use Rattle.std.specs.Prelude.{ℕ, ◌≡◌, ◌<◌, All, length, reverse, IfOk};
 ghost use Rattle.reach_tree.specs.Trees.{vertex_at};
 ghost use Rattle.cover_engine.specs.Unwindings.{has, is_true_term, path_of};
-ghost use Rattle.cover_engine.specs.Units.{numbers_of, pairs_but_onto, refined_along, strengthened_along, strengthens};
+ghost use Rattle.cover_engine.specs.Units.{numbers_of, pairs_but_onto, strengthens};
+ghost use Rattle.cover_engine.specs.Caches.{IsFamily};
+ghost use Rattle.cover_engine.specs.Settlings.{version_at};
+ghost use Rattle.cover_engine.specs.Keeping.{label_with, labelled, new_labels_of};
 
 use crate::look_up::parent_of;
 use bv_term::{Term, TermId, Terms};
 use lv_base::Memory;
-use reach_tree::{Tree, Vertex, VertexId};
+use reach_tree::{Label, NewLabel, Tree, Vertex, VertexId};
 use std::alloc::Global;
 
 /// The numbers on the path of a vertex, from itself up to the root.
-pub fn path_to(alloc: Global, vertices: &[Vertex], v: VertexId) -> Result<Vec<u32>, Memory>
+fn path_to(alloc: Global, vertices: &[Vertex], v: VertexId) -> Result<Vec<u32>, Memory>
     ensures { IfOk result (λ p. p.items ≡ path_of vertices.now v) }
 {
     let mut path = Vec::new(alloc);
@@ -43,7 +45,7 @@ fn is_true(terms: &Terms, term: TermId) -> bool
 }
 
 /// Whether the number is among these.
-fn has_number(numbers: &[u32], number: u32) -> bool
+pub fn has_number(numbers: &[u32], number: u32) -> bool
     ensures { result ≡ has number numbers.now }
 {
     for one in numbers {
@@ -78,33 +80,73 @@ fn adds(tree: &Tree, vertex: u32, formula: TermId) -> bool
     !is_true(tree.terms(), formula) && !has_conjunct(vertices[number].label.as_slice(), formula)
 }
 
-/// Strengthens the vertices of a path, each by its formula, and answers the numbers of those that it strengthened.
-pub fn strengthen_along(
+/// The labels that formulas give to the vertices of a path, each with one conjunct more where its formula adds one.
+fn new_labels(
     alloc: Global,
-    tree: &mut Tree,
+    tree: &Tree,
     path: &[u32],
     formulas: &[TermId],
-) -> Result<Vec<u32>, Memory>
-    requires { All (λ t. HasWidth tree.old.terms t 1) formulas.now }
-    ensures vertices { IfOk result (λ r. tree.new.vertices ≡ refined_along tree.old.terms tree.old.vertices path.now formulas.now) }
-    ensures numbers { IfOk result (λ r. r.items ≡ strengthened_along tree.old.terms tree.old.vertices path.now formulas.now) }
-    ensures terms { tree.new.terms ≡ tree.old.terms }
+) -> Result<Vec<NewLabel>, Memory>
+    requires inside { All (λ x. x < length tree.now.vertices) path.now }
+    requires versions { (k : ℕ) → version_at tree.now.vertices k < 4294967295 }
+    ensures { IfOk result (λ r. r.items ≡ new_labels_of tree.now.terms tree.now.vertices path.now formulas.now) }
 {
-    let mut strengthened = Vec::new(alloc);
+    let mut labels = Vec::new(alloc);
     for (place, formula) in formulas.iter().enumerate() {
         if place >= path.len() {
-            return Ok(strengthened);
+            return Ok(labels);
         }
         let vertex = path[place];
         if adds(tree, vertex, *formula) {
-            if !tree.may_strengthen(VertexId(vertex), *formula) {
-                return Err(Memory);
-            }
-            tree.strengthen(VertexId(vertex), *formula)?;
-            strengthened.push(vertex)?;
+            let label = label_of(alloc, tree.vertices(), vertex, *formula)?;
+            labels.push(label)?;
         }
     }
-    Ok(strengthened)
+    Ok(labels)
+}
+
+/// The label of a vertex with one conjunct more, and its version then.
+fn label_of(alloc: Global, vertices: &[Vertex], v: u32, formula: TermId) -> Result<NewLabel, Memory>
+    requires inside { v < length vertices.now }
+    requires version { version_at vertices.now v < 4294967295 }
+    ensures { IfOk result (λ l. l ≡ label_with vertices.now v formula) }
+{
+    let vertex = &vertices[v as usize];
+    let mut conjuncts = vertex.label.as_slice().to_vec(alloc)?;
+    conjuncts.push(formula)?;
+    Ok(NewLabel {
+        vertex: VertexId(v),
+        label: Label::new(conjuncts),
+        version: vertex.version + 1,
+    })
+}
+
+/// The labels that formulas, one for each vertex of a path from the root on, give to the vertices of the path.
+pub fn labels_along(
+    alloc: Global,
+    tree: &Tree,
+    v: VertexId,
+    formulas: &[TermId],
+) -> Result<Vec<NewLabel>, Memory>
+    requires family { IsFamily tree.now.vertices }
+    requires inside { v.0 < length tree.now.vertices }
+    requires versions { (k : ℕ) → version_at tree.now.vertices k < 4294967295 }
+    ensures { IfOk result (λ r. r.items ≡ new_labels_of tree.now.terms tree.now.vertices (path_of tree.now.vertices v) (reverse formulas.now)) }
+{
+    let path = path_to(alloc, tree.vertices(), v)?;
+    let upwards: Vec<TermId> = formulas.iter().rev().copied().collect(alloc)?;
+    new_labels(alloc, tree, &path, &upwards)
+}
+
+/// The numbers of the vertices that get these labels.
+pub fn labelled_by(alloc: Global, labels: &[NewLabel]) -> Result<Vec<u32>, Memory>
+    ensures { IfOk result (λ r. r.items ≡ labelled labels.now) }
+{
+    let mut numbers = Vec::new(alloc);
+    for label in labels {
+        numbers.push(label.vertex.0)?;
+    }
+    Ok(numbers)
 }
 
 /// The pairs whose right side is none of these vertices.

@@ -61,7 +61,7 @@ fn graph(rt: &impl Abort, alloc: Global) -> Result<Graph, Memory> {
     let cells = [x, drawn].to_vec(alloc)?;
     let loops = Vec::new(alloc);
     assert!(rt; is_graph(&nodes, &edges, &cells, &terms, NodeId(0), &loops));
-    Ok(Graph::new(nodes, edges, cells, terms, NodeId(0), loops))
+    Graph::new(alloc, nodes, edges, cells, terms, NodeId(0), loops)
 }
 
 #[test]

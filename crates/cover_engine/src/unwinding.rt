@@ -1,30 +1,45 @@
-ghost use Rattle.std.specs.Prelude.{◌≡◌, ◌<◌, ◌∷◌, [], length, slice_get, IfOk, OnOk, OnErr, Some};
+ghost use Rattle.std.specs.Prelude.{◌≡◌, ◌<◌, ◌∷◌, ◌++◌, [], false, length, replicate, slice_get, IfOk, OnOk, OnErr, Some};
+ghost use Rattle.std.specs.HashMap.{Updates, get};
 ghost use Rattle.bv_term.specs.WellFormed.{FitsTable};
 ghost use Rattle.bv_term.specs.Laws.{IsPut};
-ghost use Rattle.cover_engine.specs.Unwindings.{is_complete, is_covered, is_open_leaf, may_pair, may_settle};
+ghost use Rattle.reach_tree.specs.Trees.{MayExpand, expanded};
+ghost use Rattle.cover_engine.specs.declared.settling.Sides.{Sides};
+ghost use Rattle.cover_engine.specs.declared.unit.UnitDone.TheVariants.{Expand};
+ghost use Rattle.cover_engine.specs.Unwindings.{is_complete, is_covered, is_open_leaf, may_pair, may_settle, stays_apart, yes_since};
+ghost use Rattle.cover_engine.specs.Settlings.{same_sides};
 ghost use Rattle.cover_engine.specs.Units.{CanCover, CanExpand, CanPart, CanRefine, Legal, after_cover, after_expand, after_part, after_refine, start};
 
-use crate::look_up::{above_at, closed_at, covered_at, entry_of, is_apart, pairs_kept, yes_stands};
-use crate::refinement::{pairs_but, path_to, strengthen_along};
+use crate::covering::{Falling, below_of, falling_onto, falling_under, lower, raise};
+use crate::look_up::{above_at, closed_at, entry_of};
+use crate::refinement::{labelled_by, labels_along};
+use crate::settling::{Settling, Sides, apart_since, apart_with, covered_now, covered_since};
 use crate::unit::{Apart, FormulaList, UnitDone};
 use bv_term::{Term, TermId, Terms};
 use c_graph::{Graph, Store};
 use lv_base::Memory;
 use reach_tree::{Tree, Vertex, VertexId};
 use std::alloc::Global;
+use std::collections::HashMap;
 use std::marker::Model;
 
 /// A tree of paths whose vertices cover each other, with the units that made it.
+///
+/// Beside these it keeps what its look-ups answer from: `covers` has for each vertex how many left sides stand on its
+/// path; `settled` tells of each pair how it was settled last; `refines` counts the Refines.
 #[derive(Drop)]
 pub struct Unwinding {
     tree: Tree,
     pairs: Vec<(VertexId, VertexId)>,
     journal: Vec<UnitDone>,
     apart: Vec<Apart>,
+    covers: Vec<u32>,
+    settled: HashMap<Sides, Settling>,
+    refines: u32,
 }
 
 impl Model for Unwinding {
     ghost use Rattle.cover_engine.specs.Unwindings.{Unwound};
+    ghost use Rattle.cover_engine.specs.Keeping.{IsKept};
 
     ghost Value = { Unwound };
 
@@ -35,6 +50,8 @@ impl Model for Unwinding {
       journal = u.journal.items;
       apart = u.apart.items;
     } };
+
+    ghost invariant = { λ u. IsKept u.tree.vertices u.pairs.items u.journal.items u.apart.items u.covers.items u.refines u.settled };
 }
 
 impl Unwinding {
@@ -45,11 +62,15 @@ impl Unwinding {
         ensures legal { IfOk result (λ u. Legal graph.now u) }
     {
         let tree = Tree::new(alloc, graph)?;
+        let covers = [0].to_vec(alloc)?;
         Ok(Unwinding {
             tree,
             pairs: Vec::new(alloc),
             journal: Vec::new(alloc),
             apart: Vec::new(alloc),
+            covers,
+            settled: HashMap::new(alloc),
+            refines: 0,
         })
     }
 
@@ -86,7 +107,7 @@ impl Unwinding {
         requires { v.0 < length self.now.vertices }
         ensures { result ≡ is_covered self.now v }
     {
-        covered_at(self.tree.vertices(), &self.pairs, v.0 as usize)
+        self.covers[v.0 as usize] > 0
     }
 
     /// Whether the pair may be settled: both are uncovered vertices of one node, the first no ancestor of the second, no
@@ -96,8 +117,7 @@ impl Unwinding {
         requires right { w.0 < length self.now.vertices }
         ensures { result ≡ may_settle self.now v w }
     {
-        let vertices = self.tree.vertices();
-        self.may_be_pair(v, w) && !is_apart(&self.apart, vertices, v, w)
+        self.may_be_pair(v, w) && !self.stays_apart(v, w)
     }
 
     /// The conditions of a covering but for the implication.
@@ -112,7 +132,25 @@ impl Unwinding {
             && !self.covered(v)
             && !self.covered(w)
             && !above_at(vertices, v.0 as usize, w.0 as usize)
-            && !yes_stands(&self.journal, v, w)
+            && !self.stands_covered(v, w)
+    }
+
+    /// Whether a CoverYes of the pair stands since the last Refine.
+    fn stands_covered(&self, v: VertexId, w: VertexId) -> bool
+        ensures { result ≡ yes_since false self.now.journal v w }
+    {
+        covered_since(self.settled.get(&Sides::of(v, w)).copied(), self.refines)
+    }
+
+    /// Whether the pair was kept apart, with both labels as they are.
+    fn stays_apart(&self, v: VertexId, w: VertexId) -> bool
+        requires left { v.0 < length self.now.vertices }
+        requires right { w.0 < length self.now.vertices }
+        ensures { result ≡ stays_apart self.now.apart self.now.vertices v w }
+    {
+        let entry = entry_of(self.tree.vertices(), v, w);
+        let known = self.settled.get(&Sides::of(v, w)).copied();
+        apart_since(known, entry.left_version, entry.right_version)
     }
 
     /// Whether the vertex is uncovered, without children, and neither closed nor at an end. It takes no memory.
@@ -148,12 +186,21 @@ impl Unwinding {
         ensures legal { Legal graph.now self.new }
         ensures unchanged { OnErr result (self.new ≡ self.old) }
     {
-        self.journal.push(UnitDone::Expand(v))?;
-        if self.tree.expand(alloc, graph, v).is_err() {
-            let _ = self.journal.pop();
+        if self.journal.len() >= u32::MAX as usize {
             return Err(Memory);
         }
-        Ok(())
+        let edges = graph.outs(alloc, self.tree.vertices()[v.0 as usize].node)?;
+        let above = self.covers[v.0 as usize];
+        let count = self.covers.len();
+        let mut covers = filled(alloc, above, edges.len())?;
+        self.covers.append(&mut covers)?;
+        match expand_both(alloc, graph, &mut self.tree, &mut self.journal, v) {
+            Ok(()) => Ok(()),
+            Err(end) => {
+                self.covers.truncate(count);
+                Err(end)
+            }
+        }
     }
 
     /// Strengthens the path of an open error leaf by formulas, one for each of its vertices from the root on, which are a
@@ -173,14 +220,18 @@ impl Unwinding {
         ensures unchanged { OnErr result (self.new ≡ self.old) }
     {
         let _ = graph.entry();
-        let path = path_to(alloc, self.tree.vertices(), v)?;
-        let upwards: Vec<TermId> = formulas.as_slice().iter().rev().copied().collect(alloc)?;
-        let mut tree = self.tree.copy(alloc)?;
-        let strengthened = strengthen_along(alloc, &mut tree, &path, &upwards)?;
-        let pairs = pairs_but(alloc, &strengthened, &self.pairs)?;
+        if self.journal.len() >= u32::MAX as usize {
+            return Err(Memory);
+        }
+        let labels = labels_along(alloc, &self.tree, v, formulas.as_slice())?;
+        let strengthened = labelled_by(alloc, &labels)?;
+        let falling = falling_onto(alloc, self.tree.vertices(), &strengthened, &self.pairs)?;
+        let Falling { kept, lowered } = falling;
         self.journal.push(UnitDone::Refine(v, formulas))?;
-        self.tree = tree;
-        self.pairs = pairs;
+        lower(&mut self.covers, &lowered);
+        self.tree.relabel(labels);
+        self.pairs = kept;
+        self.refines += 1;
         Ok(())
     }
 
@@ -210,10 +261,20 @@ impl Unwinding {
         ensures unchanged { OnErr result (self.new ≡ self.old) }
     {
         let _ = graph.entry();
-        let mut pairs = pairs_kept(alloc, self.tree.vertices(), v, &self.pairs)?;
-        pairs.push((v, w))?;
-        self.journal.push(UnitDone::CoverYes(v, w))?;
-        self.pairs = pairs;
+        if self.journal.len() >= u32::MAX as usize {
+            return Err(Memory);
+        }
+        let falling = falling_under(alloc, self.tree.vertices(), v, &self.pairs)?;
+        let Falling { mut kept, lowered } = falling;
+        kept.push((v, w))?;
+        let raised = below_of(alloc, self.tree.vertices(), v.0)?;
+        let sides = Sides::of(v, w);
+        let settling = covered_now(self.settled.get(&sides).copied(), self.refines);
+        let unit = UnitDone::CoverYes(v, w);
+        note(&mut self.journal, &mut self.settled, unit, sides, settling)?;
+        lower(&mut self.covers, &lowered);
+        raise(&mut self.covers, &raised);
+        self.pairs = kept;
         Ok(())
     }
 
@@ -232,12 +293,73 @@ impl Unwinding {
         ensures unchanged { OnErr result (self.new ≡ self.old) }
     {
         let _ = graph.entry();
-        let entry = entry_of(self.tree.vertices(), v, w);
-        self.apart.push(entry)?;
-        if self.journal.push(UnitDone::CoverNo(v, w, store)).is_err() {
-            let _ = self.apart.pop();
+        if self.journal.len() >= u32::MAX as usize {
             return Err(Memory);
         }
-        Ok(())
+        let entry = entry_of(self.tree.vertices(), v, w);
+        let sides = Sides::of(v, w);
+        let versions = (entry.left_version, entry.right_version);
+        let settling = apart_with(self.settled.get(&sides).copied(), versions);
+        self.apart.push(entry)?;
+        let unit = UnitDone::CoverNo(v, w, store);
+        match note(&mut self.journal, &mut self.settled, unit, sides, settling) {
+            Ok(()) => Ok(()),
+            Err(end) => {
+                let _ = self.apart.pop();
+                Err(end)
+            }
+        }
     }
+}
+
+/// So many times the value.
+fn filled(alloc: Global, value: u32, count: usize) -> Result<Vec<u32>, Memory>
+    ensures { IfOk result (λ v. v.items ≡ replicate count value) }
+{
+    let values = vec![in alloc; value; count]?;
+    Ok(values)
+}
+
+/// Gives a vertex its children, with the unit in the journal, or leaves both.
+fn expand_both(
+    alloc: Global,
+    graph: &Graph,
+    tree: &mut Tree,
+    journal: &mut Vec<UnitDone>,
+    v: VertexId,
+) -> Result<(), Memory>
+    requires { MayExpand graph.now tree.old v }
+    ensures vertices { OnOk result (tree.new.vertices ≡ expanded graph.now tree.old.vertices v) }
+    ensures terms { tree.new.terms ≡ tree.old.terms }
+    ensures journal { OnOk result (journal.new.items ≡ journal.old.items ++ Expand v ∷ []) }
+    ensures same_tree { OnErr result (tree.new ≡ tree.old) }
+    ensures same_journal { OnErr result (journal.new.items ≡ journal.old.items) }
+{
+    journal.push(UnitDone::Expand(v))?;
+    if tree.expand(alloc, graph, v).is_err() {
+        let _ = journal.pop();
+        return Err(Memory);
+    }
+    Ok(())
+}
+
+/// Puts the unit into the journal and how it settled its pair into the map, or leaves both.
+fn note(
+    journal: &mut Vec<UnitDone>,
+    settled: &mut HashMap<Sides, Settling>,
+    unit: UnitDone,
+    sides: Sides,
+    settling: Settling,
+) -> Result<(), Memory>
+    ensures journal { OnOk result (journal.new.items ≡ journal.old.items ++ unit ∷ []) }
+    ensures settled { OnOk result (Updates same_sides settled.old settled.new sides (Some settling)) }
+    ensures same_journal { OnErr result (journal.new.items ≡ journal.old.items) }
+    ensures same_settled { OnErr result ((q : Sides) → get same_sides settled.new q ≡ get same_sides settled.old q) }
+{
+    journal.push(unit)?;
+    if settled.insert(sides, settling).is_err() {
+        let _ = journal.pop();
+        return Err(Memory);
+    }
+    Ok(())
 }

@@ -7,7 +7,8 @@ use Rattle.c_graph.specs.declared.graph.Edge.{Edge}
 use Rattle.c_graph.specs.Shape.{Flow, outs, outs_from}
 use Rattle.reach_tree.specs.declared.vertex.VertexId.{VertexId}
 use Rattle.reach_tree.specs.declared.vertex.Vertex.{Vertex}
-use Rattle.reach_tree.specs.Trees.{fresh, vertex_at, changed, numbers_from, target_of, leaves_of, expanded, with_children}
+use Rattle.reach_tree.specs.declared.vertex.NewLabel.{NewLabel}
+use Rattle.reach_tree.specs.Trees.{fresh, vertex_at, changed, numbers_from, target_of, leaves_of, expanded, with_children, relabelled, with_label}
 use Rattle.std.proofs.lemmas.List.{length-set}
 use Rattle.std.proofs.Common.{length-append}
 
@@ -128,3 +129,13 @@ expanded-at g vs more base new now v os es r children cs first count lt view er 
       is-expanded g vs more new v os children first count lt o ef ec en m n ∙ ap (λ (x : List Vertex). expanded g x v) view,
       length-expanded g vs more new v os children m n,
     )
+
+-- one label more
+pub relabelled-more : (vs : List Vertex) (ls : List NewLabel) (l : NewLabel) → relabelled vs (ls ++ l ∷ []) ≡ changed (relabelled vs ls) l.vertex.0 (with_label l.label l.version)
+relabelled-more vs [] l = refl
+relabelled-more vs (m ∷ ls) l = relabelled-more (changed vs m.vertex.0 (with_label m.label m.version)) ls l
+
+pub relabelled-put : (vs old whole : List Vertex) (ls : List NewLabel) (l : NewLabel) → old ≡ relabelled whole ls
+    → vs ≡ changed old l.vertex.0 (with_label l.label l.version) → vs ≡ relabelled whole (ls ++ l ∷ [])
+relabelled-put vs old whole ls l h is =
+    is ∙ ap (λ (ws : List Vertex). changed ws l.vertex.0 (with_label l.label l.version)) h ∙ sym (relabelled-more whole ls l)

@@ -9,6 +9,7 @@ use Rattle.c_graph.specs.declared.graph.Node.TheVariants.{Plain}
 use Rattle.c_graph.specs.Shape.{Flow, HasWidth, outs}
 use Rattle.reach_tree.specs.declared.vertex.VertexId.{VertexId}
 use Rattle.reach_tree.specs.declared.vertex.Vertex.{Vertex}
+use Rattle.reach_tree.specs.declared.vertex.NewLabel.{NewLabel}
 
 -- the vertices of a tree, and the table of the terms of their labels
 pub record Branches : Type 0 where
@@ -75,3 +76,12 @@ MayExpand g t v =
 abbrev pub MayStrengthen : Branches → VertexId → TermId → Type 0
 MayStrengthen t v conjunct =
     (v.0 < length t.vertices) × HasWidth t.terms conjunct 1 × ((vertex_at t.vertices v.0).version < 4294967295)
+
+-- the vertex with another label and version
+abbrev pub with_label : List TermId → ℕ → Vertex → Vertex
+with_label label version x = record x { label = label; version = version }
+
+-- the vertices with these labels and versions, put one after another
+abbrev pub relabelled : List Vertex → List NewLabel → List Vertex
+relabelled vs [] = vs
+relabelled vs (l ∷ ls) = relabelled (changed vs l.vertex.0 (with_label l.label l.version)) ls

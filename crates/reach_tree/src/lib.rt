@@ -5,7 +5,7 @@ mod tree;
 mod vertex;
 
 pub use tree::Tree;
-pub use vertex::{Children, Label, Vertex, VertexId};
+pub use vertex::{Children, Label, NewLabel, Vertex, VertexId};
 
 #[cfg(test)]
 mod tests;

@@ -1,4 +1,6 @@
-use crate::{Tree, VertexId};
+ghost use Rattle.std.specs.Prelude.{◌<◌, All, IsTrue, length};
+
+use crate::{Label, NewLabel, Tree, VertexId};
 use bv_term::{Term, TermId, Terms, are_widths};
 use c_graph::{Cell, Edge, EdgeId, Graph, Node, NodeId, Operation, Operations, Origin, is_graph};
 use lv_base::{ErrorKind, Memory};
@@ -41,7 +43,7 @@ fn graph(rt: &impl Abort, alloc: Global) -> Result<Graph, Memory> {
     let cells = [cell].to_vec(alloc)?;
     let loops = Vec::new(alloc);
     assert!(rt; is_graph(&nodes, &edges, &cells, &terms, NodeId(0), &loops));
-    Ok(Graph::new(nodes, edges, cells, terms, NodeId(0), loops))
+    Graph::new(alloc, nodes, edges, cells, terms, NodeId(0), loops)
 }
 
 /// Expands a vertex that must be a leaf at a plain node.
@@ -99,5 +101,28 @@ fn labels_that_grow(rt: HostRuntime) -> Result<(), Fail> {
     assert!(rt; !tree.may_strengthen(root, cell));
     assert!(rt; !tree.may_strengthen(root, TermId(2)));
     assert!(rt; !tree.may_strengthen(VertexId(1), falsehood));
+    let mut labels = Vec::new(alloc);
+    labels.push(NewLabel {
+        vertex: root,
+        label: Label::new([falsehood, falsehood].to_vec(alloc)?),
+        version: 7,
+    })?;
+    assert!(rt; are_there(&tree, &labels));
+    tree.relabel(labels);
+    assert_eq!(rt; tree.vertices().len(), 1);
+    assert_eq!(rt; tree.vertices()[0].label.as_slice().len(), 2);
+    assert_eq!(rt; tree.vertices()[0].version, 7);
     Ok(())
+}
+
+/// Whether the tree has each of the vertices that are to get these labels.
+fn are_there(tree: &Tree, labels: &[NewLabel]) -> bool
+    ensures { IsTrue result → All (λ l. l.vertex.0 < length tree.now.vertices) labels.now }
+{
+    for label in labels {
+        if label.vertex.0 as usize >= tree.vertices().len() {
+            return false;
+        }
+    }
+    true
 }

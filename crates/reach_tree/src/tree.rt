@@ -3,9 +3,9 @@ ghost use Rattle.bv_term.specs.WellFormed.{FitsTable};
 ghost use Rattle.bv_term.specs.Laws.{IsPut};
 ghost use Rattle.c_graph.specs.declared.graph.Node.TheVariants.{Plain};
 ghost use Rattle.c_graph.specs.Shape.{widths_of};
-ghost use Rattle.reach_tree.specs.Trees.{MayExpand, MayStrengthen, changed, expanded, fresh, leaves_of, numbers_from, root_at, strengthened, vertex_at, with_children, with_conjunct};
+ghost use Rattle.reach_tree.specs.Trees.{MayExpand, MayStrengthen, changed, expanded, fresh, leaves_of, numbers_from, root_at, relabelled, strengthened, vertex_at, with_children, with_conjunct, with_label};
 
-use crate::vertex::{Children, Label, Vertex, VertexId};
+use crate::vertex::{Children, Label, NewLabel, Vertex, VertexId};
 use bv_term::{Term, TermId, Terms};
 use c_graph::{Edge, EdgeId, Graph, Node, NodeId};
 use lv_base::Memory;
@@ -133,6 +133,35 @@ impl Tree {
     {
         add_conjunct(&mut self.vertices, v.0 as usize, conjunct)
     }
+
+    /// Puts these labels and versions in place of those of their vertices, one after another. It takes no memory.
+    pub fn relabel(&mut self, labels: Vec<NewLabel>)
+        requires { All (λ l. l.vertex.0 < length self.old.vertices) labels.items }
+        ensures vertices { self.new.vertices ≡ relabelled self.old.vertices labels.items }
+        ensures terms { self.new.terms ≡ self.old.terms }
+    {
+        put_labels(&mut self.vertices, labels);
+    }
+}
+
+fn put_labels(vertices: &mut Vec<Vertex>, labels: Vec<NewLabel>)
+    requires { All (λ l. l.vertex.0 < length vertices.old.items) labels.items }
+    ensures relabelled { vertices.new.items ≡ relabelled vertices.old.items labels.items }
+    ensures length { length vertices.new.items ≡ length vertices.old.items }
+{
+    for new_label in labels {
+        put_label(vertices, new_label);
+    }
+}
+
+fn put_label(vertices: &mut Vec<Vertex>, new_label: NewLabel)
+    requires { new_label.vertex.0 < length vertices.old.items }
+    ensures relabelled { vertices.new.items ≡ changed vertices.old.items new_label.vertex.0 (with_label new_label.label new_label.version) }
+    ensures length { length vertices.new.items ≡ length vertices.old.items }
+{
+    let vertex = &mut vertices[new_label.vertex.0 as usize];
+    vertex.label = new_label.label;
+    vertex.version = new_label.version;
 }
 
 /// A vertex with an empty label and no children.

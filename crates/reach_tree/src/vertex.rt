@@ -97,3 +97,14 @@ pub struct Vertex {
     /// The vertices after it.
     pub children: Children,
 }
+
+/// A label that a vertex is to get, with its version then.
+#[derive(Drop)]
+pub struct NewLabel {
+    /// The vertex.
+    pub vertex: VertexId,
+    /// What is to hold at it.
+    pub label: Label,
+    /// How often its label was strengthened then.
+    pub version: u32,
+}

@@ -1,0 +1,6 @@
+use Rattle.std.proofs.Common.{◌≡◌, ◌++◌, ◌+◌, ◌<◌, ◌≤◌, ℕ, drop, take, length, get_or}
+use Rattle.cover_engine.specs.Caches.{below, below_lefts, pairs_onto, pairs_under, spread, times, vertex_numbers}
+use Rattle.cover_engine.proofs.covering.raise.Given as goal
+
+abbrev pub invariant-loop-number : goal.invariant-loop-number
+invariant-loop-number l = (length l.counts.items ≡ length l.initial.counts.items) × ((z : ℕ) → z < length l.initial.counts.items → get_or l.counts.items z 0 + times z (drop l.number-index l.numbers) ≡ get_or l.initial.counts.items z 0 + times z l.numbers)
