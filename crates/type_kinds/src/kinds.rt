@@ -1,4 +1,4 @@
-ghost use Rattle.std.specs.Prelude.{◌≡◌, ◌≤◌, ◌&&◌, not, nat_eq, if◌then◌else◌};
+ghost use Rattle.std.specs.Prelude.{◌≡◌, IsTrue};
 ghost use Rattle.lv_base.specs.Integers as int;
 ghost use Rattle.c_meaning.specs.Kinds as k;
 ghost use Rattle.c_meaning.specs.Rules as rule;
@@ -63,7 +63,8 @@ pub fn is_promoted(kind: Kind) -> bool
 
 /// The promoted kind: `int` for a kind of a lower rank (C11 6.3.1.1).
 pub fn promoted(kind: Kind) -> Kind
-    ensures { result ≡ k.promoted kind }
+    ensures kind { result ≡ k.promoted kind }
+    ensures promoted { IsTrue (int.is_promoted result) }
 {
     if is_promoted(kind) { kind } else { Kind::Int }
 }
@@ -77,7 +78,8 @@ pub fn is_same_kind(a: Kind, b: Kind) -> bool
 }
 
 fn unsigned_of(kind: Kind) -> Kind
-    ensures { result ≡ k.unsigned_of kind }
+    ensures kind { result ≡ k.unsigned_of kind }
+    ensures promoted { IsTrue (int.is_promoted kind) → IsTrue (int.is_promoted result) }
 {
     match kind {
         Kind::Bool => Kind::Bool,
@@ -95,13 +97,15 @@ fn unsigned_of(kind: Kind) -> Kind
 }
 
 fn greater(a: Kind, b: Kind) -> Kind
-    ensures { result ≡ k.greater a b }
+    ensures kind { result ≡ k.greater a b }
+    ensures promoted { IsTrue (int.is_promoted a) → IsTrue (int.is_promoted b) → IsTrue (int.is_promoted result) }
 {
     if rank(b) <= rank(a) { a } else { b }
 }
 
 fn mixed(model: Model, unsigned: Kind, signed: Kind) -> Kind
-    ensures { result ≡ k.mixed model unsigned signed }
+    ensures kind { result ≡ k.mixed model unsigned signed }
+    ensures promoted { IsTrue (int.is_promoted unsigned) → IsTrue (int.is_promoted signed) → IsTrue (int.is_promoted result) }
 {
     if rank(signed) <= rank(unsigned) {
         return unsigned;
@@ -113,7 +117,8 @@ fn mixed(model: Model, unsigned: Kind, signed: Kind) -> Kind
 }
 
 fn common_promoted(model: Model, a_signed: bool, b_signed: bool, a: Kind, b: Kind) -> Kind
-    ensures { result ≡ k.common_promoted model a_signed b_signed a b }
+    ensures kind { result ≡ k.common_promoted model a_signed b_signed a b }
+    ensures promoted { IsTrue (int.is_promoted a) → IsTrue (int.is_promoted b) → IsTrue (int.is_promoted result) }
 {
     match (a_signed, b_signed) {
         (true, true) => greater(a, b),
@@ -125,7 +130,8 @@ fn common_promoted(model: Model, a_signed: bool, b_signed: bool, a: Kind, b: Kin
 
 /// The kind to which the usual arithmetic conversions take two kinds (C11 6.3.1.8).
 pub fn common(model: Model, a: Kind, b: Kind) -> Kind
-    ensures { result ≡ k.common model a b }
+    ensures kind { result ≡ k.common model a b }
+    ensures promoted { IsTrue (int.is_promoted result) }
 {
     let a = promoted(a);
     let b = promoted(b);

@@ -1,4 +1,5 @@
-ghost use Rattle.std.specs.Prelude.{◌≡◌};
+ghost use Rattle.std.specs.Prelude.{◌≡◌, IsTrue};
+ghost use Rattle.lv_base.specs.Integers as int;
 ghost use Rattle.c_meaning.specs.Kinds as k;
 
 use crate::kinds::{common, promoted};
@@ -59,7 +60,8 @@ pub fn is_truth(op: BinaryOp) -> bool
 
 /// The kind in which an operation on these kinds is computed, and to which its left operand is converted.
 pub fn operation_kind(model: Model, op: BinaryOp, a: Kind, b: Kind) -> Kind
-    ensures { result ≡ k.operation_kind model op a b }
+    ensures kind { result ≡ k.operation_kind model op a b }
+    ensures promoted { IsTrue (int.is_promoted result) }
 {
     if is_shift(op) {
         promoted(a)
@@ -70,7 +72,8 @@ pub fn operation_kind(model: Model, op: BinaryOp, a: Kind, b: Kind) -> Kind
 
 /// The kind to which the right operand is converted.
 pub fn right_kind(model: Model, op: BinaryOp, a: Kind, b: Kind) -> Kind
-    ensures { result ≡ k.right_kind model op a b }
+    ensures kind { result ≡ k.right_kind model op a b }
+    ensures promoted { IsTrue (int.is_promoted result) }
 {
     if is_shift(op) {
         promoted(b)
