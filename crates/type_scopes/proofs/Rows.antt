@@ -89,6 +89,6 @@ last_type_is env model [] d b = absurd (omega arith)
 last_type_is env model (x ∷ []) d b = refl
 last_type_is env model (x ∷ (y ∷ xs)) d b =
     last_of_more env model xs (t.parts_and t.no_parts x.comma (expr x.value.value)) y ∙ last_type_is env model (y ∷ xs) d (omega arith) ∙ ap (λ z. type_of env model (expr z.value.value)) (last_get y xs d)
-    where
-      last_get : (y : Listed) (xs : List Listed) (d : Listed) → get_or (y ∷ xs) (length (y ∷ xs) - 1) d ≡ get_or (x ∷ (y ∷ xs)) (length (x ∷ (y ∷ xs)) - 1) d
-      last_get y xs d = let e : length (x ∷ (y ∷ xs)) - 1 ≡ suc (length (y ∷ xs) - 1) = omega arith in rw e refl
+  where
+    last_get : (y : Listed) (xs : List Listed) (d : Listed) → get_or (y ∷ xs) (length (y ∷ xs) - 1) d ≡ get_or (x ∷ (y ∷ xs)) (length (x ∷ (y ∷ xs)) - 1) d
+    last_get y xs d = let e : length (x ∷ (y ∷ xs)) - 1 ≡ suc (length (y ∷ xs) - 1) = omega arith in rw e refl

@@ -4,6 +4,8 @@
 mod entries;
 mod expressions;
 mod look_ups;
+#[cfg(test)]
+mod tests;
 mod words;
 
 pub use entries::{Entity, Entry, Env, Object, Scope, What, begin_of, holds, is_tag};

@@ -34,12 +34,7 @@ fn inner<'b, 'a>(best: Option<&'b Entry<'a>>, entry: &'b Entry<'a>) -> &'b Entry
 /// The declaration that a name of a token names: the last one before it in the innermost scope that has one
 /// (C11 6.2.1 p4). Tags have a name space of their own.
 #[tactic(auto, using(crate::proofs::Rows::visible_more))]
-pub fn visible<'b, 'a>(
-    env: &'b Env<'a>,
-    tag: bool,
-    name: &[u8],
-    at: u32,
-) -> Option<&'b Entry<'a>>
+pub fn visible<'b, 'a>(env: &'b Env<'a>, tag: bool, name: &[u8], at: u32) -> Option<&'b Entry<'a>>
     ensures { found.some_entry (option_copied result) ≡ b.visible (seen.env_of env.now) tag name.now at }
 {
     let mut best: Option<&'b Entry<'a>> = None;

@@ -226,11 +226,7 @@ pub fn has_const(env: &Env<'_>, specs: &Specs) -> bool
 }
 
 #[tactic(auto, using(crate::proofs::Rows::params_take, std::proofs::lemmas::List::take_all))]
-fn kinds_of(
-    alloc: Global,
-    env: &Env<'_>,
-    parameters: &[Parameter],
-) -> Result<Vec<Kind>, Memory>
+fn kinds_of(alloc: Global, env: &Env<'_>, parameters: &[Parameter]) -> Result<Vec<Kind>, Memory>
     ensures { IfOk result (λ r. r.items ≡ b.params_kinds (seen.env_of env.now) (v.params_of parameters.now)) }
 {
     let mut kinds = Vec::new(alloc);
