@@ -1,5 +1,5 @@
 -- Declarations, without where they lie in memory.
-use Rattle.std.specs.Prelude.{List, map, Option, None, Some, slice_get}
+use Rattle.std.specs.Prelude.{suc, List, map, Option, None, Some, slice_get}
 use Rattle.type_scopes.specs.declared.entries.Scope.{Scope}
 use Rattle.type_scopes.specs.declared.entries.Scope.TheVariants as sc
 use Rattle.type_scopes.specs.declared.entries.What.{What}
@@ -16,6 +16,7 @@ use Rattle.c_meaning.specs.Bindings as b
 abbrev pub scope_of : Scope → s.Scope
 scope_of sc.File = s.file
 scope_of (sc.Block first last) = s.block first last
+scope_of (sc.Behind before last) = s.block (suc before) last
 
 abbrev pub what_of : What → s.What
 what_of (w.Object ws f i) = s.anObject (words_of ws.now) (form_of f.now) (initial_of i.now)

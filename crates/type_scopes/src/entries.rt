@@ -5,11 +5,12 @@ ghost use Rattle.type_scopes.specs.Seen as seen;
 use c_tree::{Enumerator, Form, Initial, Parameters, Specs};
 use lv_base::Kind;
 
-/// Where a declaration reaches: the whole file, or what stands from one token to another, by their offsets.
+/// Where a declaration reaches: the whole file, or what stands from one token, or from behind one, to another, by their offsets.
 #[derive(Clone, Copy, Debug, PartialEq, Eq)]
 pub enum Scope {
     File,
     Block(u32, u32),
+    Behind(u32, u32),
 }
 
 /// What a name is declared as. An enumeration's constant has the enumerators up to it, a tag all of its list.
@@ -82,6 +83,7 @@ pub fn holds(scope: Scope, at: u32) -> bool
     match scope {
         Scope::File => true,
         Scope::Block(first, last) => first <= at && at <= last,
+        Scope::Behind(before, last) => before < at && at <= last,
     }
 }
 
@@ -92,6 +94,7 @@ pub fn begin_of(scope: Scope) -> u64
     match scope {
         Scope::File => 0,
         Scope::Block(first, _) => first as u64 + 1,
+        Scope::Behind(before, _) => before as u64 + 2,
     }
 }
 

@@ -36,21 +36,26 @@ fn specs(alloc: Global, word: TypeWord) -> Result<Specs, Fail> {
 fn the_inner_declaration_is_named(rt: HostRuntime) -> Result<(), Fail> {
     let alloc = rt.alloc();
     let words = specs(alloc, TypeWord::Long)?;
+    let constants: Vec<Enumerator> = Vec::new(alloc);
     let mut entries = Vec::new(alloc);
     entries.push(entry(5, Scope::File, What::Parameter(&words), Entity::Object(0)))?;
-    entries.push(entry(20, Scope::File, What::Tag(&[]), Entity::Tag(Kind::UInt)))?;
+    entries.push(entry(
+        20,
+        Scope::File,
+        What::Tag(&constants),
+        Entity::Tag(Kind::UInt),
+    ))?;
     let inner = Scope::Block(50, 90);
     entries.push(entry(57, inner, What::Parameter(&words), Entity::Object(1)))?;
     let mut objects = Vec::new(alloc);
-    let array = Object {
+    objects.push(Object {
         name: b"x",
         at: 5,
         kind: Kind::Char,
         length: Some(3),
         is_const: false,
         owner: None,
-    };
-    objects.push(array)?;
+    })?;
     objects.push(Object {
         name: b"x",
         at: 57,
@@ -67,7 +72,7 @@ fn the_inner_declaration_is_named(rt: HostRuntime) -> Result<(), Fail> {
     assert!(rt; named_entity(&env, b"y", 91).is_none());
     assert!(rt; visible(&env, true, b"x", 91).is_some());
     assert!(rt; object_number(declared_entity(&env, 57)) == Some(1));
-    assert!(rt; kind_of(object_type(Some(&array))) == Kind::Char);
+    assert!(rt; kind_of(object_type(env.objects.first())) == Kind::Char);
     assert!(rt; kind_in(entity_type(&env, declared_entity(&env, 57))) == Some(Kind::Long));
     let x = Box::new(alloc, Expr::Name(Text::copy_of(alloc, b"x")?, 60))?;
     let c = Box::new(alloc, Expr::Letter(97, 62))?;
@@ -79,7 +84,9 @@ fn the_inner_declaration_is_named(rt: HostRuntime) -> Result<(), Fail> {
 #[test]
 fn scopes_hold_their_tokens(rt: HostRuntime) {
     assert!(rt; holds(Scope::Block(5, 9), 9) && !holds(Scope::Block(5, 9), 10));
+    assert!(rt; holds(Scope::Behind(5, 9), 6) && !holds(Scope::Behind(5, 9), 5));
     assert!(rt; begin_of(Scope::File) < begin_of(Scope::Block(0, 9)));
+    assert!(rt; begin_of(Scope::Behind(5, 9)) == begin_of(Scope::Block(6, 9)));
     assert!(rt; is_tag(&What::Tag(&[])));
     assert!(rt; named_kind(Some(&Entity::Typedef(Kind::Short, false))) == Some(Kind::Short));
     assert!(rt; constant_value(Some(&Entity::Constant(-7))) == -7);
