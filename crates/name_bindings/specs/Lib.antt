@@ -1,0 +1,4 @@
+pub mod Cut
+pub mod Bound
+pub mod Within
+pub mod Laws
