@@ -1,0 +1,14 @@
+use Rattle.std.proofs.Common.{◌≡◌, ◌≤◌, ◌+◌, ◌*◌, ◌++◌, length}
+use Rattle.std.specs.BinaryHeap.{IsHeap, heap_items, heap_len}
+use Rattle.std.specs.Ordering.{nat_cmp}
+use Rattle.bit_blast.specs.Done.{is_done}
+use Rattle.bit_blast.specs.Cone.{falling, cone_of, pending}
+use Rattle.bit_blast.proofs.cone.cone.Given as goal
+
+abbrev pub invariant-loop-k : goal.invariant-loop-k
+invariant-loop-k l =
+    IsHeap nat_cmp (heap_items l.pending) × (l.below ≤ length l.terms.terms)
+    × (cone_of l.terms.terms l.done l.term ≡ l.found.items ++ falling l.terms.terms (is_done l.done) l.below (pending (heap_items l.pending)))
+
+abbrev pub decreases-loop-k : goal.decreases-loop-k
+decreases-loop-k l = 4 * l.below + heap_len l.pending

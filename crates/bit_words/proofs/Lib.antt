@@ -1,0 +1,3 @@
+pub mod FoldLaws
+pub mod FoldingLaws
+pub mod WordPuts

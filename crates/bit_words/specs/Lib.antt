@@ -1,0 +1,5 @@
+pub mod Folds
+pub mod Folding
+pub mod Words
+pub mod Elements
+pub mod Laws
