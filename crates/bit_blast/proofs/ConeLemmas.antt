@@ -1,14 +1,12 @@
 -- A heap of pending terms, popped from the greatest down, finds the terms of the cone.
 use Rattle.std.proofs.Common.{◌≡◌, ℕ, ◌+◌, ◌-◌, ◌≤◌, ◌<◌, length, List, [], ◌∷◌, ◌++◌, arith, ap, sym, ◌∙◌, refl, suc, zero, Bool, true, false, not, ◌&&◌, ◌||◌, cond, subst, ltb, eqb, ◌⊎◌, inl, inr, append_assoc, append-nil}
-use Rattle.std.specs.Prelude.{sum_by, nat_lt, slice_get, Some}
-use Rattle.std.specs.List.{AllByRecursion}
+use Rattle.std.specs.Prelude.{slice_get, Some}
 use Rattle.std.specs.List.Sorted.{IsPermutation}
 use Rattle.std.specs.Ordering.{nat_cmp, is_lt}
 use Rattle.std.specs.BinaryHeap.{IsUpperBound}
 use Rattle.std.proofs.lemmas.List.Sums.{sum_by-cons}
 use Rattle.std.proofs.lemmas.List.Sorted.{sum_by-IsPermutation}
-use Rattle.std.proofs.lemmas.Bool.{lt-ltb, le-ltb, ltb-true, ltb-false, eqb-true, eq-eqb, ne_eqb, false≢true}
-use Rattle.bit_gates.proofs.Within.{chosen}
+use Rattle.std.proofs.lemmas.Bool.{lt-ltb, ltb-false, eqb-true, eq-eqb, ne_eqb, false≢true}
 use Rattle.prop.specs.Trues.{listed}
 use Rattle.bv_term.specs.declared.term.Term.{Term}
 use Rattle.bit_blast.specs.Done.{Known, is_done}

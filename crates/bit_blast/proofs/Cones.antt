@@ -1,18 +1,17 @@
 -- Over a table, the terms of a cone are emitted each once, after their operands.
-use Rattle.std.proofs.Common.{◌≡◌, ℕ, ◌+◌, ◌≤◌, ◌<◌, length, List, [], ◌∷◌, ◌++◌, map, arith, ap, sym, ◌∙◌, refl, suc, zero, Bool, true, false, not, ◌&&◌, ◌||◌, cond, eqb, subst, ◌⊎◌, inl, inr, All, slice_index, get_or}
+use Rattle.std.proofs.Common.{◌≡◌, ℕ, ◌+◌, ◌≤◌, ◌<◌, length, List, [], ◌∷◌, ◌++◌, map, arith, ap, sym, ◌∙◌, refl, suc, zero, Bool, true, false, not, ◌&&◌, ◌||◌, cond, eqb, subst, ◌⊎◌, inl, inr, slice_index, get_or}
 use Rattle.std.specs.Prelude.{Option}
-use Rattle.std.proofs.lemmas.Bool.{eqb-true, eq-eqb, ne_eqb, false≢true, and_parts}
+use Rattle.std.proofs.lemmas.Bool.{eqb-true, eq-eqb, false≢true}
 use Rattle.prop.specs.declared.Lit.{Lit}
 use Rattle.prop.specs.Trues.{listed}
-use Rattle.bit_gates.specs.Products.{Made}
 use Rattle.bit_gates.proofs.Within.{chosen}
 use Rattle.bv_term.specs.declared.term.Term.{Term}
-use Rattle.bv_term.specs.WellFormed.{Table, IsTable, IsWidth, widths}
+use Rattle.bv_term.specs.WellFormed.{Table, IsTable, widths}
 use Rattle.bit_blast.specs.Done.{Known, lits_of, is_done}
 use Rattle.bit_blast.specs.Cone.{uses_of, numbers, operands_at, wants, falling, cone_of}
-use Rattle.bit_blast.specs.Emission.{emission, IsReady, AllReady, Emitted, emitted, term_at}
-use Rattle.bit_blast.specs.Held.{Held, IsOver}
-use Rattle.bit_blast.proofs.Ready.{FitsAt, fits-at, widths-at, term-ready, operand-below}
+use Rattle.bit_blast.specs.Emission.{emission, AllReady, emitted, term_at}
+use Rattle.bit_blast.specs.Held.{IsOver}
+use Rattle.bit_blast.proofs.Ready.{fits-at, widths-at, term-ready, operand-below}
 
 split : (b : Bool) → (b ≡ true) ⊎ (b ≡ false)
 split true = inl refl
@@ -104,56 +103,56 @@ falls table one cells n done h e d (suc k) need le f =
     let low = falling ts D k need in
     chosen {A = List ℕ} (need k) (k ∷ up) low (Falls table one cells n done (suc k) need)
     (λ y.
-        let f2 : (j : ℕ) → need2 j ≡ true → D j ≡ false = λ j g. fresh2 j g in
-        let i = falls table one cells n done h e d k need2 (omega arith) f2 in
-        let r = emitted one cells ts n done up in
-        let t = term_at ts k in
-        let lt : k < length ts = omega arith in
-        let a = fits-at table k h lt in
-        let us = a.0 in
-        let wu = widths-at table k us t h lt a.1 in
-        let there : (j : ℕ) → listed (numbers (uses_of t)) j ≡ true → is_done r.done j ≡ true
-        = λ j g.
-            let jk : j < k = omega (arith, operand-below table.cells us t j a.1.fits g, a.1.many) in
-            i.dones j ∙ elim (split (D j)) [
-              inl q ↦ ap (λ b. b || listed up j) q
-              | inr q ↦
-                  let w : wants ts D k j ≡ true = ap (λ b. b && not (D j)) (ap (λ l. listed l j) (term-operands ts k lt) ∙ g) ∙ ap not q in
-                  or-right (D j) (listed up j) (i.has j jk (or-right (need j) (wants ts D k j) w))
-            ] in
-        let o : (j : ℕ) → listed (numbers (uses_of t)) j ≡ true → length (lits_of r.done j) ≡ slice_index us j
-        = λ j g.
-            let jk : j < k = omega (arith, operand-below table.cells us t j a.1.fits g, a.1.many) in
-            (i.fit j (there j g)).1 ∙ sym (a.1.same j jk) in
-        let q = term-ready one cells (lits_of r.done) (n + length r.defs) table.cells us t h.cells wu e a.1.fits o in
-        let m = emission one cells (lits_of r.done) (n + length r.defs) t in
-        let new : is_done r.done k ≡ false
-        = i.dones k ∙ (ap (λ b. b || listed up k) (f k y) ∙ not-listed k up i.below) in
-        record {
-          ready = (i.ready, q.0, new);
-          dones = λ j. is_done-more r.done k m.outs j ∙ (ap (λ b. b || (eqb k j || false)) (i.dones j) ∙ swap (D j) (listed up j) (eqb k j));
-          fit = done_fit-more table r.done k m.outs i.fit new lt (q.1 ∙ sym a.1.width);
-          below = λ j g. elim (split (eqb k j)) [
-              inl q ↦ let s : k ≡ j = eqb-true k j q in (omega (arith, s), subst (λ (j : ℕ). D j ≡ false) s (f k y))
-              | inr q ↦ let b = i.below j (sym (ap (λ b. b || listed up j) q) ∙ g) in (omega (arith, b.0), b.1)
-          ];
-          has = λ j less g. elim (split (eqb k j)) [
-              inl q ↦ ap (λ b. b || listed up j) q
-              | inr q ↦ or-right (eqb k j) (listed up j) (i.has j (smaller j less q) (ap (λ b. b || wants ts D k j) g))
-          ];
-        })
+    let f2 : (j : ℕ) → need2 j ≡ true → D j ≡ false = λ j g. fresh2 j g in
+    let i = falls table one cells n done h e d k need2 (omega arith) f2 in
+    let r = emitted one cells ts n done up in
+    let t = term_at ts k in
+    let lt : k < length ts = omega arith in
+    let a = fits-at table k h lt in
+    let us = a.0 in
+    let wu = widths-at table k us t h lt a.1 in
+    let there : (j : ℕ) → listed (numbers (uses_of t)) j ≡ true → is_done r.done j ≡ true
+    = λ j g.
+    let jk : j < k = omega (arith, operand-below table.cells us t j a.1.fits g, a.1.many) in
+    i.dones j ∙ elim (split (D j)) [
+      | inl q ↦ ap (λ b. b || listed up j) q
+      | inr q ↦
+          let w : wants ts D k j ≡ true = ap (λ b. b && not (D j)) (ap (λ l. listed l j) (term-operands ts k lt) ∙ g) ∙ ap not q in
+          or-right (D j) (listed up j) (i.has j jk (or-right (need j) (wants ts D k j) w))
+    ] in
+    let o : (j : ℕ) → listed (numbers (uses_of t)) j ≡ true → length (lits_of r.done j) ≡ slice_index us j
+    = λ j g.
+    let jk : j < k = omega (arith, operand-below table.cells us t j a.1.fits g, a.1.many) in
+    (i.fit j (there j g)).1 ∙ sym (a.1.same j jk) in
+    let q = term-ready one cells (lits_of r.done) (n + length r.defs) table.cells us t h.cells wu e a.1.fits o in
+    let m = emission one cells (lits_of r.done) (n + length r.defs) t in
+    let new : is_done r.done k ≡ false
+    = i.dones k ∙ (ap (λ b. b || listed up k) (f k y) ∙ not-listed k up i.below) in
+    record {
+      ready = (i.ready, q.0, new);
+      dones = λ j. is_done-more r.done k m.outs j ∙ (ap (λ b. b || (eqb k j || false)) (i.dones j) ∙ swap (D j) (listed up j) (eqb k j));
+      fit = done_fit-more table r.done k m.outs i.fit new lt (q.1 ∙ sym a.1.width);
+      below = λ j g. elim (split (eqb k j)) [
+        | inl q ↦ let s : k ≡ j = eqb-true k j q in (omega (arith, s), subst (λ (j : ℕ). D j ≡ false) s (f k y))
+        | inr q ↦ let b = i.below j (sym (ap (λ b. b || listed up j) q) ∙ g) in (omega (arith, b.0), b.1)
+      ];
+      has = λ j less g. elim (split (eqb k j)) [
+        | inl q ↦ ap (λ b. b || listed up j) q
+        | inr q ↦ or-right (eqb k j) (listed up j) (i.has j (smaller j less q) (ap (λ b. b || wants ts D k j) g))
+      ];
+    })
     (λ y.
-        let i = falls table one cells n done h e d k need (omega arith) f in
-        record {
-          ready = i.ready;
-          dones = i.dones;
-          fit = i.fit;
-          below = λ j g. let b = i.below j g in (omega (arith, b.0), b.1);
-          has = λ j less g. elim (split (eqb k j)) [
-              inl q ↦ absurd (false≢true (sym y ∙ (ap need (eqb-true k j q) ∙ g)))
-              | inr q ↦ i.has j (smaller j less q) g
-          ];
-        })
+    let i = falls table one cells n done h e d k need (omega arith) f in
+    record {
+      ready = i.ready;
+      dones = i.dones;
+      fit = i.fit;
+      below = λ j g. let b = i.below j g in (omega (arith, b.0), b.1);
+      has = λ j less g. elim (split (eqb k j)) [
+        | inl q ↦ absurd (false≢true (sym y ∙ (ap need (eqb-true k j q) ∙ g)))
+        | inr q ↦ i.has j (smaller j less q) g
+      ];
+    })
   where
     fresh2 : (j : ℕ) → (need j || wants table.terms (is_done done) k j) ≡ true → is_done done j ≡ false
     fresh2 j g = by (need j) refl g
@@ -198,7 +197,7 @@ pub cone-done : (table : Table) (one : Lit) (cells : List (List Lit)) (n : ℕ) 
 cone-done table one cells n done t h e d lt =
     let i = cone-falls table one cells n done t h e d lt in
     i.dones t ∙ elim (split (is_done done t)) [
-      inl q ↦ ap (λ b. b || listed (cone_of table.terms done t) t) q
+      | inl q ↦ ap (λ b. b || listed (cone_of table.terms done t) t) q
       | inr q ↦ or-right (is_done done t) (listed (cone_of table.terms done t) t)
           (i.has t (omega arith) (ap (λ b. b && not (is_done done t)) (eq-eqb t t refl) ∙ ap not q))
     ]

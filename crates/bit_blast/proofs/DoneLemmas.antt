@@ -1,10 +1,8 @@
 -- Terms that are done are found by their places.
-use Rattle.std.proofs.Common.{◌≡◌, ℕ, ◌+◌, ◌≤◌, ◌<◌, length, List, [], ◌∷◌, ◌++◌, map, arith, ap, sym, ◌∙◌, refl, suc, zero, Bool, true, false, ◌||◌, cond, eqb, subst, get_or, set, ◌⊎◌, inl, inr}
+use Rattle.std.proofs.Common.{◌≡◌, ℕ, ◌+◌, ◌<◌, length, List, [], ◌∷◌, ◌++◌, map, arith, ap, sym, ◌∙◌, refl, suc, zero, Bool, true, false, ◌||◌, cond, eqb, subst, get_or, set}
 use Rattle.std.specs.Prelude.{Option, Some, None, slice_get, unwrap_or, is_some}
 use Rattle.std.proofs.lemmas.Bool.{eqb-true, eq-eqb, false≢true}
-use Rattle.std.proofs.lemmas.List.{length-append}
 use Rattle.prop.specs.declared.Lit.{Lit}
-use Rattle.bit_gates.proofs.Within.{chosen}
 use Rattle.bit_words.proofs.WordPuts.{map-length}
 use Rattle.bit_blast.specs.declared.done.Done.{Done}
 use Rattle.bit_blast.specs.Done.{Known, lits_of, is_done, Placed}
@@ -99,7 +97,7 @@ placed-enter ps qs rs ds es d n h g f lt er en ee =
     let q = placed-keep ps qs 0 (map known ds) h f in
     let p : Placed (set qs d.term n) 0 (map known ds ++ known d ∷ [])
     = placed-more qs (set qs d.term n) 0 (map known ds) d.term d.lits.items q g (λ k v ne s. set-other qs d.term n k v ne s)
-        (set-same qs d.term n lt ∙ ap Some k) in
+    (set-same qs d.term n lt ∙ ap Some k) in
     (subst (λ (t : List Known). Placed rs 0 t) (sym e) (subst (λ (t : List ℕ). Placed t 0 (map known ds ++ known d ∷ [])) (sym er) p), e)
 
 pub look-found : (ps qs : List ℕ) (ds es : List Done) (view : List Known) (t k : ℕ) (d : Done) → Placed ps 0 (map known ds) → map known ds ≡ view
@@ -126,6 +124,6 @@ pub look-none : (ps qs : List ℕ) (ds es : List Done) (view : List Known) (t : 
 look-none ps qs ds es view t h ev eq ee f =
     let g : (j : ℕ) (d : Done) → slice_get ps t ≡ Some (0 + j) → j < length ds → (get_or ds j d).term ≡ t → ⊥
     = λ j d e lt s. let z : 0 + j ≡ j = omega arith in
-        f j d (ap (λ (q : List ℕ). slice_get q t) eq ∙ (e ∙ ap Some z)) (subst (λ (x : List Done). j < length x) (sym ee) lt)
-        (ap (λ (x : List Done). (get_or x j d).term) ee ∙ s) in
+    f j d (ap (λ (q : List ℕ). slice_get q t) eq ∙ (e ∙ ap Some z)) (subst (λ (x : List Done). j < length x) (sym ee) lt)
+    (ap (λ (x : List Done). (get_or x j d).term) ee ∙ s) in
     subst (λ (v : List Known). (is_done v t ≡ false) × (lits_of v t ≡ [])) ev (place-none ps 0 ds t h g)

@@ -1,21 +1,19 @@
 -- How many literals each operation makes.
-use Rattle.std.proofs.Common.{◌≡◌, ℕ, ◌+◌, ◌-◌, ◌*◌, ◌/◌, ◌≤◌, ◌<◌, length, List, [], ◌∷◌, ◌++◌, map, take, drop, arith, ap, sym, ◌∙◌, refl, suc, zero, Bool, true, false, cond, ltb, subst}
-use Rattle.std.specs.Prelude.{Option, Some, None}
+use Rattle.std.proofs.Common.{◌≡◌, ℕ, ◌+◌, ◌-◌, ◌*◌, ◌/◌, ◌≤◌, length, List, [], ◌∷◌, ◌++◌, arith, ap, sym, ◌∙◌, refl, suc, zero, ltb}
 use Rattle.std.proofs.lemmas.Bool.{ltb-true}
-use Rattle.std.proofs.lemmas.List.{length-append, length-take-le, length-drop}
 use Rattle.prop.specs.declared.Lit.{Lit}
 use Rattle.prop.specs.Logic.{negated, positive_of}
 use Rattle.bit_gates.specs.declared.netlist.Def.TheVariants.{And}
 use Rattle.bit_gates.specs.declared.shifters.Shift.{Shift}
-use Rattle.bit_gates.specs.Products.{Made, product, product_of, masked}
-use Rattle.bit_gates.specs.Quotients.{selected, divided, div_step, none_of, quotient}
-use Rattle.bit_gates.specs.Shifts.{stage, last_stage, stages, shift_of, top_of, emptied}
+use Rattle.bit_gates.specs.Products.{Made, product_of, masked}
+use Rattle.bit_gates.specs.Quotients.{divided, none_of, quotient}
+use Rattle.bit_gates.specs.Shifts.{stage, last_stage, stages, shift_of, top_of}
 use Rattle.bit_gates.specs.Quotients.{none_of}
 use Rattle.bit_gates.proofs.ProductLaws.{product-length, masked-length}
 use Rattle.bit_gates.proofs.DivideLaws.{divided-length, selected-length}
 use Rattle.bit_gates.proofs.Lengths.{stage-length, emptied-length}
 use Rattle.bit_gates.proofs.Within.{chosen}
-use Rattle.bit_words.specs.Words.{numeral_of, copies_of, ands, xors, given}
+use Rattle.bit_words.specs.Words.{numeral_of, copies_of, ands, xors}
 use Rattle.bit_words.specs.Folding.{folded, folded_made, renamed}
 use Rattle.bit_words.specs.Elements.{half_of, doubled, decoded, picked, AllLong}
 use Rattle.bit_words.proofs.WordPuts.{map-length}
@@ -76,7 +74,7 @@ stages-length n how z k xs (b ∷ bs) =
     chosen {A = Made} (ltb k (length xs)) (record { defs = s.defs ++ r.defs; outs = r.outs }) (last_stage n how z xs b bs)
     (λ m. length m.outs ≡ length xs)
     (λ t. let lt = ltb-true k (length xs) t in
-        stages-length (n + length s.defs) how z (2 * k) s.outs bs ∙ stage-length n how z k b xs (omega (arith, lt)))
+    stages-length (n + length s.defs) how z (2 * k) s.outs bs ∙ stage-length n how z k b xs (omega (arith, lt)))
     (λ t. emptied-length (n + length c.defs) how z c.out xs)
 
 pub shift_of-length : (n : ℕ) (how : Shift) (xs bs : List Lit) → length (shift_of n how xs bs).outs ≡ length xs
@@ -90,9 +88,9 @@ doubled-length n b count (x ∷ hs) le =
     let low : Made = record { defs = And x (negated b) ∷ []; outs = positive_of n ∷ [] } in
     chosen {A = Made} (ltb 1 count) both low (λ m. length m.outs ≤ count)
     (λ t.
-        let lt = ltb-true 1 count t in
-        let i : length r.outs ≤ count - 2 = doubled-length (suc (suc n)) b (count - 2) hs (omega (arith, lt, le)) in
-        omega (arith, i, lt))
+    let lt = ltb-true 1 count t in
+    let i : length r.outs ≤ count - 2 = doubled-length (suc (suc n)) b (count - 2) hs (omega (arith, lt, le)) in
+    omega (arith, i, lt))
     (λ t. omega (arith, le))
 
 pub decoded-length : (n : ℕ) (e : Lit) (bs : List Lit) (count : ℕ) → 1 ≤ count → length (decoded n e bs count).outs ≤ count

@@ -1,5 +1,5 @@
 -- What each call holds fits the tables that it fitted before.
-use Rattle.std.proofs.Common.{◌≡◌, ℕ, ◌+◌, ◌≤◌, ◌<◌, length, List, [], ◌∷◌, ◌++◌, map, take, drop, arith, ap, sym, ◌∙◌, refl, suc, zero, Bool, true, false, cond, ltb, subst, slice_index}
+use Rattle.std.proofs.Common.{◌≡◌, ℕ, ◌+◌, ◌≤◌, ◌<◌, length, List, [], ◌∷◌, map, take, drop, arith, ap, sym, ◌∙◌, refl, suc, zero, ltb, subst, slice_index}
 use Rattle.std.specs.Prelude.{Option, Some, None}
 use Rattle.std.proofs.lemmas.Bool.{false≢true, ltb-true}
 use Rattle.prop.specs.declared.Lit.{Lit}
@@ -9,11 +9,10 @@ use Rattle.bit_gates.proofs.DivideLaws.{selected-length}
 use Rattle.bit_words.specs.Folding.{folded_made}
 use Rattle.bit_words.specs.Words.{spelled_of}
 use Rattle.bit_words.specs.Elements.{decoded, stored, AllLong}
-use Rattle.bit_words.proofs.WordPuts.{map-length}
 use Rattle.bv_term.specs.WellFormed.{Table}
 use Rattle.bit_blast.specs.Done.{Known}
 use Rattle.bit_blast.specs.Emission.{cell_at}
-use Rattle.bit_blast.specs.Held.{Held, fresh_lits, fresh_cells, placed, replaced, store_open, known_index, store_in, store_of, begun, new_of, rebind_of, renew_of, IsOver, above_all}
+use Rattle.bit_blast.specs.Held.{Held, fresh_lits, fresh_cells, placed, replaced, known_index, store_in, store_of, begun, new_of, rebind_of, renew_of, IsOver, above_all}
 use Rattle.bit_blast.proofs.Lengths.{folded-outs}
 use Rattle.bit_blast.proofs.Steps.{stored-many}
 
@@ -69,7 +68,7 @@ replaced-widths w cells f (c ∷ cs) h g =
     let z : f ≡ f + 0 = omega arith in
     let at : length (cell_at (replaced cells (suc f) cs) f) ≡ w
     = cell-width (replaced cells (suc f) cs) f ∙ (ap (λ (t : List ℕ). slice_index t f) i ∙ (sym (cell-width cells f)
-        ∙ (ap (λ (t : ℕ). length (cell_at cells t)) z ∙ g 0 (omega arith)))) in
+    ∙ (ap (λ (t : ℕ). length (cell_at cells t)) z ∙ g 0 (omega arith)))) in
     placed-widths (replaced cells (suc f) cs) f c (h.0 ∙ sym at) ∙ i
 
 stored-long : (w : ℕ) (one : Lit) (n : ℕ) (es : List Lit) (cs : List (List Lit)) (value : List Lit) → length value ≡ w → AllLong w cs

@@ -1,12 +1,12 @@
 -- Each term of a cone is ready when its turn comes.
-use Rattle.std.proofs.Common.{◌≡◌, ℕ, ◌+◌, ◌-◌, ◌≤◌, ◌<◌, length, List, [], ◌∷◌, ◌++◌, map, take, drop, arith, ap, sym, ◌∙◌, refl, suc, zero, Bool, true, false, not, ◌&&◌, ◌||◌, cond, ltb, eqb, subst, ◌⊎◌, inl, inr, All, slice_index, get_or}
+use Rattle.std.proofs.Common.{◌≡◌, ℕ, ◌+◌, ◌-◌, ◌≤◌, ◌<◌, length, List, [], ◌∷◌, ◌++◌, map, take, drop, arith, ap, sym, ◌∙◌, refl, suc, zero, Bool, true, false, ◌||◌, ltb, eqb, subst, All, slice_index, get_or}
 use Rattle.std.specs.Prelude.{Option, Some, None}
-use Rattle.std.proofs.lemmas.Bool.{eqb-true, eq-eqb, ne_eqb, false≢true, and_parts, ltb-true}
-use Rattle.std.proofs.lemmas.List.{length-append, length-take-le, length-drop}
+use Rattle.std.proofs.lemmas.Bool.{eqb-true, eq-eqb, false≢true, ltb-true}
+use Rattle.std.proofs.lemmas.List.{length-append, length-take-le}
 use Rattle.prop.specs.declared.Lit.{Lit}
-use Rattle.prop.specs.Logic.{negated, positive_of}
+use Rattle.prop.specs.Logic.{negated}
 use Rattle.prop.specs.Trues.{listed}
-use Rattle.bit_gates.specs.Products.{Made, product_of}
+use Rattle.bit_gates.specs.Products.{product_of}
 use Rattle.bit_gates.specs.Quotients.{selected}
 use Rattle.bit_gates.specs.declared.shifters.Shift.TheVariants.{Left, Logical, Arithmetic}
 use Rattle.bit_gates.specs.Shifts.{shift_of, top_of}
@@ -14,19 +14,17 @@ use Rattle.bit_gates.proofs.Within.{chosen}
 use Rattle.bit_gates.proofs.AddLaws.{ripple-length}
 use Rattle.bit_gates.proofs.DivideLaws.{selected-length}
 use Rattle.bit_words.specs.Folding.{standing, folded_made}
-use Rattle.bit_words.specs.Words.{given, numeral_of, copies_of, spelled_of, ands, xors}
+use Rattle.bit_words.specs.Words.{copies_of, spelled_of, ands, xors}
 use Rattle.bit_words.specs.Elements.{decoded, picked, AllLong}
 use Rattle.bit_words.proofs.WordPuts.{map-length}
 use Rattle.bv_term.specs.declared.term.Term.{Term}
 use Rattle.bv_term.specs.declared.term.Term.TheVariants.{Constant, Cell, Element, Add, Subtract, Multiply, Divide, Remainder, And, Or, Xor, Not, ShiftLeft, ShiftRight, ShiftSigned, Equal, Less, LessSigned, Select, ZeroExtend, SignExtend, Truncate, Bit}
 use Rattle.bv_term.specs.WellFormed.{Table, IsTable, IsWidth, Fits, AllFit, width_in, widths_after, widths}
-use Rattle.bv_term.proofs.Growing.{widths-of, length-widths, widths-append}
+use Rattle.bv_term.proofs.Growing.{widths-of}
 use Rattle.bv_term.proofs.Staying.{widths-keep}
-use Rattle.bit_blast.specs.Done.{Known, lits_of, is_done}
-use Rattle.bit_blast.specs.Cone.{uses_of, numbers, operands_at, wants, falling, cone_of}
+use Rattle.bit_blast.specs.Cone.{uses_of, numbers}
 use Rattle.bit_blast.specs.Gates.{add_word, subtract_word, divide_word, remainder_word, or_word, equal_word, less_word, extended_to}
-use Rattle.bit_blast.specs.Emission.{cell_at, no_cell, element_of, emission, AreWords, IsReady, AllReady, Emitted, emitted, term_at}
-use Rattle.bit_blast.specs.Held.{Held, IsOver}
+use Rattle.bit_blast.specs.Emission.{cell_at, no_cell, element_of, emission, AreWords, IsReady, term_at}
 use Rattle.bit_blast.proofs.Lengths.{folded-outs, numeral-length, copies-length, ands-length, xors-length, product_of-length, quotient-quot, quotient-rest, shift_of-length, picked-length}
 
 -- the operands of a term have their widths
@@ -138,9 +136,10 @@ term-ready one cells ls n cw ws (Element first m i) c a e f o =
     let q = array-cells cells cw first m e f.0 in
     let cs = take m (drop first cells) in
     let oi = o i.0 (one-of i.0) in
-    let wi : slice_index ws i.0 ≤ 128 = (a i.0 0 f.1).1 in
-    ((f.0.0, q.0, omega (arith, oi, wi), subst (λ (t : ℕ). AllLong t cs) (sym q.1) q.2),
-      element-length one n (slice_index cw first) cs (ls i.0) (spelled_of one (ls i.0)) q.1 q.2)
+    let wi : slice_index ws i.0 ≤ 128 = (a i.0 0 f.1).1 in (
+      (f.0.0, q.0, omega (arith, oi, wi), subst (λ (t : ℕ). AllLong t cs) (sym q.1) q.2),
+      element-length one n (slice_index cw first) cs (ls i.0) (spelled_of one (ls i.0)) q.1 q.2,
+    )
 term-ready one cells ls n cw ws (Add i j) c a e f o =
     let oi = o i.0 (first-of i.0 j.0) in
     let q = words-alike ls ws i.0 j.0 a f oi (o j.0 (second-of i.0 j.0)) in
@@ -169,9 +168,11 @@ term-ready one cells ls n cw ws (Or i j) c a e f o =
     let oi = o i.0 (first-of i.0 j.0) in
     let q = words-alike ls ws i.0 j.0 a f oi (o j.0 (second-of i.0 j.0)) in
     let l = map-length negated (ls i.0) in
-    let m = ands n (map negated (ls i.0)) (map negated (ls j.0)) in
-    (q, folded-outs one n (or_word n (ls i.0) (ls j.0)) ∙ (map-length negated m.outs
-      ∙ (ands-length n (map negated (ls i.0)) (map negated (ls j.0)) (l ∙ (q.1 ∙ sym (map-length negated (ls j.0)))) ∙ (l ∙ oi))))
+    let m = ands n (map negated (ls i.0)) (map negated (ls j.0)) in (
+      q,
+      folded-outs one n (or_word n (ls i.0) (ls j.0)) ∙ (map-length negated m.outs
+          ∙ (ands-length n (map negated (ls i.0)) (map negated (ls j.0)) (l ∙ (q.1 ∙ sym (map-length negated (ls j.0)))) ∙ (l ∙ oi))),
+    )
 term-ready one cells ls n cw ws (Xor i j) c a e f o =
     let oi = o i.0 (first-of i.0 j.0) in
     let q = words-alike ls ws i.0 j.0 a f oi (o j.0 (second-of i.0 j.0)) in
@@ -288,13 +289,15 @@ fits-from cw ws (t ∷ ts) zero f lt =
     let l : length (ws ++ w ∷ []) ≡ length ws + 1 = length-append ws (w ∷ []) in
     let e : length ws + 0 ≡ length ws = omega arith in
     let at : slice_index (widths_after cw (ws ++ w ∷ []) ts) (length ws) ≡ w
-    = widths-keep cw (ws ++ w ∷ []) ts (length ws) (omega (arith, l)) ∙ index-last ws w in
-    (ws, record {
-      fits = f.0;
-      many = sym e;
-      same = λ i less. sym (widths-keep cw ws (t ∷ ts) i (omega (arith, less, e)));
-      width = ap (slice_index (widths_after cw (ws ++ w ∷ []) ts)) e ∙ at;
-    })
+    = widths-keep cw (ws ++ w ∷ []) ts (length ws) (omega (arith, l)) ∙ index-last ws w in (
+      ws,
+      record {
+        fits = f.0;
+        many = sym e;
+        same = λ i less. sym (widths-keep cw ws (t ∷ ts) i (omega (arith, less, e)));
+        width = ap (slice_index (widths_after cw (ws ++ w ∷ []) ts)) e ∙ at;
+      },
+    )
 fits-from cw ws (t ∷ ts) (suc k) f lt =
     let w = width_in cw ws t in
     let l : length (ws ++ w ∷ []) ≡ length ws + 1 = length-append ws (w ∷ []) in

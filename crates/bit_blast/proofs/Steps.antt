@@ -1,8 +1,8 @@
 -- The code of cells, steps and single bits, step by step.
-use Rattle.std.proofs.Common.{◌≡◌, ℕ, ◌+◌, ◌-◌, ◌≤◌, ◌<◌, length, List, [], ◌∷◌, ◌++◌, map, take, drop, get_or, set, arith, ap, sym, ◌∙◌, refl, suc, zero, false, cond, ltb, subst, append_assoc}
+use Rattle.std.proofs.Common.{◌≡◌, ℕ, ◌+◌, ◌-◌, ◌≤◌, ◌<◌, length, List, [], ◌∷◌, ◌++◌, map, take, drop, get_or, set, arith, ap, sym, ◌∙◌, refl, suc, zero, false, subst, append_assoc}
 use Rattle.std.specs.Prelude.{Option, Some, None, slice_get, is_some}
-use Rattle.std.proofs.lemmas.Bool.{lt-ltb, false≢true}
-use Rattle.std.proofs.lemmas.List.{drop_more, length-take-le, length-drop}
+use Rattle.std.proofs.lemmas.Bool.{false≢true}
+use Rattle.std.proofs.lemmas.List.{drop_more}
 use Rattle.prop.specs.declared.Lit.{Lit}
 use Rattle.prop.specs.Logic.{positive_of}
 use Rattle.bit_gates.specs.declared.netlist.Def.{Def}
@@ -11,8 +11,7 @@ use Rattle.bit_gates.specs.Products.{Made}
 use Rattle.bit_gates.proofs.Puts.{grew_seq}
 use Rattle.bit_words.specs.Folding.{folded_made}
 use Rattle.bit_gates.specs.Quotients.{selected}
-use Rattle.bit_words.specs.Elements.{decoded, picked, stored, AllLong}
-use Rattle.bit_words.proofs.WordPuts.{map-length}
+use Rattle.bit_words.specs.Elements.{decoded, picked, stored}
 use Rattle.bv_term.specs.declared.term.Term.{Term}
 use Rattle.bit_blast.specs.Done.{Known, lits_of, is_done}
 use Rattle.bit_blast.specs.Emission.{cell_at, no_cell, element_of, emission, emitted, IsReady, AllReady, term_at}
@@ -109,13 +108,13 @@ choice_put one n n1 n2 cs index places z outs d d1 d2 pd po g1 ep ez ed eo g2 eu
     let made : Made = record { defs = pd; outs = po } in
     let es : made ≡ picked n1 places cs z
     = ap (λ (t : List Def). let q : Made = record { defs = t; outs = po } in q) ed
-        ∙ ap (λ (t : List Lit). let q : Made = record { defs = (picked n1 places cs z).defs; outs = t } in q) eo in
+    ∙ ap (λ (t : List Lit). let q : Made = record { defs = (picked n1 places cs z).defs; outs = t } in q) eo in
     let e2 : picked n1 places cs z ≡ picked (n + length m.defs) m.outs cs (no_cell one cs)
     = ap (λ (t : ℕ). picked t places cs z) g1.0 ∙ (ap (λ (t : List Lit). picked (n + length m.defs) t cs z) ep
-        ∙ ap (λ (t : List Lit). picked (n + length m.defs) m.outs cs t) ez) in
+    ∙ ap (λ (t : List Lit). picked (n + length m.defs) m.outs cs t) ez) in
     let p = folded_made one (n + length m.defs) (picked (n + length m.defs) m.outs cs (no_cell one cs)) in
     let e3 : folded_made one n1 made ≡ p = ap (λ (t : Made). folded_made one n1 t) (es ∙ e2)
-        ∙ ap (λ (t : ℕ). folded_made one t (picked (n + length m.defs) m.outs cs (no_cell one cs))) g1.0 in
+    ∙ ap (λ (t : ℕ). folded_made one t (picked (n + length m.defs) m.outs cs (no_cell one cs))) g1.0 in
     let q = grew_seq n n1 n2 d d1 d2 m.defs (folded_made one n1 made).defs g1 g2 in
     (subst (λ (t : Made). Grew n d n2 d2 (m.defs ++ t.defs)) e3 q, eu ∙ ap (λ (t : Made). t.outs) e3)
 
@@ -187,14 +186,14 @@ turn-put one cells ts n n1 n2 done now new ks i left k t old d1 d2 lits e le h g
     let m = emission one cells (lits_of r.done) (n + length r.defs) (term_at ts k) in
     let em : emission one cells (lits_of now) n1 t ≡ m
     = ap (λ (x : List Known). emission one cells (lits_of x) n1 t) ew ∙ (ap (λ (x : ℕ). emission one cells (lits_of r.done) x t) en
-        ∙ ap (λ (x : Term). emission one cells (lits_of r.done) (n + length r.defs) x) (sym (term-at ts k t g))) in
+    ∙ ap (λ (x : Term). emission one cells (lits_of r.done) (n + length r.defs) x) (sym (term-at ts k t g))) in
     let gr2 : Grew n1 d1 n2 d2 m.defs = subst (λ (x : Made). Grew n1 d1 n2 d2 x.defs) em gr in
     let q = grew_seq n n1 n2 old d1 d2 r.defs m.defs (en, ed) gr2 in
     let last : new ≡ r.done ++ record { term = k; lits = m.outs } ∷ []
     = ew2 ∙ (ap (λ (x : List Known). x ++ record { term = k; lits = lits } ∷ []) ew
-        ∙ ap (λ (x : List Lit). r.done ++ record { term = k; lits = x } ∷ []) (el ∙ ap (λ (x : Made). x.outs) em)) in
+    ∙ ap (λ (x : List Lit). r.done ++ record { term = k; lits = x } ∷ []) (el ∙ ap (λ (x : Made). x.outs) em)) in
     let P : List ℕ → Type 0 = λ x. (n2 ≡ n + length (emitted one cells ts n done x).defs) × (d2 ≡ old ++ (emitted one cells ts n done x).defs)
-        × (new ≡ (emitted one cells ts n done x).done) in
+    × (new ≡ (emitted one cells ts n done x).done) in
     subst P (sym (drop-back ks i left k e le h)) (q.0, q.1, last)
 
 pub cell-past : {A : Type 0} (f : A → List Lit) (xs : List A) (k : ℕ) → length xs ≤ k → [] ≡ cell_at (map f xs) k

@@ -1,5 +1,5 @@
 -- The terms below a term that are not done, each once, from the highest number down.
-use Rattle.std.specs.Prelude.{ℕ, ◌≡◌, ◌+◌, Bool, true, false, not, ◌&&◌, ◌||◌, cond, nat_eq, List, [], ◌∷◌, zero, suc, sum_by}
+use Rattle.std.specs.Prelude.{ℕ, ◌≡◌, Bool, not, ◌&&◌, ◌||◌, cond, nat_eq, List, [], ◌∷◌, zero, suc, sum_by}
 use Rattle.std.specs.Prelude.{ltb}
 use Rattle.prop.specs.Trues.{listed}
 use Rattle.bv_term.specs.declared.term.Term.{Term}

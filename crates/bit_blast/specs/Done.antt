@@ -1,5 +1,5 @@
 -- Terms that count as done, with their literals.
-use Rattle.std.specs.Prelude.{ℕ, ◌≡◌, Bool, true, false, ◌||◌, cond, nat_eq, List, [], ◌∷◌, suc, Option, Some, slice_get}
+use Rattle.std.specs.Prelude.{ℕ, ◌≡◌, Bool, false, ◌||◌, cond, nat_eq, List, [], ◌∷◌, suc, Some, slice_get}
 use Rattle.prop.specs.declared.Lit.{Lit}
 
 -- a term that counts as done, and its literals

@@ -1,8 +1,8 @@
 -- What one term adds, from the literals of its operands and of the cells.
-use Rattle.std.specs.Prelude.{ℕ, ◌≡◌, ◌≤◌, ◌<◌, ◌+◌, ◌-◌, Bool, true, false, cond, List, [], ◌∷◌, ◌++◌, length, map, take, drop, zero, suc, Option, Some, None}
+use Rattle.std.specs.Prelude.{ℕ, ◌≡◌, ◌≤◌, ◌<◌, ◌+◌, true, false, cond, List, [], ◌∷◌, ◌++◌, length, map, take, drop, zero, suc, Option, Some, None}
 use Rattle.std.specs.Prelude.{ltb}
 use Rattle.prop.specs.declared.Lit.{Lit}
-use Rattle.prop.specs.Logic.{negated, positive_of}
+use Rattle.prop.specs.Logic.{negated}
 use Rattle.bit_gates.specs.declared.netlist.Def.{Def}
 use Rattle.bit_gates.specs.declared.shifters.Shift.TheVariants.{Left, Logical, Arithmetic}
 use Rattle.bit_gates.specs.Products.{Made, product_of}

@@ -1,15 +1,12 @@
 -- A word for each operation, `one` being true: what the gates make, before it is folded.
-use Rattle.std.specs.Prelude.{ℕ, ◌+◌, ◌-◌, Bool, List, [], ◌∷◌, ◌++◌, length, map, take, drop}
+use Rattle.std.specs.Prelude.{ℕ, ◌-◌, Bool, List, [], ◌∷◌, ◌++◌, length, map}
 use Rattle.prop.specs.declared.Lit.{Lit}
-use Rattle.prop.specs.Logic.{negated, positive_of}
-use Rattle.bit_gates.specs.declared.netlist.Def.{Def}
-use Rattle.bit_gates.specs.declared.shifters.Shift.{Shift}
+use Rattle.prop.specs.Logic.{negated}
 use Rattle.bit_gates.specs.Sums.{ripple}
-use Rattle.bit_gates.specs.Products.{Made, product_of}
+use Rattle.bit_gates.specs.Products.{Made}
 use Rattle.bit_gates.specs.Quotients.{quotient}
 use Rattle.bit_gates.specs.Orders.{less_of, equal_of}
-use Rattle.bit_gates.specs.Shifts.{shift_of, top_of}
-use Rattle.bit_words.specs.Words.{given, copies_of, ands, xors}
+use Rattle.bit_words.specs.Words.{copies_of, ands}
 
 abbrev pub add_word : Lit → ℕ → List Lit → List Lit → Made
 add_word one n a b = let r = ripple n a b (negated one) in record { defs = r.defs; outs = r.outs }

@@ -1,18 +1,17 @@
 -- What blasting holds, and what each call makes of it.
-use Rattle.std.specs.Prelude.{ℕ, ◌≡◌, ◌≤◌, ◌<◌, ◌+◌, ◌-◌, Bool, true, false, cond, nat_eq, List, [], ◌∷◌, ◌++◌, length, map, take, drop, zero, suc, Option, Some, None, slice_index, slice_set, All}
+use Rattle.std.specs.Prelude.{ℕ, ◌≡◌, ◌<◌, ◌+◌, true, cond, List, [], ◌∷◌, ◌++◌, length, map, take, drop, zero, suc, Option, Some, None, slice_index}
 use Rattle.std.specs.Prelude.{ltb}
 use Rattle.prop.specs.declared.Lit.{Lit}
-use Rattle.prop.specs.Logic.{positive_of, LitsBelow}
+use Rattle.prop.specs.Logic.{positive_of}
 use Rattle.bit_gates.specs.declared.netlist.Def.{Def}
 use Rattle.bit_gates.specs.declared.netlist.Def.TheVariants.{Fixed}
-use Rattle.bit_gates.specs.Net.{net_clauses}
 use Rattle.bit_words.specs.Folding.{folded_made}
 use Rattle.bit_words.specs.Words.{spelled_of}
-use Rattle.bit_words.specs.Elements.{decoded, stored, Stored, AllLong}
+use Rattle.bit_words.specs.Elements.{decoded, stored, Stored}
 use Rattle.bv_term.specs.WellFormed.{Table, widths}
 use Rattle.bit_blast.specs.Done.{Known, lits_of, is_done}
 use Rattle.bit_blast.specs.Cone.{cone_of}
-use Rattle.bit_blast.specs.Emission.{emitted, cell_at}
+use Rattle.bit_blast.specs.Emission.{emitted}
 
 -- the next variable, the constant literal, the literals of the cells, and the terms that count as done
 pub record Held : Type 0 where

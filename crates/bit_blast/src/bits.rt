@@ -44,7 +44,11 @@ fn past(next: u64, var: u32) -> u64
     ensures value { result ≡ (if nat_lt var next then next else var + 1) }
     ensures within { result ≤ 4294967296 }
 {
-    if (var as u64) < next { next } else { var as u64 + 1 }
+    if (var as u64) < next {
+        next
+    } else {
+        var as u64 + 1
+    }
 }
 
 // The first variable above those of a clause and `next`.
@@ -237,7 +241,12 @@ impl Bits {
 
     /// Gives a cell these literals from now on. No term counts as done any more; the step's constant literal stays. It adds
     /// no clause and does not fail.
-    pub fn rebind(&mut self, clauses: &mut Clauses, cell: u32, to: Vec<Lit>) -> Result<(), BlastFail>
+    pub fn rebind(
+        &mut self,
+        clauses: &mut Clauses,
+        cell: u32,
+        to: Vec<Lit>,
+    ) -> Result<(), BlastFail>
         requires cell { cell < length self.old.cells }
         requires width { length to.items ≡ length (cell_at self.old.cells cell) }
         ensures clauses { clauses.new ≡ clauses.old }
@@ -289,7 +298,18 @@ impl Bits {
         };
         self.one = Some(one);
         self.done.clear();
-        if put_store(alloc, &mut net, one, &mut self.cells, first as usize, count as usize, index, value).is_err() {
+        if put_store(
+            alloc,
+            &mut net,
+            one,
+            &mut self.cells,
+            first as usize,
+            count as usize,
+            index,
+            value,
+        )
+        .is_err()
+        {
             return Err(BlastFail::Memory);
         }
         close(clauses, &mut self.next, &net)
@@ -314,7 +334,17 @@ pub fn blast_all(
     ensures width { IfOk result (λ r. length r.items ≡ slice_index (widths terms.now) term.0) }
 {
     let mut net = Net::new(alloc, bits.next);
-    if put_blast(alloc, &mut net, &mut bits.one, &bits.cells, &mut bits.done, terms, term.0).is_err() {
+    if put_blast(
+        alloc,
+        &mut net,
+        &mut bits.one,
+        &bits.cells,
+        &mut bits.done,
+        terms,
+        term.0,
+    )
+    .is_err()
+    {
         return Err(BlastFail::Memory);
     }
     let outs = match Vec::from_slice(alloc, bits.done.lits(term.0)) {

@@ -98,12 +98,7 @@ fn push_term(found: &mut Vec<u32>, term: u32) -> Result<(), NoRoom>
 
 /// The terms below a term, itself included, that are not done, each once, from the highest number down. It takes time in
 /// proportion to these terms, times the logarithm of how many of them are pending at once.
-pub fn cone(
-    alloc: Global,
-    terms: &Terms,
-    done: &DoneTerms,
-    term: u32,
-) -> Result<Vec<u32>, NoRoom>
+pub fn cone(alloc: Global, terms: &Terms, done: &DoneTerms, term: u32) -> Result<Vec<u32>, NoRoom>
     requires { term < length terms.now.terms }
     ensures { IfOk result (λ r. r.items ≡ cone_of terms.now.terms done.now term) }
 {

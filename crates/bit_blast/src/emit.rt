@@ -9,8 +9,9 @@ ghost use Rattle.bit_blast.specs.Emission.{cell_at, no_cell, element_of, emissio
 
 use crate::done::DoneTerms;
 use crate::gates::{
-    extend, fold_ands, fold_choice, fold_difference, fold_equal, fold_less, fold_ors, fold_product,
-    fold_quotient, fold_remainder, fold_left, fold_right, fold_arithmetic, fold_sum, fold_xors,
+    extend, fold_ands, fold_arithmetic, fold_choice, fold_difference, fold_equal, fold_left,
+    fold_less, fold_ors, fold_product, fold_quotient, fold_remainder, fold_right, fold_sum,
+    fold_xors,
 };
 use bit_gates::{Net, NoRoom, negate_all};
 use bit_words::{copies, fold, numeral, put_decoded, put_picked, spelled};
@@ -166,7 +167,15 @@ pub fn put_term(
         Term::Constant(w, v) => numeral(alloc, one, w, v),
         Term::Cell(c) => cell_copy(alloc, cells, c as usize),
         Term::Element(first, m, i) => {
-            put_at(alloc, net, one, cells, first as usize, m as usize, done.lits(i.0))
+            put_at(
+                alloc,
+                net,
+                one,
+                cells,
+                first as usize,
+                m as usize,
+                done.lits(i.0),
+            )
         }
         Term::Add(i, j) => fold_sum(alloc, net, one, done.lits(i.0), done.lits(j.0)),
         Term::Subtract(i, j) => fold_difference(alloc, net, one, done.lits(i.0), done.lits(j.0)),

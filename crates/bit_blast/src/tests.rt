@@ -127,7 +127,11 @@ fn expect_value(
     push_bits(&mut values, width, store[1])?;
     push_bits(&mut values, 1, store[2])?;
     propagate(rt, clauses, &mut values)?;
-    assert_eq!(rt; Some(number(&values, lits)), wanted, "{store:?} at width {width}");
+    assert_eq!(rt;
+        Some(number(&values, lits)),
+        wanted,
+        "{store:?} at width {width}"
+    );
     Ok(())
 }
 
@@ -223,7 +227,10 @@ fn a_shared_term_adds_its_clauses_once(rt: HostRuntime) -> Result<(), Fail> {
         both = put(&rt, &mut terms, Term::Xor(both, product))?;
     }
     let users = literals_after(&rt, alloc, &terms, both, 1)?;
-    assert!(&rt; users <= once.wrapping_add(96_000), "the shared term was added again");
+    assert!(&rt;
+        users <= once.wrapping_add(96_000),
+        "the shared term was added again"
+    );
     Ok(())
 }
 

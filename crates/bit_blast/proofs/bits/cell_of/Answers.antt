@@ -1,4 +1,4 @@
-use Rattle.std.proofs.Common.{◌≡◌, ◌∙◌}
+use Rattle.std.proofs.Common.{◌∙◌}
 use Rattle.bit_blast.proofs.Steps.{cell-map, cell-past}
 use Rattle.bit_blast.proofs.bits.cell_of.Goals as goal
 

@@ -1,4 +1,3 @@
-use Rattle.std.proofs.Common.{◌≡◌}
 use Rattle.bit_blast.specs.Held.{fresh_lits}
 use Rattle.bit_blast.proofs.Steps.{fresh_more}
 use Rattle.bit_blast.proofs.bits.new_lits.Goals as goal

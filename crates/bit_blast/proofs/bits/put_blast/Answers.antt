@@ -1,4 +1,4 @@
-use Rattle.std.proofs.Common.{rules, ◌≡◌, ◌∙◌, map, ap, List, ℕ}
+use Rattle.std.proofs.Common.{◌≡◌, ◌∙◌, map, ap, List, ℕ}
 use Rattle.bit_blast.specs.Cone.{cone_of}
 use Rattle.bit_blast.specs.Emission.{emitted}
 use Rattle.bit_blast.proofs.Cones.{cone-there, cone-ready, blast-over}
@@ -19,7 +19,7 @@ returns-clause-over c =
     let cells = map (λ c. c.items) c.args.cells.now in
     let f : c.deref.result.now ≡ cone_of c.args.terms.now.terms c.args.done.now c.args.term = c.deref.ensures.value ∙ c.in_ok-found.ensures in
     let e = c.in_ok-put_terms.ensures.grew.1
-        ∙ ap (λ (t : List ℕ). (emitted c.in_ok-lit.lit cells c.args.terms.now.terms c.put_one.new.net.next c.args.done.now t).done) f in
+    ∙ ap (λ (t : List ℕ). (emitted c.in_ok-lit.lit cells c.args.terms.now.terms c.put_one.new.net.next c.args.done.now t).done) f in
     (blast-over c.args.terms.now c.in_ok-lit.lit cells c.put_one.new.net.next c.args.net.now.next c.args.one.now _ c.args.done.now c.put_terms.new.done c.args.term
     c.count-all.ensures.table c.requires.over c.requires.there e c.put_terms.new.net.next).0
 
@@ -28,6 +28,6 @@ returns-clause-done c =
     let cells = map (λ c. c.items) c.args.cells.now in
     let f : c.deref.result.now ≡ cone_of c.args.terms.now.terms c.args.done.now c.args.term = c.deref.ensures.value ∙ c.in_ok-found.ensures in
     let e = c.in_ok-put_terms.ensures.grew.1
-        ∙ ap (λ (t : List ℕ). (emitted c.in_ok-lit.lit cells c.args.terms.now.terms c.put_one.new.net.next c.args.done.now t).done) f in
+    ∙ ap (λ (t : List ℕ). (emitted c.in_ok-lit.lit cells c.args.terms.now.terms c.put_one.new.net.next c.args.done.now t).done) f in
     (blast-over c.args.terms.now c.in_ok-lit.lit cells c.put_one.new.net.next c.args.net.now.next c.args.one.now c.args.one.now c.args.done.now c.put_terms.new.done c.args.term
     c.count-all.ensures.table c.requires.over c.requires.there e c.put_terms.new.net.next).1

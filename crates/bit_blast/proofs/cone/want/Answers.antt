@@ -1,7 +1,7 @@
-use Rattle.std.proofs.Common.{◌≡◌, sym, ◌∙◌}
+use Rattle.std.proofs.Common.{sym, ◌∙◌}
 use Rattle.std.specs.BinaryHeap.{heap_items}
 use Rattle.bit_blast.specs.Done.{is_done}
-use Rattle.bit_blast.proofs.ConeLemmas.{wanted-done, wanted-push}
+use Rattle.bit_blast.proofs.ConeLemmas.{wanted-push}
 use Rattle.bit_blast.proofs.cone.want.Goals as goal
 
 pub returns-in-Ok-clause-wanted : goal.returns-in-Ok-clause-wanted

@@ -1,4 +1,4 @@
-use Rattle.std.proofs.Common.{rules, ◌≡◌, ◌<◌, length, map, arith, refl, sym, subst, List}
+use Rattle.std.proofs.Common.{rules, ◌≡◌, ◌<◌, length, map, refl, sym, subst, List}
 use Rattle.bit_blast.specs.declared.done.Done.{Done}
 use Rattle.bit_blast.specs.Done.{Placed}
 use Rattle.bit_blast.specs.Places.{known}

@@ -1,4 +1,4 @@
-use Rattle.std.proofs.Common.{◌≡◌, false}
+use Rattle.std.proofs.Common.{false}
 use Rattle.bit_words.proofs.WordPuts.{standing-at}
 use Rattle.bit_blast.proofs.emit.bit_of.Goals as goal
 

@@ -1,6 +1,5 @@
-use Rattle.std.proofs.Common.{◌≡◌, ◌∙◌, ap, subst, List, map, IfOk}
+use Rattle.std.proofs.Common.{◌≡◌, ◌∙◌, subst, List, IfOk}
 use Rattle.prop.specs.declared.Lit.{Lit}
-use Rattle.bit_blast.specs.Emission.{cell_at}
 use Rattle.bit_blast.proofs.Steps.{cell-map}
 use Rattle.bit_blast.proofs.emit.cell_copy.Goals as goal
 

@@ -1,4 +1,4 @@
-use Rattle.std.proofs.Common.{◌≡◌, ℕ, ◌+◌, ◌-◌, length, map, take, drop, List, arith, sym, refl, subst}
+use Rattle.std.proofs.Common.{◌≡◌, ◌+◌, ◌-◌, length, List, arith, sym, refl, subst}
 use Rattle.prop.specs.declared.Lit.{Lit}
 use Rattle.bit_gates.specs.Cut.{Grew}
 use Rattle.bit_words.specs.Elements.{AllLong}
@@ -18,5 +18,5 @@ returns-clause-grew c =
     let k : c.args.first + c.args.m - c.args.first ≡ c.args.m = omega arith in
     let e = range-map (λ c. c.items) c.args.cells.now _ c.args.first c.args.m (c.args.first + c.args.m - c.args.first) refl k in
     let P : List (List Lit) → Type 0 = λ t. let m = element_of c.args.one c.args.net.now.next t c.args.index.now (spelled_of c.args.one c.args.index.now) in
-        Grew c.args.net.now.next c.args.net.now.defs.items c.put_element.new.net.next c.put_element.new.net.defs.items m.defs × (c.in_ok-out.out.items ≡ m.outs) in
+    Grew c.args.net.now.next c.args.net.now.defs.items c.put_element.new.net.next c.put_element.new.net.defs.items m.defs × (c.in_ok-out.out.items ≡ m.outs) in
     subst P e c.in_ok-out.ensures.grew

@@ -1,7 +1,7 @@
-use Rattle.std.proofs.Common.{rules, ◌≡◌, ◌≤◌, ◌+◌, length, map, ℕ, List, arith, ap, sym, ◌∙◌, subst}
+use Rattle.std.proofs.Common.{◌≡◌, length, map, ℕ, arith, ap, sym, ◌∙◌, subst}
 use Rattle.prop.specs.Logic.{negated}
 use Rattle.bit_words.specs.Elements.{decoded, AllLong}
-use Rattle.bit_blast.specs.Emission.{cell_at, no_cell}
+use Rattle.bit_blast.specs.Emission.{cell_at}
 use Rattle.bit_blast.proofs.Lengths.{folded-outs, decoded-length, copies-length}
 use Rattle.bit_blast.proofs.emit.put_choice.Goals as goal
 

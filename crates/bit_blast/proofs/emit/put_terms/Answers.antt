@@ -1,4 +1,4 @@
-use Rattle.std.proofs.Common.{rules, ◌≡◌, ℕ, ◌+◌, ◌-◌, ◌≤◌, length, map, drop, get_or, arith, refl, sym}
+use Rattle.std.proofs.Common.{rules, ◌≡◌, ◌+◌, ◌-◌, map, get_or, arith, refl}
 use Rattle.bit_blast.proofs.Steps.{turn-ready, turn-put}
 use Rattle.bit_blast.proofs.emit.put_terms.Goals as goal
 

@@ -1,4 +1,4 @@
-use Rattle.std.proofs.Common.{◌≡◌, false, sym}
+use Rattle.std.proofs.Common.{false, sym}
 use Rattle.bit_gates.proofs.Puts.{top_of-last}
 use Rattle.bit_blast.proofs.emit.top.Goals as goal
 

@@ -1,4 +1,3 @@
-use Rattle.std.proofs.Common.{◌≡◌}
 use Rattle.bit_blast.proofs.Steps.{placed-map}
 use Rattle.bit_blast.proofs.store.place.Goals as goal
 

@@ -1,4 +1,4 @@
-use Rattle.std.proofs.Common.{rules, ◌≡◌, ◌≤◌, ◌+◌, length, map, ℕ, List, arith, ap, sym, ◌∙◌}
+use Rattle.std.proofs.Common.{◌≡◌, length, map, arith, ap, ◌∙◌}
 use Rattle.bit_words.specs.Elements.{decoded, stored}
 use Rattle.bit_words.proofs.WordPuts.{map-length}
 use Rattle.bit_blast.proofs.Lengths.{folded-outs, decoded-length}

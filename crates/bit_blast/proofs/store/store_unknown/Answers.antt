@@ -1,4 +1,4 @@
-use Rattle.std.proofs.Common.{◌≡◌, ℕ, ◌+◌, ◌-◌, length, map, take, drop, List, arith, sym, refl, ap, ◌∙◌, subst}
+use Rattle.std.proofs.Common.{◌≡◌, ◌+◌, ◌-◌, length, map, take, drop, List, arith, sym, ap, ◌∙◌, subst}
 use Rattle.prop.specs.declared.Lit.{Lit}
 use Rattle.bit_gates.specs.Cut.{Grew}
 use Rattle.bit_words.specs.Elements.{AllLong}
@@ -18,8 +18,9 @@ returns-clause-grew c =
     let k : c.args.first + c.args.count - c.args.first ≡ c.args.count = omega arith in
     let e = range-map (λ c. c.items) c.args.cells.now.items (take (c.args.first + c.args.count - c.args.first) (drop c.args.first c.deref.result.now)) c.args.first c.args.count
     (c.args.first + c.args.count - c.args.first) (ap (λ t. take (c.args.first + c.args.count - c.args.first) (drop c.args.first t)) c.deref.ensures.value) k in
-    let g = c.in_ok-news.ensures.grew in
-    (subst (λ (t : List (List Lit)). Grew c.args.net.now.next c.args.net.now.defs.items c.put_store_open.new.net.next c.put_store_open.new.net.defs.items
-      (store_open c.args.one c.args.net.now.next t c.args.index.now c.args.value.now).defs) e g.0,
+    let g = c.in_ok-news.ensures.grew in (
+      subst (λ (t : List (List Lit)). Grew c.args.net.now.next c.args.net.now.defs.items c.put_store_open.new.net.next c.put_store_open.new.net.defs.items
+          (store_open c.args.one c.args.net.now.next t c.args.index.now c.args.value.now).defs) e g.0,
       c.replace.ensures ∙ ap (λ (t : List (List Lit)). replaced (map (λ c. c.items) c.args.cells.now.items) c.args.first t)
-      (g.1 ∙ ap (λ (t : List (List Lit)). (store_open c.args.one c.args.net.now.next t c.args.index.now c.args.value.now).cells) e))
+          (g.1 ∙ ap (λ (t : List (List Lit)). (store_open c.args.one c.args.net.now.next t c.args.index.now c.args.value.now).cells) e),
+    )

@@ -2,4 +2,4 @@ use Rattle.bit_blast.specs.Held.{IsOver}
 use Rattle.bit_blast.proofs.tests.literals_after.Given as goal
 
 abbrev pub invariant-loop-i : goal.invariant-loop-i
-invariant-loop-i l = IsOver l.terms l.bits
+invariant-loop-i g l = IsOver l.terms l.bits

@@ -1,4 +1,4 @@
-use Rattle.std.proofs.Common.{◌≡◌, List, ap, map, length, sym, ◌∙◌}
+use Rattle.std.proofs.Common.{List, ap, map, length, sym, ◌∙◌}
 use Rattle.prop.specs.declared.Lit.{Lit}
 use Rattle.std.specs.Prelude.{None}
 use Rattle.bit_blast.proofs.Over.{over-from, fresh-widths}

@@ -1,4 +1,4 @@
-use Rattle.std.proofs.Common.{◌≡◌, sym}
+use Rattle.std.proofs.Common.{sym}
 use Rattle.bit_blast.proofs.DoneLemmas.{has-found, look-none}
 use Rattle.bit_blast.proofs.done.DoneTerms.has.Goals as goal
 

@@ -1,4 +1,4 @@
-use Rattle.std.proofs.Common.{◌≡◌, ap, sym, ◌∙◌}
+use Rattle.std.proofs.Common.{ap, sym, ◌∙◌}
 use Rattle.bit_blast.specs.declared.done.Done.{Done}
 use Rattle.bit_blast.proofs.DoneLemmas.{look-found, look-none}
 use Rattle.bit_blast.proofs.done.DoneTerms.lits.Goals as goal
