@@ -1,8 +1,8 @@
 -- Chains of edges as they are linked from the last edge to the first, and as they are followed.
-use Rattle.std.proofs.Common.{◌≡◌, ◌≢◌, ℕ, ◌+◌, ◌-◌, ◌<◌, ◌≤◌, Bool, true, false, cond, List, [], ◌∷◌, ◌++◌, length, drop, get_or, set, replicate, slice_get, Some, inl, inr, ◌⊎◌, refl, sym, ap, ◌∙◌, subst, arith, zero, suc, nat_eq, eq-eqb, zero-add, nat_lt, append_assoc, if◌then◌else◌}
+use Rattle.std.proofs.Common.{◌≡◌, ◌≢◌, ℕ, ◌+◌, ◌-◌, ◌<◌, ◌≤◌, Bool, true, false, List, [], ◌∷◌, ◌++◌, length, drop, get_or, set, replicate, inl, inr, ◌⊎◌, refl, sym, ap, ◌∙◌, subst, arith, zero, suc, nat_eq, eq-eqb, zero-add, nat_lt, append_assoc, if◌then◌else◌}
 use Rattle.std.specs.List.{All}
-use Rattle.std.proofs.lemmas.List.{length-set, get_or-set_same, get_or-set_other, drop_all, append-nil, length-replicate, get_or-replicate}
-use Rattle.std.proofs.lemmas.Bool.{ltb-true, lt-ltb, cases_lt, cases_eq, eqb-true, ne_eqb}
+use Rattle.std.proofs.lemmas.List.{length-set, get_or-set_same, get_or-set_other, drop_all, length-replicate, get_or-replicate}
+use Rattle.std.proofs.lemmas.Bool.{ltb-true, lt-ltb, cases_lt, cases_eq, ne_eqb}
 use Rattle.std.proofs.lemmas.Grind.{get_or_default_zero}
 use Rattle.c_graph.specs.declared.graph.EdgeId.{EdgeId}
 use Rattle.c_graph.specs.declared.graph.Node.{Node}

@@ -1,23 +1,20 @@
 -- Edges lead from stores to stores, and what an inductive map says along a run.
-use Rattle.std.proofs.Common.{◌≡◌, ℕ, ◌+◌, ◌-◌, ◌%◌, ◌^◌, ◌<◌, ◌≤◌, ◌≢◌, length, List, [], ◌∷◌, ◌++◌, arith, ap, sym, ◌∙◌, refl, suc, zero, subst, slice_index, slice_index_or, slice_set, All, Bool, true, false, Option, Some, None, slice_get, nat_lt, nat_eq, ◌==◌, if◌then◌else◌, ℤ, pos, negsuc, rules}
+use Rattle.std.proofs.Common.{◌≡◌, ℕ, ◌+◌, ◌^◌, ◌<◌, ◌≢◌, length, List, [], ◌∷◌, arith, sym, ◌∙◌, refl, suc, zero, subst, slice_index, slice_index_or, slice_set, All, Bool, true, false, Option, Some, None, slice_get, nat_lt, nat_eq, ◌==◌, if◌then◌else◌, ℤ, pos, negsuc, rules}
 use Rattle.std.proofs.Math.Nat.{mod-lt}
 use Rattle.std.proofs.lemmas.Nat.{pow_pos}
 use Rattle.std.proofs.lemmas.List.{get_or-set_same, get_or-set_other, length-set}
-use Rattle.lv_base.specs.declared.fault.ErrorKind.{ErrorKind}
 use Rattle.bv_term.specs.declared.term.TermId.{TermId}
 use Rattle.bv_term.specs.WellFormed.{Table, IsTable, widths, IsArray}
-use Rattle.bv_term.specs.Values.{value, IsStore}
+use Rattle.bv_term.specs.Values.{value}
 use Rattle.bv_term.proofs.Staying.{values_fit}
 use Rattle.c_graph.specs.declared.graph.NodeId.{NodeId}
 use Rattle.c_graph.specs.declared.graph.EdgeId.{EdgeId}
-use Rattle.c_graph.specs.declared.graph.Node.{Node}
-use Rattle.c_graph.specs.declared.graph.Node.TheVariants.{Plain, Error}
 use Rattle.c_graph.specs.declared.graph.Operation.{Operation}
 use Rattle.c_graph.specs.declared.graph.Operation.TheVariants.{Assume, Set, SetAt, Draw}
 use Rattle.c_graph.specs.declared.graph.Edge.{Edge}
 use Rattle.c_graph.specs.Shape.{Flow, IsFlow, EdgeFits, OperationFits, widths_of}
 use Rattle.c_graph.specs.Steps.{IsWhole, Moment, moment, modulo, in_range_of, drawn, stored_at, operated, operated_all, Leads}
-use Rattle.c_graph.specs.Runs.{RunsAlong, RunsTo, Formulas, IsMapOf, HoldsAt, IsInductive, InductiveMeansSafe}
+use Rattle.c_graph.specs.Runs.{RunsAlong, Formulas, HoldsAt, IsInductive, InductiveMeansSafe}
 
 -- a value that fits may be stored in a cell
 set-whole : (ws s : List ℕ) (c v : ℕ) → IsWhole ws s → v < 2 ^ slice_index ws c → IsWhole ws (slice_set s c v)

@@ -1,5 +1,5 @@
 -- The values of a store that keeps some cells.
-use Rattle.std.proofs.Common.{◌≡◌, ℕ, ◌+◌, ◌-◌, ◌<◌, ◌≤◌, length, List, [], ◌∷◌, ◌++◌, arith, ap, sym, ◌∙◌, refl, suc, zero, subst, slice_index, append_assoc}
+use Rattle.std.proofs.Common.{◌≡◌, ℕ, ◌+◌, ◌-◌, ◌<◌, length, List, [], ◌∷◌, ◌++◌, arith, ap, sym, ◌∙◌, refl, suc, zero, subst, slice_index, append_assoc}
 use Rattle.c_graph.specs.declared.store.Named.{Named}
 use Rattle.c_graph.specs.Stores.{kept_for, values_from}
 

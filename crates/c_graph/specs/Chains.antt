@@ -1,5 +1,5 @@
 -- The edges that lead from each node, as chains of numbers, so that they are found without looking at any other edge.
-use Rattle.std.specs.Prelude.{ℕ, ◌+◌, ◌<◌, ◌≤◌, ◌≡◌, List, [], ◌∷◌, zero, suc, length, drop, nat_lt, slice_index, if◌then◌else◌}
+use Rattle.std.specs.Prelude.{ℕ, ◌<◌, ◌≤◌, ◌≡◌, List, [], ◌∷◌, zero, suc, length, drop, nat_lt, slice_index, if◌then◌else◌}
 use Rattle.c_graph.specs.declared.graph.EdgeId.{EdgeId}
 use Rattle.c_graph.specs.declared.graph.Node.{Node}
 use Rattle.c_graph.specs.declared.graph.Edge.{Edge}

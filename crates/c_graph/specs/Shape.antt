@@ -1,7 +1,7 @@
 -- Graphs, and the facts that each keeps.
-use Rattle.std.specs.Prelude.{ℕ, ◌+◌, ◌<◌, ◌≤◌, ◌≡◌, ◌==◌, ◌||◌, ◌⊎◌, Bool, false, IsTrue, List, [], ◌∷◌, length, map, All, Some, slice_get, slice_index, if◌then◌else◌}
+use Rattle.std.specs.Prelude.{ℕ, ◌+◌, ◌<◌, ◌≤◌, ◌≡◌, ◌==◌, ◌||◌, Bool, false, IsTrue, List, [], ◌∷◌, length, All, Some, slice_get, slice_index, if◌then◌else◌}
 use Rattle.bv_term.specs.declared.term.TermId.{TermId}
-use Rattle.bv_term.specs.WellFormed.{Table, IsTable, IsArray, IsWidth, widths}
+use Rattle.bv_term.specs.WellFormed.{Table, IsTable, IsArray, widths}
 use Rattle.c_graph.specs.declared.graph.NodeId.{NodeId}
 use Rattle.c_graph.specs.declared.graph.EdgeId.{EdgeId}
 use Rattle.c_graph.specs.declared.graph.Node.{Node}

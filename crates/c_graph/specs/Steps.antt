@@ -1,10 +1,7 @@
 -- What operations and edges do to a store, with the values that they draw.
-use Rattle.std.specs.Prelude.{ℕ, ℤ, pos, negsuc, ◌+◌, ◌-◌, ◌%◌, ◌^◌, ◌<◌, ◌≤◌, ◌≡◌, ◌==◌, Bool, true, false, List, [], ◌∷◌, length, slice_index, slice_set, nat_lt, Option, None, Some, if◌then◌else◌}
-use Rattle.bv_term.specs.declared.term.TermId.{TermId}
+use Rattle.std.specs.Prelude.{ℕ, ℤ, pos, negsuc, ◌+◌, ◌-◌, ◌%◌, ◌^◌, ◌≡◌, ◌==◌, Bool, true, false, List, [], ◌∷◌, length, slice_index, slice_set, nat_lt, Option, None, Some, if◌then◌else◌}
 use Rattle.bv_term.specs.WellFormed.{Table}
 use Rattle.bv_term.specs.Values.{value, IsStore}
-use Rattle.c_graph.specs.declared.graph.NodeId.{NodeId}
-use Rattle.c_graph.specs.declared.graph.EdgeId.{EdgeId}
 use Rattle.c_graph.specs.declared.graph.Operation.{Operation}
 use Rattle.c_graph.specs.declared.graph.Operation.TheVariants.{Assume, Set, SetAt, Draw}
 use Rattle.c_graph.specs.declared.graph.Edge.{Edge}

@@ -1,5 +1,5 @@
 -- What a climb from a vertex to the root has seen.
-use Rattle.std.proofs.Common.{◌≡◌, ℕ, ◌+◌, ◌-◌, ◌<◌, ◌≤◌, length, List, [], ◌∷◌, arith, ap, sym, ◌∙◌, refl, suc, zero, subst, Bool, true, false, ◌||◌, Option, Some, None}
+use Rattle.std.proofs.Common.{◌≡◌, ℕ, ◌-◌, ◌<◌, List, [], arith, ap, sym, ◌∙◌, refl, suc, zero, Bool, true, false, ◌||◌, Option, Some, None}
 use Rattle.reach_tree.specs.declared.vertex.VertexId.{VertexId}
 use Rattle.reach_tree.specs.declared.vertex.Vertex.{Vertex}
 use Rattle.reach_tree.specs.Trees.{vertex_at}

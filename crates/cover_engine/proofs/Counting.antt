@@ -1,13 +1,12 @@
 -- How many left sides stand on each path, and how that changes with pairs and vertices.
-use Rattle.std.proofs.Common.{◌≡◌, ◌≢◌, ℕ, ◌+◌, ◌-◌, ◌<◌, ◌≤◌, Bool, true, false, List, [], ◌∷◌, ◌++◌, length, Option, Some, None, ◌⊎◌, inl, inr, refl, sym, ap, ◌∙◌, subst, arith, zero, suc, get_or, nat_eq, nat_lt, eq-eqb, ◌||◌, append_assoc, if◌then◌else◌}
+use Rattle.std.proofs.Common.{◌≡◌, ℕ, ◌+◌, ◌<◌, ◌≤◌, Bool, true, false, List, [], ◌∷◌, ◌++◌, length, Option, inl, inr, refl, sym, ap, ◌∙◌, subst, arith, zero, suc, get_or, nat_eq, nat_lt, eq-eqb, ◌||◌, if◌then◌else◌}
 use Rattle.std.specs.List.{All}
-use Rattle.std.proofs.lemmas.Bool.{eqb-true, ne_eqb, cases_Bool, cases_eq, cases_lt, or_cases, lt-ltb, le-ltb}
+use Rattle.std.proofs.lemmas.Bool.{ne_eqb, cases_eq, lt-ltb}
 use Rattle.reach_tree.specs.declared.vertex.VertexId.{VertexId}
 use Rattle.reach_tree.specs.declared.vertex.Vertex.{Vertex}
-use Rattle.reach_tree.specs.Trees.{vertex_at}
 use Rattle.cover_engine.specs.Unwindings.{Pair, any_of, has, is_left, path_of, path_up}
 use Rattle.cover_engine.specs.Units.{pairs_but_under, pairs_but_onto}
-use Rattle.cover_engine.specs.Caches.{AreCovers, AreInside, IsFamily, SameShape, above, below, below_lefts, bit, children_at, covers, pairs_onto, pairs_under, parent_is, spread, times, vertex_numbers}
+use Rattle.cover_engine.specs.Caches.{AreCovers, AreInside, IsFamily, SameShape, above, below, below_lefts, bit, children_at, covers, pairs_onto, pairs_under, parent_is, times, vertex_numbers}
 use Rattle.cover_engine.proofs.Subtrees.{all_append, below_inside, below_times, bit_small, parent_cases, path_none, path_some}
 
 -- covered vertices are those with a count

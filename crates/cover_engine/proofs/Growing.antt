@@ -1,7 +1,7 @@
 -- A tree that got children, and what is kept of it.
-use Rattle.std.proofs.Common.{◌≡◌, ◌≢◌, ℕ, ◌+◌, ◌-◌, ◌<◌, ◌≤◌, Bool, true, false, List, [], ◌∷◌, ◌++◌, length, Option, Some, None, ◌⊎◌, inl, inr, refl, sym, ap, ◌∙◌, subst, arith, zero, suc, get_or, replicate, nat_eq, eq-eqb, ◌||◌, length-append}
+use Rattle.std.proofs.Common.{◌≡◌, ◌≢◌, ℕ, ◌+◌, ◌-◌, ◌<◌, ◌≤◌, false, List, [], ◌∷◌, ◌++◌, length, Option, Some, None, inl, inr, refl, sym, ap, ◌∙◌, subst, arith, zero, suc, get_or, replicate, nat_eq, eq-eqb, length-append}
 use Rattle.std.specs.List.{All}
-use Rattle.std.proofs.lemmas.Bool.{eqb-true, ne_eqb, cases_Bool, cases_eq, cases_lt, or_cases}
+use Rattle.std.proofs.lemmas.Bool.{ne_eqb, cases_eq, cases_lt}
 use Rattle.std.proofs.lemmas.List.{length-set, get_or-set_same, get_or-set_other, get_or_append_left, get_or-append-add, length-replicate, get_or-replicate}
 use Rattle.std.proofs.Math.ListN.{get_or-eq_default}
 use Rattle.c_graph.specs.declared.graph.EdgeId.{EdgeId}
@@ -9,10 +9,10 @@ use Rattle.c_graph.specs.declared.graph.Edge.{Edge}
 use Rattle.c_graph.specs.Shape.{Flow, outs}
 use Rattle.reach_tree.specs.declared.vertex.VertexId.{VertexId}
 use Rattle.reach_tree.specs.declared.vertex.Vertex.{Vertex}
-use Rattle.reach_tree.specs.Trees.{vertex_at, changed, expanded, fresh, leaves_of, numbers_from, root_at, target_of, with_children}
+use Rattle.reach_tree.specs.Trees.{vertex_at, changed, expanded, leaves_of, numbers_from, root_at, with_children}
 use Rattle.cover_engine.specs.Unwindings.{Pair, has, path_up}
 use Rattle.cover_engine.specs.Caches.{AreCovers, AreInside, IsFamily, above, bit, children_at, covers, parent_is, times, vertex_numbers}
-use Rattle.cover_engine.proofs.Subtrees.{has_inside, parent_cases, path_enough, path_none, path_some}
+use Rattle.cover_engine.proofs.Subtrees.{parent_cases, path_enough, path_none, path_some}
 
 -- a tree with k more vertices, the children of v
 pub record Grown (vs ws : List Vertex) (v : VertexId) (k : ℕ) : Type 0 where

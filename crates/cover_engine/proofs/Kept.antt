@@ -1,27 +1,26 @@
 -- What an unwinding keeps, through each unit.
-use Rattle.std.proofs.Common.{◌≡◌, ◌≢◌, ℕ, ◌+◌, ◌-◌, ◌^◌, ◌<◌, ◌≤◌, Bool, true, false, cond, List, [], ◌∷◌, ◌++◌, length, Option, Some, None, ◌⊎◌, inl, inr, refl, sym, ap, ◌∙◌, subst, arith, zero, suc, get_or, set, replicate, nat_eq, eq-eqb, ◌||◌, ◌&&◌, length-append}
+use Rattle.std.proofs.Common.{◌≡◌, ℕ, ◌+◌, ◌<◌, ◌≤◌, Bool, true, false, cond, List, [], ◌∷◌, ◌++◌, length, Option, Some, None, inl, inr, refl, sym, ap, ◌∙◌, subst, arith, suc, get_or, replicate, nat_eq, eq-eqb, ◌||◌, ◌&&◌, length-append}
 use Rattle.std.specs.List.{All}
 use Rattle.std.specs.HashMap.{get, HashMap, Updates}
 use Rattle.std.specs.declared.hash.FoldHasher.{FoldHasher}
 use Rattle.std.specs.declared.hash.BuildHasherDefault.{BuildHasherDefault}
-use Rattle.std.proofs.lemmas.Bool.{cases_Bool, cases_eq, and_parts, eqb-true}
+use Rattle.std.proofs.lemmas.Bool.{cases_Bool, and_parts, eqb-true}
 use Rattle.std.proofs.lemmas.List.Elements.{All-push}
 use Rattle.bv_term.specs.declared.term.TermId.{TermId}
 use Rattle.bv_term.specs.WellFormed.{Table}
 use Rattle.c_graph.specs.Shape.{Flow, outs}
 use Rattle.reach_tree.specs.declared.vertex.VertexId.{VertexId}
 use Rattle.reach_tree.specs.declared.vertex.Vertex.{Vertex}
-use Rattle.reach_tree.specs.Trees.{expanded, root_at, vertex_at}
-use Rattle.c_graph.specs.declared.graph.NodeId.{NodeId}
+use Rattle.reach_tree.specs.Trees.{expanded, vertex_at}
 use Rattle.cover_engine.specs.declared.unit.Apart.{Apart}
 use Rattle.cover_engine.specs.declared.unit.UnitDone.{UnitDone}
 use Rattle.cover_engine.specs.declared.unit.UnitDone.TheVariants.{Expand, Refine, CoverYes, CoverNo}
 use Rattle.cover_engine.specs.declared.settling.Sides.{Sides}
 use Rattle.cover_engine.specs.declared.settling.Settling.{Settling}
-use Rattle.cover_engine.specs.Unwindings.{Pair, has, path_of, path_up, same, yes_since}
+use Rattle.cover_engine.specs.Unwindings.{Pair, path_of, same}
 use Rattle.cover_engine.specs.Units.{apart_now, pairs_but_onto, pairs_but_under, refined_along, strengthened_along}
-use Rattle.cover_engine.specs.Caches.{AreCovers, AreInside, IsFamily, SameShape, below, below_lefts, bit, children_at, covers, pairs_onto, pairs_under, times}
-use Rattle.cover_engine.specs.Settlings.{AreSettlings, AtMost, IsPast, Rising, apart_of, covered_at, covered_of, is_at, is_of, last_apart, parted_at, refines_in, same_sides, sides, version_at, versions_of, was_covered}
+use Rattle.cover_engine.specs.Caches.{AreCovers, AreInside, SameShape, below, below_lefts, covers, pairs_onto, pairs_under, times}
+use Rattle.cover_engine.specs.Settlings.{AreSettlings, AtMost, IsPast, apart_of, covered_at, covered_of, is_at, is_of, last_apart, parted_at, same_sides, sides, version_at, versions_of, was_covered}
 use Rattle.cover_engine.specs.Keeping.{IsKept}
 use Rattle.cover_engine.proofs.Counting.{all_but_onto, all_but_under, all_onto, all_under, counts_shape, covers_onto, covers_under, enough, family_shape, few_onto, few_under, lefts_inside, lowered, raised, room}
 use Rattle.cover_engine.proofs.Subtrees.{below_inside}
@@ -306,8 +305,8 @@ module _ (vs : List Vertex) (ps : List Pair) (js : List UnitDone) (others : List
       → length mid ≡ length counts → ((z : ℕ) → z < length counts → get_or mid z 0 + times z drops ≡ get_or counts z 0) → (z : ℕ) → z < length mid → get_or mid z 0 + times z rises ≤ 4294967295
   cover_room v drops rises mid lv few ds rs sized low =
       room vs h.family (pairs_but_under vs v ps) v.0 mid rises 4294967295 lv rs
-          (lowered vs h.family ps (pairs_but_under vs v ps) (pairs_under vs v ps) counts mid drops (covers_under vs v ps) (under_inside v) ds h.counts_are sized low)
-          (omega (arith, few, h.fewer, few_under vs v ps))
+      (lowered vs h.family ps (pairs_but_under vs v ps) (pairs_under vs v ps) counts mid drops (covers_under vs v ps) (under_inside v) ds h.counts_are sized low)
+      (omega (arith, few, h.fewer, few_under vs v ps))
 
   pub refine_lowers : (ws drops : List ℕ) → drops ≡ below_lefts vs (pairs_onto ws ps) → All (λ d. d < length counts) drops
   refine_lowers ws drops is = inside_all (length counts) drops (below_lefts vs (pairs_onto ws ps)) is h.counts_are.sized (lefts_inside vs h.family (pairs_onto ws ps) (onto_inside ws))

@@ -1,15 +1,14 @@
 -- The labels that a Refine gives, put all at once, make what its unit makes vertex by vertex.
-use Rattle.std.proofs.Common.{◌≡◌, ◌≢◌, ℕ, ◌+◌, ◌-◌, ◌<◌, ◌≤◌, Bool, true, false, not, ◌&&◌, List, [], ◌∷◌, ◌++◌, length, Option, Some, None, ◌⊎◌, inl, inr, refl, sym, ap, ◌∙◌, subst, arith, zero, suc, get_or, if◌then◌else◌}
+use Rattle.std.proofs.Common.{◌≡◌, ◌≢◌, ℕ, ◌+◌, ◌<◌, ◌≤◌, Bool, true, false, not, ◌&&◌, List, [], ◌∷◌, ◌++◌, length, inl, inr, refl, sym, ap, ◌∙◌, subst, arith, zero, suc, get_or, if◌then◌else◌}
 use Rattle.std.specs.List.{All}
-use Rattle.std.proofs.lemmas.Bool.{cases_Bool, cases_eq, cases_lt}
+use Rattle.std.proofs.lemmas.Bool.{cases_eq, cases_lt}
 use Rattle.std.proofs.lemmas.List.{length-set, get_or-set_same, get_or-set_other}
 use Rattle.std.proofs.Math.ListN.{get_or-eq_default}
 use Rattle.bv_term.specs.declared.term.TermId.{TermId}
 use Rattle.bv_term.specs.WellFormed.{Table}
-use Rattle.reach_tree.specs.declared.vertex.VertexId.{VertexId}
 use Rattle.reach_tree.specs.declared.vertex.Vertex.{Vertex}
 use Rattle.reach_tree.specs.declared.vertex.NewLabel.{NewLabel}
-use Rattle.reach_tree.specs.Trees.{vertex_at, changed, relabelled, root_at, strengthened, with_conjunct, with_label}
+use Rattle.reach_tree.specs.Trees.{vertex_at, changed, relabelled, root_at, strengthened, with_conjunct}
 use Rattle.cover_engine.specs.Unwindings.{has, is_true_term, path_up}
 use Rattle.cover_engine.specs.Units.{numbers_of, refined_along, strengthened_along, strengthens}
 use Rattle.cover_engine.specs.Caches.{IsFamily, SameShape}

@@ -1,7 +1,7 @@
 -- The last settling of a pair tells whether it may be settled again.
-use Rattle.std.proofs.Common.{◌≡◌, ◌≢◌, ℕ, ◌+◌, ◌-◌, ◌<◌, ◌≤◌, Bool, true, false, not, List, [], ◌∷◌, ◌++◌, length, Option, Some, None, ◌⊎◌, inl, inr, refl, sym, ap, ◌∙◌, subst, arith, zero, suc, get_or, nat_eq, eq-eqb, ◌||◌, ◌&&◌, if◌then◌else◌}
+use Rattle.std.proofs.Common.{◌≡◌, ℕ, ◌+◌, ◌≤◌, Bool, true, false, List, [], ◌∷◌, ◌++◌, length, Option, Some, None, inl, inr, refl, sym, ap, ◌∙◌, subst, arith, suc, get_or, nat_eq, eq-eqb, ◌||◌, ◌&&◌, if◌then◌else◌}
 use Rattle.std.specs.List.{All}
-use Rattle.std.proofs.lemmas.Bool.{eqb-true, ne_eqb, cases_Bool, cases_eq, and_parts}
+use Rattle.std.proofs.lemmas.Bool.{eqb-true, cases_Bool, and_parts}
 use Rattle.reach_tree.specs.declared.vertex.VertexId.{VertexId}
 use Rattle.reach_tree.specs.declared.vertex.Vertex.{Vertex}
 use Rattle.cover_engine.specs.declared.unit.Apart.{Apart}
@@ -14,7 +14,7 @@ use Rattle.cover_engine.specs.declared.settling.Sides.{Sides}
 use Rattle.cover_engine.specs.declared.settling.Settling.{Settling}
 use Rattle.cover_engine.specs.Units.{apart_now}
 use Rattle.cover_engine.specs.Unwindings.{same, stays_apart, yes_since}
-use Rattle.cover_engine.specs.Settlings.{AreSettlings, AtMost, IsPast, NotAbove, Rising, apart_of, is_now, is_of, last_apart, later_or, refines_in, same_sides, sides, version_at, versions_of, was_covered}
+use Rattle.cover_engine.specs.Settlings.{AreSettlings, IsPast, NotAbove, Rising, apart_of, is_now, is_of, last_apart, later_or, refines_in, same_sides, sides, version_at, versions_of, was_covered}
 
 -- the journal at its end
 

@@ -6,7 +6,7 @@ use Rattle.std.proofs.lemmas.List.{get_or_default}
 use Rattle.reach_tree.specs.declared.vertex.Vertex.{Vertex}
 use Rattle.reach_tree.specs.Trees.{root_at, vertex_at}
 use Rattle.cover_engine.specs.declared.unit.UnitDone.{UnitDone}
-use Rattle.cover_engine.specs.Unwindings.{Pair, Unwound, path_of, is_none, is_open_leaf, is_closed, is_covered}
+use Rattle.cover_engine.specs.Unwindings.{Pair, Unwound, path_of, is_none, is_open_leaf}
 use Rattle.bv_term.specs.declared.term.TermId.{TermId}
 use Rattle.bv_term.specs.WellFormed.{Table}
 use Rattle.cover_engine.specs.declared.unit.Apart.{Apart}

@@ -1,5 +1,5 @@
 -- What an unwinding keeps beside its parts, so that questions about it are look-ups.
-use Rattle.std.specs.Prelude.{ℕ, ◌+◌, ◌<◌, ◌≤◌, ◌≡◌, ◌==◌, ◌&&◌, Bool, true, false, List, [], ◌∷◌, ◌++◌, zero, suc, length, All, Option, None, Some, slice_index, if◌then◌else◌}
+use Rattle.std.specs.Prelude.{ℕ, ◌+◌, ◌<◌, ◌≡◌, ◌==◌, Bool, true, false, List, [], ◌∷◌, ◌++◌, zero, suc, length, All, Option, None, Some, slice_index, if◌then◌else◌}
 use Rattle.reach_tree.specs.declared.vertex.VertexId.{VertexId}
 use Rattle.reach_tree.specs.declared.vertex.Vertex.{Vertex}
 use Rattle.reach_tree.specs.Trees.{vertex_at}

@@ -1,7 +1,7 @@
 -- The four units: when each is legal, and what each makes.
-use Rattle.std.specs.Prelude.{ℕ, ℤ, ◌+◌, ◌<◌, ◌≡◌, ◌==◌, ◌&&◌, ◌||◌, Bool, true, false, not, IsTrue, List, [], ◌∷◌, ◌++◌, length, reverse, All, Option, None, Some, slice_get, slice_index, if◌then◌else◌}
+use Rattle.std.specs.Prelude.{ℕ, ℤ, ◌<◌, ◌≡◌, ◌&&◌, Bool, true, false, not, IsTrue, List, [], ◌∷◌, ◌++◌, length, reverse, All, Option, None, Some, slice_get, if◌then◌else◌}
 use Rattle.bv_term.specs.declared.term.TermId.{TermId}
-use Rattle.bv_term.specs.WellFormed.{Table, widths}
+use Rattle.bv_term.specs.WellFormed.{Table}
 use Rattle.bv_term.specs.Values.{Holds}
 use Rattle.lv_base.specs.declared.fault.ErrorKind.{ErrorKind}
 use Rattle.c_graph.specs.declared.graph.Node.TheVariants.{Plain, Error}
@@ -16,7 +16,7 @@ use Rattle.cover_engine.specs.declared.unit.Apart.{Apart}
 use Rattle.cover_engine.specs.declared.unit.UnitDone.{UnitDone}
 use Rattle.cover_engine.specs.declared.unit.UnitDone.TheVariants.{Expand, Refine, CoverYes, CoverNo}
 use Rattle.cover_engine.specs.Reads.{OnlyNames, needed_along}
-use Rattle.cover_engine.specs.Unwindings.{Unwound, Pair, has, same, path_of, is_open_leaf, is_true_term, is_false_term, may_pair, may_settle}
+use Rattle.cover_engine.specs.Unwindings.{Unwound, Pair, has, path_of, is_open_leaf, is_true_term, is_false_term, may_pair, may_settle}
 
 -- a store meets a label where each conjunct holds in it
 abbrev pub Meets : Table → List ℕ → List TermId → Type 0

@@ -1,11 +1,11 @@
 -- Unwindings as pure values: what is covered, closed, open and complete, and which pairs may be settled.
-use Rattle.std.specs.Prelude.{ℕ, ◌+◌, ◌≡◌, ◌==◌, ◌&&◌, ◌||◌, Bool, true, false, not, List, [], ◌∷◌, ◌++◌, zero, suc, length, Option, None, Some, slice_get}
+use Rattle.std.specs.Prelude.{ℕ, ◌==◌, ◌&&◌, ◌||◌, Bool, true, false, not, List, [], ◌∷◌, zero, suc, length, Option, None, Some, slice_get}
 use Rattle.bv_term.specs.declared.term.TermId.{TermId}
 use Rattle.bv_term.specs.declared.term.Term.{Term}
-use Rattle.bv_term.specs.declared.term.Term.TheVariants.{Constant, Cell, Element, Add, Subtract, Multiply, Divide, Remainder, And, Or, Xor, Not, ShiftLeft, ShiftRight, ShiftSigned, Equal, Less, LessSigned, Select, ZeroExtend, SignExtend, Truncate, Bit}
+use Rattle.bv_term.specs.declared.term.Term.TheVariants.{Constant}
 use Rattle.bv_term.specs.WellFormed.{Table}
 use Rattle.c_graph.specs.declared.graph.Node.{Node}
-use Rattle.c_graph.specs.declared.graph.Node.TheVariants.{Plain, Error, End, Call}
+use Rattle.c_graph.specs.declared.graph.Node.TheVariants.{End}
 use Rattle.c_graph.specs.Shape.{Flow}
 use Rattle.reach_tree.specs.declared.vertex.VertexId.{VertexId}
 use Rattle.reach_tree.specs.declared.vertex.Vertex.{Vertex}

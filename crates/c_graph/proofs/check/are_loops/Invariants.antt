@@ -1,4 +1,4 @@
-use Rattle.std.proofs.Common.{◌≡◌, ◌<◌, ℕ, slice_index_or, slice_index, take, drop, All}
+use Rattle.std.proofs.Common.{take, All}
 use Rattle.c_graph.specs.Shape.{IsNodeOf}
 use Rattle.c_graph.proofs.check.are_loops.Given as goal
 

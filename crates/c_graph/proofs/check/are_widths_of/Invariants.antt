@@ -1,4 +1,4 @@
-use Rattle.std.proofs.Common.{◌≡◌, ◌<◌, ℕ, slice_index_or, slice_index, take, drop, All}
+use Rattle.std.proofs.Common.{◌≡◌, take}
 use Rattle.c_graph.specs.Shape.{widths_of}
 use Rattle.c_graph.proofs.check.are_widths_of.Given as goal
 

@@ -1,4 +1,3 @@
-use Rattle.std.proofs.Common.{rules}
 use Rattle.std.proofs.lemmas.List.Elements.{All-more}
 use Rattle.c_graph.specs.Shape.{OperationFits}
 use Rattle.c_graph.proofs.Checking.{All-seen}

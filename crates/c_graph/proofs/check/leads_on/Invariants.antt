@@ -1,4 +1,4 @@
-use Rattle.std.proofs.Common.{◌≡◌, ◌<◌, ℕ, slice_index_or, slice_index, take, drop, All}
+use Rattle.std.proofs.Common.{◌≡◌, drop}
 use Rattle.c_graph.specs.Shape.{has_out}
 use Rattle.c_graph.proofs.check.leads_on.Given as goal
 

@@ -1,4 +1,4 @@
-use Rattle.std.proofs.Common.{◌≡◌, ◌<◌, ℕ, slice_index_or, slice_index, take, drop, All}
+use Rattle.std.proofs.Common.{take, All}
 use Rattle.c_graph.specs.Shape.{GoesOn}
 use Rattle.c_graph.proofs.check.targets_go_on.Given as goal
 

@@ -1,4 +1,4 @@
-use Rattle.std.proofs.Common.{◌≡◌, ◌≤◌, length}
+use Rattle.std.proofs.Common.{◌≤◌, length}
 use Rattle.c_graph.specs.Chains.{Linked}
 use Rattle.c_graph.proofs.flow.links.Given as goal
 

@@ -1,4 +1,4 @@
-use Rattle.std.proofs.Common.{◌∙◌, ◌++◌, ap, arith, length-append}
+use Rattle.std.proofs.Common.{◌∙◌, arith}
 use Rattle.cover_engine.proofs.Walking.{grown_enough, walk_done, walk_more, walk_stops}
 use Rattle.cover_engine.proofs.covering.below_of.Goals as goal
 use Rattle.cover_engine.proofs.covering.below_of.Goals.{then-loop-left-test+else-at-len, else-loop-left-test}

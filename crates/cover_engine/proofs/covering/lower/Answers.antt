@@ -1,5 +1,3 @@
-use Rattle.std.proofs.Common.{◌≡◌, ◌<◌, ◌≤◌, ◌∙◌, ℕ, get_or, length, arith, sym}
-use Rattle.std.proofs.lemmas.Grind.{get_or_default_zero}
 use Rattle.cover_engine.proofs.Walking.{lower_room}
 use Rattle.cover_engine.proofs.covering.lower.Goals as goal
 

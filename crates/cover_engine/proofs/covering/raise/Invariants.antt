@@ -1,5 +1,5 @@
-use Rattle.std.proofs.Common.{◌≡◌, ◌++◌, ◌+◌, ◌<◌, ◌≤◌, ℕ, drop, take, length, get_or}
-use Rattle.cover_engine.specs.Caches.{below, below_lefts, pairs_onto, pairs_under, spread, times, vertex_numbers}
+use Rattle.std.proofs.Common.{◌≡◌, ◌+◌, ◌<◌, ℕ, drop, length, get_or}
+use Rattle.cover_engine.specs.Caches.{times}
 use Rattle.cover_engine.proofs.covering.raise.Given as goal
 
 abbrev pub invariant-loop-number : goal.invariant-loop-number

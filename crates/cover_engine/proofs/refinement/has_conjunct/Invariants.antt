@@ -1,6 +1,6 @@
-use Rattle.std.proofs.Common.{◌≡◌, ◌++◌, drop, length}
-use Rattle.cover_engine.specs.Unwindings.{has, path_up}
-use Rattle.cover_engine.specs.Units.{numbers_of, pairs_but_onto, refined_along, strengthened_along}
+use Rattle.std.proofs.Common.{◌≡◌, drop}
+use Rattle.cover_engine.specs.Unwindings.{has}
+use Rattle.cover_engine.specs.Units.{numbers_of}
 use Rattle.cover_engine.proofs.refinement.has_conjunct.Given as goal
 
 abbrev pub invariant-loop-conjunct : goal.invariant-loop-conjunct

@@ -1,5 +1,5 @@
 use Rattle.std.proofs.Common.{◌≡◌, ◌++◌, drop}
-use Rattle.cover_engine.specs.Keeping.{labelled, new_labels_of}
+use Rattle.cover_engine.specs.Keeping.{labelled}
 use Rattle.cover_engine.proofs.refinement.labelled_by.Given as goal
 
 abbrev pub invariant-loop-label : goal.invariant-loop-label

@@ -1,5 +1,5 @@
 use Rattle.std.proofs.Common.{◌≡◌, ◌++◌, drop}
-use Rattle.cover_engine.specs.Keeping.{labelled, new_labels_of}
+use Rattle.cover_engine.specs.Keeping.{new_labels_of}
 use Rattle.cover_engine.proofs.refinement.new_labels.Given as goal
 
 abbrev pub invariant-loop-place : goal.invariant-loop-place

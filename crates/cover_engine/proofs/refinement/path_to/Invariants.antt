@@ -1,6 +1,5 @@
-use Rattle.std.proofs.Common.{◌≡◌, ◌++◌, drop, length}
-use Rattle.cover_engine.specs.Unwindings.{has, path_up}
-use Rattle.cover_engine.specs.Units.{numbers_of, pairs_but_onto, refined_along, strengthened_along}
+use Rattle.std.proofs.Common.{◌≡◌, ◌++◌, length}
+use Rattle.cover_engine.specs.Unwindings.{path_up}
 use Rattle.cover_engine.proofs.refinement.path_to.Given as goal
 
 abbrev pub invariant-loop-left : goal.invariant-loop-left

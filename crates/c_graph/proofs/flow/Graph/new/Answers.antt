@@ -1,4 +1,4 @@
-use Rattle.std.proofs.Common.{ℕ, List, ◌<◌, ◌∙◌, length, sym, subst, arith}
+use Rattle.std.proofs.Common.{ℕ, List, ◌<◌, length, sym, subst, arith}
 use Rattle.c_graph.specs.declared.graph.Edge.{Edge}
 use Rattle.c_graph.specs.Chains.{source_of}
 use Rattle.c_graph.proofs.Chaining.{flow_sources}

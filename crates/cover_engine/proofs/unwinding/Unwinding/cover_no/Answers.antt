@@ -1,12 +1,8 @@
-use Rattle.std.proofs.Common.{◌≡◌, ◌∙◌, ap, sym, subst, List, Option, Some, rules, arith}
+use Rattle.std.proofs.Common.{◌∙◌, ap, List, rules, arith}
 use Rattle.std.proofs.lemmas.Grind.{common_steps}
-use Rattle.std.specs.HashMap.{Updates, get}
 use Rattle.reach_tree.specs.declared.vertex.Vertex.{Vertex}
-use Rattle.cover_engine.specs.declared.settling.Sides.{Sides}
-use Rattle.cover_engine.specs.declared.settling.Settling.{Settling}
 use Rattle.cover_engine.specs.declared.unit.UnitDone.TheVariants.{CoverNo}
 use Rattle.cover_engine.specs.Units.{apart_now}
-use Rattle.cover_engine.specs.Settlings.{parted_at, same_sides, sides, versions_of}
 use Rattle.cover_engine.proofs.Kept.{kept_parted, kept_undone, noted_apart}
 use Rattle.cover_engine.proofs.UnitLemmas.{legal-after}
 use Rattle.cover_engine.proofs.unwinding.Unwinding.cover_no.Goals as goal

@@ -1,5 +1,4 @@
-use Rattle.std.proofs.Common.{◌≡◌, ◌<◌, ◌∙◌, ap, sym, subst, suc, length, List, All, refl, rules, arith, ℕ, reverse}
-use Rattle.std.proofs.lemmas.Grind.{common_steps}
+use Rattle.std.proofs.Common.{◌≡◌, ◌<◌, ◌∙◌, ap, sym, subst, suc, length, List, All, refl, arith, ℕ, reverse}
 use Rattle.bv_term.specs.declared.term.TermId.{TermId}
 use Rattle.reach_tree.specs.declared.vertex.Vertex.{Vertex}
 use Rattle.reach_tree.specs.declared.vertex.NewLabel.{NewLabel}
@@ -24,10 +23,10 @@ lower-requires-clause-inside c =
     let falls : Falls (suc c.args.v.0) (path_of c.self.inside.tree.vertices c.args.v) = path_falls c.self.inside.tree.vertices c.self.invariant.family (length c.self.inside.tree.vertices) c.args.v.0 lv in
     let labels : c.in_ok-labels.labels.items ≡ new_labels_of c.self.inside.tree.terms c.self.inside.tree.vertices (path_of c.self.inside.tree.vertices c.args.v) (reverse c.args.formulas) = c.in_ok-labels.ensures ∙ ap (λ (fs : List TermId). new_labels_of c.self.inside.tree.terms c.self.inside.tree.vertices (path_of c.self.inside.tree.vertices c.args.v) (reverse fs)) c.as_slice.ensures in
     let strong : c.deref-2.result.now ≡ strengthened_along c.self.inside.tree.terms c.self.inside.tree.vertices (path_of c.self.inside.tree.vertices c.args.v) (reverse c.args.formulas) =
-        c.deref-2.ensures.value ∙ c.in_ok-strengthened.ensures ∙ ap labelled (c.deref.ensures.value ∙ labels) ∙ labels_strengthen c.self.inside.tree.terms c.self.inside.tree.vertices (path_of c.self.inside.tree.vertices c.args.v) (reverse c.args.formulas) (suc c.args.v.0) falls in
+    c.deref-2.ensures.value ∙ c.in_ok-strengthened.ensures ∙ ap labelled (c.deref.ensures.value ∙ labels) ∙ labels_strengthen c.self.inside.tree.terms c.self.inside.tree.vertices (path_of c.self.inside.tree.vertices c.args.v) (reverse c.args.formulas) (suc c.args.v.0) falls in
     let low : c.deref-4.result.now ≡ below_lefts c.self.inside.tree.vertices (pairs_onto (strengthened_along c.self.inside.tree.terms c.self.inside.tree.vertices (path_of c.self.inside.tree.vertices c.args.v) (reverse c.args.formulas)) c.self.inside.pairs.items) =
-        c.deref-4.ensures.value ∙ c.in_ok-falling.ensures.lowered ∙ ap (λ (vs : List Vertex). below_lefts vs (pairs_onto c.deref-2.result.now c.deref-3.result.now)) c.vertices.ensures.value
-        ∙ ap (λ (ws : List ℕ). below_lefts c.self.inside.tree.vertices (pairs_onto ws c.deref-3.result.now)) strong ∙ ap (λ (ps : List Pair). below_lefts c.self.inside.tree.vertices (pairs_onto (strengthened_along c.self.inside.tree.terms c.self.inside.tree.vertices (path_of c.self.inside.tree.vertices c.args.v) (reverse c.args.formulas)) ps)) c.deref-3.ensures.value in
+    c.deref-4.ensures.value ∙ c.in_ok-falling.ensures.lowered ∙ ap (λ (vs : List Vertex). below_lefts vs (pairs_onto c.deref-2.result.now c.deref-3.result.now)) c.vertices.ensures.value
+    ∙ ap (λ (ws : List ℕ). below_lefts c.self.inside.tree.vertices (pairs_onto ws c.deref-3.result.now)) strong ∙ ap (λ (ps : List Pair). below_lefts c.self.inside.tree.vertices (pairs_onto (strengthened_along c.self.inside.tree.terms c.self.inside.tree.vertices (path_of c.self.inside.tree.vertices c.args.v) (reverse c.args.formulas)) ps)) c.deref-3.ensures.value in
     refine_lowers c.self.inside.tree.vertices c.self.inside.pairs.items c.self.inside.journal.items c.self.inside.apart.items c.self.inside.covers.items c.self.inside.refines c.self.inside.settled c.self.invariant (strengthened_along c.self.inside.tree.terms c.self.inside.tree.vertices (path_of c.self.inside.tree.vertices c.args.v) (reverse c.args.formulas)) c.deref-4.result.now low
 
 pub lower-requires-clause-enough : goal.lower-requires-clause-enough
@@ -36,10 +35,10 @@ lower-requires-clause-enough c =
     let falls : Falls (suc c.args.v.0) (path_of c.self.inside.tree.vertices c.args.v) = path_falls c.self.inside.tree.vertices c.self.invariant.family (length c.self.inside.tree.vertices) c.args.v.0 lv in
     let labels : c.in_ok-labels.labels.items ≡ new_labels_of c.self.inside.tree.terms c.self.inside.tree.vertices (path_of c.self.inside.tree.vertices c.args.v) (reverse c.args.formulas) = c.in_ok-labels.ensures ∙ ap (λ (fs : List TermId). new_labels_of c.self.inside.tree.terms c.self.inside.tree.vertices (path_of c.self.inside.tree.vertices c.args.v) (reverse fs)) c.as_slice.ensures in
     let strong : c.deref-2.result.now ≡ strengthened_along c.self.inside.tree.terms c.self.inside.tree.vertices (path_of c.self.inside.tree.vertices c.args.v) (reverse c.args.formulas) =
-        c.deref-2.ensures.value ∙ c.in_ok-strengthened.ensures ∙ ap labelled (c.deref.ensures.value ∙ labels) ∙ labels_strengthen c.self.inside.tree.terms c.self.inside.tree.vertices (path_of c.self.inside.tree.vertices c.args.v) (reverse c.args.formulas) (suc c.args.v.0) falls in
+    c.deref-2.ensures.value ∙ c.in_ok-strengthened.ensures ∙ ap labelled (c.deref.ensures.value ∙ labels) ∙ labels_strengthen c.self.inside.tree.terms c.self.inside.tree.vertices (path_of c.self.inside.tree.vertices c.args.v) (reverse c.args.formulas) (suc c.args.v.0) falls in
     let low : c.deref-4.result.now ≡ below_lefts c.self.inside.tree.vertices (pairs_onto (strengthened_along c.self.inside.tree.terms c.self.inside.tree.vertices (path_of c.self.inside.tree.vertices c.args.v) (reverse c.args.formulas)) c.self.inside.pairs.items) =
-        c.deref-4.ensures.value ∙ c.in_ok-falling.ensures.lowered ∙ ap (λ (vs : List Vertex). below_lefts vs (pairs_onto c.deref-2.result.now c.deref-3.result.now)) c.vertices.ensures.value
-        ∙ ap (λ (ws : List ℕ). below_lefts c.self.inside.tree.vertices (pairs_onto ws c.deref-3.result.now)) strong ∙ ap (λ (ps : List Pair). below_lefts c.self.inside.tree.vertices (pairs_onto (strengthened_along c.self.inside.tree.terms c.self.inside.tree.vertices (path_of c.self.inside.tree.vertices c.args.v) (reverse c.args.formulas)) ps)) c.deref-3.ensures.value in
+    c.deref-4.ensures.value ∙ c.in_ok-falling.ensures.lowered ∙ ap (λ (vs : List Vertex). below_lefts vs (pairs_onto c.deref-2.result.now c.deref-3.result.now)) c.vertices.ensures.value
+    ∙ ap (λ (ws : List ℕ). below_lefts c.self.inside.tree.vertices (pairs_onto ws c.deref-3.result.now)) strong ∙ ap (λ (ps : List Pair). below_lefts c.self.inside.tree.vertices (pairs_onto (strengthened_along c.self.inside.tree.terms c.self.inside.tree.vertices (path_of c.self.inside.tree.vertices c.args.v) (reverse c.args.formulas)) ps)) c.deref-3.ensures.value in
     refine_enough c.self.inside.tree.vertices c.self.inside.pairs.items c.self.inside.journal.items c.self.inside.apart.items c.self.inside.covers.items c.self.inside.refines c.self.inside.settled c.self.invariant (strengthened_along c.self.inside.tree.terms c.self.inside.tree.vertices (path_of c.self.inside.tree.vertices c.args.v) (reverse c.args.formulas)) c.deref-4.result.now low
 
 pub relabel-requires : goal.relabel-requires
@@ -58,16 +57,16 @@ invariant_of-self-2 c =
     let falls : Falls (suc c.args.v.0) (path_of c.self.inside.tree.vertices c.args.v) = path_falls c.self.inside.tree.vertices c.self.invariant.family (length c.self.inside.tree.vertices) c.args.v.0 lv in
     let labels : c.in_ok-labels.labels.items ≡ new_labels_of c.self.inside.tree.terms c.self.inside.tree.vertices (path_of c.self.inside.tree.vertices c.args.v) (reverse c.args.formulas) = c.in_ok-labels.ensures ∙ ap (λ (fs : List TermId). new_labels_of c.self.inside.tree.terms c.self.inside.tree.vertices (path_of c.self.inside.tree.vertices c.args.v) (reverse fs)) c.as_slice.ensures in
     let strong : c.deref-2.result.now ≡ strengthened_along c.self.inside.tree.terms c.self.inside.tree.vertices (path_of c.self.inside.tree.vertices c.args.v) (reverse c.args.formulas) =
-        c.deref-2.ensures.value ∙ c.in_ok-strengthened.ensures ∙ ap labelled (c.deref.ensures.value ∙ labels) ∙ labels_strengthen c.self.inside.tree.terms c.self.inside.tree.vertices (path_of c.self.inside.tree.vertices c.args.v) (reverse c.args.formulas) (suc c.args.v.0) falls in
+    c.deref-2.ensures.value ∙ c.in_ok-strengthened.ensures ∙ ap labelled (c.deref.ensures.value ∙ labels) ∙ labels_strengthen c.self.inside.tree.terms c.self.inside.tree.vertices (path_of c.self.inside.tree.vertices c.args.v) (reverse c.args.formulas) (suc c.args.v.0) falls in
     let kept : c.in_ok-falling.falling.kept.items ≡ pairs_but_onto (strengthened_along c.self.inside.tree.terms c.self.inside.tree.vertices (path_of c.self.inside.tree.vertices c.args.v) (reverse c.args.formulas)) c.self.inside.pairs.items =
-        c.in_ok-falling.ensures.kept ∙ ap (λ (ws : List ℕ). pairs_but_onto ws c.deref-3.result.now) strong ∙ ap (pairs_but_onto (strengthened_along c.self.inside.tree.terms c.self.inside.tree.vertices (path_of c.self.inside.tree.vertices c.args.v) (reverse c.args.formulas))) c.deref-3.ensures.value in
+    c.in_ok-falling.ensures.kept ∙ ap (λ (ws : List ℕ). pairs_but_onto ws c.deref-3.result.now) strong ∙ ap (pairs_but_onto (strengthened_along c.self.inside.tree.terms c.self.inside.tree.vertices (path_of c.self.inside.tree.vertices c.args.v) (reverse c.args.formulas))) c.deref-3.ensures.value in
     let low : c.deref-4.result.now ≡ below_lefts c.self.inside.tree.vertices (pairs_onto (strengthened_along c.self.inside.tree.terms c.self.inside.tree.vertices (path_of c.self.inside.tree.vertices c.args.v) (reverse c.args.formulas)) c.self.inside.pairs.items) =
-        c.deref-4.ensures.value ∙ c.in_ok-falling.ensures.lowered ∙ ap (λ (vs : List Vertex). below_lefts vs (pairs_onto c.deref-2.result.now c.deref-3.result.now)) c.vertices.ensures.value
-        ∙ ap (λ (ws : List ℕ). below_lefts c.self.inside.tree.vertices (pairs_onto ws c.deref-3.result.now)) strong ∙ ap (λ (ps : List Pair). below_lefts c.self.inside.tree.vertices (pairs_onto (strengthened_along c.self.inside.tree.terms c.self.inside.tree.vertices (path_of c.self.inside.tree.vertices c.args.v) (reverse c.args.formulas)) ps)) c.deref-3.ensures.value in
+    c.deref-4.ensures.value ∙ c.in_ok-falling.ensures.lowered ∙ ap (λ (vs : List Vertex). below_lefts vs (pairs_onto c.deref-2.result.now c.deref-3.result.now)) c.vertices.ensures.value
+    ∙ ap (λ (ws : List ℕ). below_lefts c.self.inside.tree.vertices (pairs_onto ws c.deref-3.result.now)) strong ∙ ap (λ (ps : List Pair). below_lefts c.self.inside.tree.vertices (pairs_onto (strengthened_along c.self.inside.tree.terms c.self.inside.tree.vertices (path_of c.self.inside.tree.vertices c.args.v) (reverse c.args.formulas)) ps)) c.deref-3.ensures.value in
     let after : c.relabel.new.self.vertices ≡ refined_along c.self.inside.tree.terms c.self.inside.tree.vertices (path_of c.self.inside.tree.vertices c.args.v) (reverse c.args.formulas) =
-        c.relabel.ensures.vertices ∙ ap (relabelled c.self.inside.tree.vertices) labels ∙ labels_refine c.self.inside.tree.terms c.self.inside.tree.vertices (path_of c.self.inside.tree.vertices c.args.v) (reverse c.args.formulas) (suc c.args.v.0) falls in
+    c.relabel.ensures.vertices ∙ ap (relabelled c.self.inside.tree.vertices) labels ∙ labels_refine c.self.inside.tree.terms c.self.inside.tree.vertices (path_of c.self.inside.tree.vertices c.args.v) (reverse c.args.formulas) (suc c.args.v.0) falls in
     kept_refined c.self.inside.tree.terms c.self.inside.tree.vertices c.relabel.new.self.vertices c.self.inside.pairs.items c.in_ok-falling.falling.kept.items (pairs_onto (strengthened_along c.self.inside.tree.terms c.self.inside.tree.vertices (path_of c.self.inside.tree.vertices c.args.v) (reverse c.args.formulas)) c.self.inside.pairs.items) c.self.inside.journal.items c.push.new.self.items c.self.inside.apart.items c.self.inside.covers.items c.lower.new.counts.items c.deref-4.result.now
-        c.self.inside.refines c.self.inside.settled c.args.v c.args.formulas (reverse c.args.formulas) c.self.invariant lv (omega arith) after c.in_ok-push.ensures.items kept refl low c.lower.ensures.sized c.lower.ensures.lowered
+    c.self.inside.refines c.self.inside.settled c.args.v c.args.formulas (reverse c.args.formulas) c.self.invariant lv (omega arith) after c.in_ok-push.ensures.items kept refl low c.lower.ensures.sized c.lower.ensures.lowered
 
 pub returns-clause-legal : goal.returns-clause-legal
 returns-clause-legal c =
@@ -75,11 +74,11 @@ returns-clause-legal c =
     let falls : Falls (suc c.args.v.0) (path_of c.self.inside.tree.vertices c.args.v) = path_falls c.self.inside.tree.vertices c.self.invariant.family (length c.self.inside.tree.vertices) c.args.v.0 lv in
     let labels : c.in_ok-labels.labels.items ≡ new_labels_of c.self.inside.tree.terms c.self.inside.tree.vertices (path_of c.self.inside.tree.vertices c.args.v) (reverse c.args.formulas) = c.in_ok-labels.ensures ∙ ap (λ (fs : List TermId). new_labels_of c.self.inside.tree.terms c.self.inside.tree.vertices (path_of c.self.inside.tree.vertices c.args.v) (reverse fs)) c.as_slice.ensures in
     let strong : c.deref-2.result.now ≡ strengthened_along c.self.inside.tree.terms c.self.inside.tree.vertices (path_of c.self.inside.tree.vertices c.args.v) (reverse c.args.formulas) =
-        c.deref-2.ensures.value ∙ c.in_ok-strengthened.ensures ∙ ap labelled (c.deref.ensures.value ∙ labels) ∙ labels_strengthen c.self.inside.tree.terms c.self.inside.tree.vertices (path_of c.self.inside.tree.vertices c.args.v) (reverse c.args.formulas) (suc c.args.v.0) falls in
+    c.deref-2.ensures.value ∙ c.in_ok-strengthened.ensures ∙ ap labelled (c.deref.ensures.value ∙ labels) ∙ labels_strengthen c.self.inside.tree.terms c.self.inside.tree.vertices (path_of c.self.inside.tree.vertices c.args.v) (reverse c.args.formulas) (suc c.args.v.0) falls in
     let kept : c.in_ok-falling.falling.kept.items ≡ pairs_but_onto (strengthened_along c.self.inside.tree.terms c.self.inside.tree.vertices (path_of c.self.inside.tree.vertices c.args.v) (reverse c.args.formulas)) c.self.inside.pairs.items =
-        c.in_ok-falling.ensures.kept ∙ ap (λ (ws : List ℕ). pairs_but_onto ws c.deref-3.result.now) strong ∙ ap (pairs_but_onto (strengthened_along c.self.inside.tree.terms c.self.inside.tree.vertices (path_of c.self.inside.tree.vertices c.args.v) (reverse c.args.formulas))) c.deref-3.ensures.value in
+    c.in_ok-falling.ensures.kept ∙ ap (λ (ws : List ℕ). pairs_but_onto ws c.deref-3.result.now) strong ∙ ap (pairs_but_onto (strengthened_along c.self.inside.tree.terms c.self.inside.tree.vertices (path_of c.self.inside.tree.vertices c.args.v) (reverse c.args.formulas))) c.deref-3.ensures.value in
     let after : c.relabel.new.self.vertices ≡ refined_along c.self.inside.tree.terms c.self.inside.tree.vertices (path_of c.self.inside.tree.vertices c.args.v) (reverse c.args.formulas) =
-        c.relabel.ensures.vertices ∙ ap (relabelled c.self.inside.tree.vertices) labels ∙ labels_refine c.self.inside.tree.terms c.self.inside.tree.vertices (path_of c.self.inside.tree.vertices c.args.v) (reverse c.args.formulas) (suc c.args.v.0) falls in
+    c.relabel.ensures.vertices ∙ ap (relabelled c.self.inside.tree.vertices) labels ∙ labels_refine c.self.inside.tree.terms c.self.inside.tree.vertices (path_of c.self.inside.tree.vertices c.args.v) (reverse c.args.formulas) (suc c.args.v.0) falls in
     legal-after c.args.graph.now c.args.self.now _ (Refine c.args.v c.args.formulas) c.requires.legal c.requires.can (made_refine c.self.inside.tree.vertices c.relabel.new.self.vertices c.self.inside.tree.terms c.relabel.new.self.terms c.self.inside.pairs.items c.in_ok-falling.falling.kept.items c.self.inside.journal.items c.push.new.self.items c.self.inside.apart.items c.args.v c.args.formulas c.args.self.now c.self.view_is after c.relabel.ensures.terms kept c.in_ok-push.ensures.items)
 
 pub returns-clause-done : goal.returns-clause-done
@@ -88,9 +87,9 @@ returns-clause-done c =
     let falls : Falls (suc c.args.v.0) (path_of c.self.inside.tree.vertices c.args.v) = path_falls c.self.inside.tree.vertices c.self.invariant.family (length c.self.inside.tree.vertices) c.args.v.0 lv in
     let labels : c.in_ok-labels.labels.items ≡ new_labels_of c.self.inside.tree.terms c.self.inside.tree.vertices (path_of c.self.inside.tree.vertices c.args.v) (reverse c.args.formulas) = c.in_ok-labels.ensures ∙ ap (λ (fs : List TermId). new_labels_of c.self.inside.tree.terms c.self.inside.tree.vertices (path_of c.self.inside.tree.vertices c.args.v) (reverse fs)) c.as_slice.ensures in
     let strong : c.deref-2.result.now ≡ strengthened_along c.self.inside.tree.terms c.self.inside.tree.vertices (path_of c.self.inside.tree.vertices c.args.v) (reverse c.args.formulas) =
-        c.deref-2.ensures.value ∙ c.in_ok-strengthened.ensures ∙ ap labelled (c.deref.ensures.value ∙ labels) ∙ labels_strengthen c.self.inside.tree.terms c.self.inside.tree.vertices (path_of c.self.inside.tree.vertices c.args.v) (reverse c.args.formulas) (suc c.args.v.0) falls in
+    c.deref-2.ensures.value ∙ c.in_ok-strengthened.ensures ∙ ap labelled (c.deref.ensures.value ∙ labels) ∙ labels_strengthen c.self.inside.tree.terms c.self.inside.tree.vertices (path_of c.self.inside.tree.vertices c.args.v) (reverse c.args.formulas) (suc c.args.v.0) falls in
     let kept : c.in_ok-falling.falling.kept.items ≡ pairs_but_onto (strengthened_along c.self.inside.tree.terms c.self.inside.tree.vertices (path_of c.self.inside.tree.vertices c.args.v) (reverse c.args.formulas)) c.self.inside.pairs.items =
-        c.in_ok-falling.ensures.kept ∙ ap (λ (ws : List ℕ). pairs_but_onto ws c.deref-3.result.now) strong ∙ ap (pairs_but_onto (strengthened_along c.self.inside.tree.terms c.self.inside.tree.vertices (path_of c.self.inside.tree.vertices c.args.v) (reverse c.args.formulas))) c.deref-3.ensures.value in
+    c.in_ok-falling.ensures.kept ∙ ap (λ (ws : List ℕ). pairs_but_onto ws c.deref-3.result.now) strong ∙ ap (pairs_but_onto (strengthened_along c.self.inside.tree.terms c.self.inside.tree.vertices (path_of c.self.inside.tree.vertices c.args.v) (reverse c.args.formulas))) c.deref-3.ensures.value in
     let after : c.relabel.new.self.vertices ≡ refined_along c.self.inside.tree.terms c.self.inside.tree.vertices (path_of c.self.inside.tree.vertices c.args.v) (reverse c.args.formulas) =
-        c.relabel.ensures.vertices ∙ ap (relabelled c.self.inside.tree.vertices) labels ∙ labels_refine c.self.inside.tree.terms c.self.inside.tree.vertices (path_of c.self.inside.tree.vertices c.args.v) (reverse c.args.formulas) (suc c.args.v.0) falls in
+    c.relabel.ensures.vertices ∙ ap (relabelled c.self.inside.tree.vertices) labels ∙ labels_refine c.self.inside.tree.terms c.self.inside.tree.vertices (path_of c.self.inside.tree.vertices c.args.v) (reverse c.args.formulas) (suc c.args.v.0) falls in
     made_refine c.self.inside.tree.vertices c.relabel.new.self.vertices c.self.inside.tree.terms c.relabel.new.self.terms c.self.inside.pairs.items c.in_ok-falling.falling.kept.items c.self.inside.journal.items c.push.new.self.items c.self.inside.apart.items c.args.v c.args.formulas c.args.self.now c.self.view_is after c.relabel.ensures.terms kept c.in_ok-push.ensures.items

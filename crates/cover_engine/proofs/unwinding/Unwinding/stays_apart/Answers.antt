@@ -1,4 +1,4 @@
-use Rattle.std.proofs.Common.{◌∙◌, ◌≡◌, ap, sym, List}
+use Rattle.std.proofs.Common.{◌∙◌, ap, sym, List}
 use Rattle.reach_tree.specs.declared.vertex.Vertex.{Vertex}
 use Rattle.cover_engine.specs.Units.{apart_now}
 use Rattle.cover_engine.specs.Unwindings.{Unwound, stays_apart}
