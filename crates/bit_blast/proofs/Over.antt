@@ -1,5 +1,5 @@
 -- What each call holds fits the tables that it fitted before.
-use Rattle.std.proofs.Common.{◌≡◌, ℕ, ◌+◌, ◌≤◌, ◌<◌, length, List, [], ◌∷◌, map, take, drop, arith, ap, sym, ◌∙◌, refl, suc, zero, ltb, subst, slice_index}
+use Rattle.std.proofs.Common.{◌≡◌, ℕ, ◌+◌, ◌≤◌, ◌<◌, length, List, [], ◌∷◌, map, take, drop, arith, ap, sym, ◌∙◌, refl, suc, zero, ltb, subst, slice_index, IfOk, Result, Ok, Err}
 use Rattle.std.specs.Prelude.{Option, Some, None}
 use Rattle.std.proofs.lemmas.Bool.{false≢true, ltb-true}
 use Rattle.prop.specs.declared.Lit.{Lit}
@@ -111,3 +111,17 @@ pub over-from : (table : Table) (next : ℕ) (one : Option Lit) (cells : List (L
     → IsOver table (record { next = next; one = one; cells = cells; done = done })
 over-from table next one cells done e h =
     subst (λ (x : List Known). IsOver table (record { next = next; one = one; cells = cells; done = x })) (sym e) (over-none table next one cells h)
+
+pub if-ok : {A : Type 0} {E : Type 0} (r : Result A E) (P : Type 0) → P → IfOk r (λ x. P)
+if-ok (Ok x) P h = h
+if-ok (Err x) P h = tt
+
+-- what stands after a value was stored
+pub over-stored : (table : Table) (next n : ℕ) (one : Lit) (now : Option Lit) (h : Held) (old cells : List (List Lit)) (done : List Known) (f m : ℕ) (index value : List Lit) (o : Option ℕ)
+    → old ≡ h.cells → done ≡ [] → f + m ≤ length h.cells → AllLong (length value) (take m (drop f h.cells))
+    → cells ≡ (store_in one n old f m index value o).cells → IsOver table h
+    → IsOver table (record { next = next; one = now; cells = cells; done = done })
+over-stored table next n one now h old cells done f m index value o e d le l c i =
+    over-from table next now cells done d
+    (ap (λ (x : List (List Lit)). map length x) (c ∙ ap (λ (x : List (List Lit)). (store_in one n x f m index value o).cells) e)
+    ∙ (store-widths one n h.cells f m index value o le l ∙ i.cells))

@@ -200,3 +200,9 @@ pub cell-past : {A : Type 0} (f : A → List Lit) (xs : List A) (k : ℕ) → le
 cell-past f [] k le = refl
 cell-past f (x ∷ xs) zero le = absurd (omega arith)
 cell-past f (x ∷ xs) (suc k) le = cell-past f xs k (omega arith)
+
+-- a second cell with literals is there
+pub two-cells : (cells : List (List Lit)) (w : ℕ) → length (cell_at cells 1) ≡ w → 0 < w → 2 ≤ length cells
+two-cells [] w e lt = absurd (omega (arith, e, lt))
+two-cells (c ∷ []) w e lt = absurd (omega (arith, e, lt))
+two-cells (c ∷ d ∷ cs) w e lt = omega arith

@@ -290,6 +290,7 @@ impl Bits {
         ensures emission { let m = store_of first count index.now value.now self.old in MatchResult result
             (λ _. Emitted clauses.old clauses.new self.old.next self.new.next m.defs × (self.new ≡ m.held))
             (λ e. Cut e clauses.old (net_clauses self.old.next m.defs) clauses.new) }
+        ensures over { IfOk result (λ _. (table : Table) → IsOver table self.old → IsOver table self.new) }
     {
         let mut net = Net::new(alloc, self.next);
         let one = match put_one(&mut net, self.one) {
@@ -298,7 +299,7 @@ impl Bits {
         };
         self.one = Some(one);
         self.done.clear();
-        if put_store(
+        let stored = put_store(
             alloc,
             &mut net,
             one,
@@ -307,12 +308,11 @@ impl Bits {
             count as usize,
             index,
             value,
-        )
-        .is_err()
-        {
-            return Err(BlastFail::Memory);
+        );
+        match stored {
+            Err(_) => Err(BlastFail::Memory),
+            Ok(_) => close(clauses, &mut self.next, &net),
         }
-        close(clauses, &mut self.next, &net)
     }
 }
 

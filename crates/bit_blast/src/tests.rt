@@ -1,11 +1,11 @@
 //! Terms over clauses: each term's literals under one assignment, which unit propagation alone makes of the cells' values,
 //! against the term's value in the store.
 
-ghost use Rattle.std.specs.Prelude.{IfOk, All};
+ghost use Rattle.std.specs.Prelude.{IfOk, All, length, ◌<◌};
 ghost use Rattle.bv_term.specs.WellFormed.{IsWidth};
 ghost use Rattle.bit_blast.specs.Held.{IsOver};
 
-use crate::{Bits, blast_all};
+use crate::{Bits, blast, blast_all};
 use bv_term::{Term, TermId, Terms, are_widths};
 use prop::{BlastFail, Clauses, Lit};
 use std::alloc::Global;
@@ -262,29 +262,181 @@ fn a_deep_chain_takes_no_stack(rt: HostRuntime) -> Result<(), Fail> {
     Ok(())
 }
 
-// What two cells of eight bits that hold 0 hold after 7 was stored at index 1.
-fn stored_seven(rt: &impl Abort, alloc: Global) -> Result<(u128, u128), Fail> {
+// Stores at an index among two cells of eight bits.
+fn store_in_two(
+    rt: &impl Abort,
+    alloc: Global,
+    clauses: &mut Clauses,
+    bits: &mut Bits,
+    index: &[Lit],
+    value: &[Lit],
+) -> Result<(), BlastFail> {
+    assert!(rt; index.len() <= 128 && value.len() == 8);
+    assert!(rt; bits.cell(0).len() == 8);
+    assert!(rt; bits.cell(1).len() == 8);
+    bits.store_at(alloc, clauses, 0, 2, index, value)
+}
+
+// The truth of each variable, where the first ones spell these numbers of these widths.
+fn truths(
+    rt: &impl Abort,
+    alloc: Global,
+    clauses: &Clauses,
+    words: &[(u32, u128)],
+) -> Result<Vec<bool>, Fail> {
+    let mut values = Vec::new(alloc);
+    for word in words {
+        push_bits(&mut values, word.0, word.1)?;
+    }
+    propagate(rt, clauses, &mut values)?;
+    Ok(values)
+}
+
+// What cells 0 and 1 hold.
+fn held(values: &[bool], bits: &Bits) -> (u128, u128) {
+    (number(values, bits.cell(0)), number(values, bits.cell(1)))
+}
+
+// What two cells of eight bits that hold 0 hold after 7 was stored at an index.
+fn seven_at(rt: &impl Abort, alloc: Global, at: u128) -> Result<(u128, u128), Fail> {
     let mut clauses = Clauses::new(alloc);
     let begun = Bits::new(alloc, &mut clauses, &[8, 8]);
     assert!(rt; begun.is_ok());
     if let Ok(mut bits) = begun {
         let index = bits.fresh(alloc, 8)?;
         let value = bits.fresh(alloc, 8)?;
-        let done = bits.store_at(alloc, &mut clauses, 0, 2, &index, &value);
-        assert!(rt; done.is_ok());
-        let mut values = Vec::new(alloc);
-        push_bits(&mut values, 16, 0)?;
-        push_bits(&mut values, 8, 1)?;
-        push_bits(&mut values, 8, 7)?;
-        propagate(rt, &clauses, &mut values)?;
-        return Ok((number(&values, bits.cell(0)), number(&values, bits.cell(1))));
+        let stored = store_in_two(rt, alloc, &mut clauses, &mut bits, &index, &value);
+        assert!(rt; stored.is_ok());
+        let values = truths(rt, alloc, &clauses, &[(16, 0), (8, at), (8, 7)])?;
+        return Ok(held(&values, &bits));
     }
-    Ok((0, 0))
+    Ok((1, 1))
 }
 
 #[test]
 fn a_value_is_stored_at_an_index(rt: HostRuntime) -> Result<(), Fail> {
-    assert_eq!(&rt; stored_seven(&rt, rt.alloc())?, (0, 7));
+    for (at, wanted) in [(0, (7, 0)), (1, (0, 7)), (2, (0, 0)), (255, (0, 0))] {
+        let got = seven_at(&rt, rt.alloc(), at)?;
+        assert_eq!(&rt; got, wanted, "7 stored at {at}");
+    }
+    Ok(())
+}
+
+// Stores in the second of two cells of eight bits, the index being 1 by the constant literal.
+fn store_in_second(
+    rt: &impl Abort,
+    alloc: Global,
+    clauses: &mut Clauses,
+    bits: &mut Bits,
+    value: &[Lit],
+) -> Result<(), Fail> {
+    let constant = bits.constant();
+    assert!(rt; constant.is_some());
+    if let Some(one) = constant {
+        let no = one.negate();
+        let index = [one, no, no, no, no, no, no, no].to_vec(alloc)?;
+        let stored = store_in_two(rt, alloc, clauses, bits, &index, value);
+        assert!(rt; stored.is_ok());
+    }
+    Ok(())
+}
+
+// What cells of eight bits hold that held 0, after 7 was stored at 0 as an index that is not known, and 9 at 1 as one that
+// is known; and how many literals the second store added.
+fn seven_and_nine(rt: &impl Abort, alloc: Global) -> Result<((u128, u128), u64), Fail> {
+    let mut clauses = Clauses::new(alloc);
+    let begun = Bits::new(alloc, &mut clauses, &[8, 8]);
+    assert!(rt; begun.is_ok());
+    if let Ok(mut bits) = begun {
+        let index = bits.fresh(alloc, 8)?;
+        let value = bits.fresh(alloc, 8)?;
+        let other = bits.fresh(alloc, 8)?;
+        let open = store_in_two(rt, alloc, &mut clauses, &mut bits, &index, &value);
+        assert!(rt; open.is_ok());
+        let before = clauses.literals();
+        store_in_second(rt, alloc, &mut clauses, &mut bits, &other)?;
+        let added = clauses.literals().wrapping_sub(before);
+        let values = truths(rt, alloc, &clauses, &[(24, 0), (8, 7), (8, 9)])?;
+        return Ok((held(&values, &bits), added));
+    }
+    Ok(((0, 0), 1))
+}
+
+#[test]
+fn a_known_index_costs_no_clause(rt: HostRuntime) -> Result<(), Fail> {
+    assert_eq!(&rt; seven_and_nine(&rt, rt.alloc())?, ((7, 9), 0));
+    Ok(())
+}
+
+// Gives cell 0, of eight bits, the literals of a term of eight bits.
+fn rebind_first(
+    rt: &impl Abort,
+    alloc: Global,
+    terms: &Terms,
+    id: TermId,
+    clauses: &mut Clauses,
+    bits: &mut Bits,
+) -> Result<(), BlastFail>
+    requires there { id.0 < length terms.now.terms }
+    requires over { IsOver terms.now bits.old }
+    ensures over { IfOk result (λ _. IsOver terms.now bits.new) }
+{
+    let lits = blast_all(alloc, terms, id, clauses, bits)?;
+    assert!(rt; lits.len() == 8);
+    assert!(rt; bits.cell(0).len() == 8);
+    bits.rebind(clauses, 0, lits)?;
+    Ok(())
+}
+
+#[test]
+fn a_cell_takes_other_literals(rt: HostRuntime) -> Result<(), Fail> {
+    let alloc = rt.alloc();
+    let mut clauses = Clauses::new(alloc);
+    let mut terms = Terms::new(alloc, two_bytes(&rt, alloc)?);
+    let cell = put(&rt, &mut terms, Term::Cell(0))?;
+    let one = put(&rt, &mut terms, Term::Constant(8, 1))?;
+    let next = put(&rt, &mut terms, Term::Add(cell, one))?;
+    assert!(&rt; next.0 < terms.count());
+    let begun = begin(alloc, &terms, &mut clauses);
+    assert!(&rt; begun.is_ok());
+    if let Ok(mut bits) = begun {
+        let first = rebind_first(&rt, alloc, &terms, next, &mut clauses, &mut bits);
+        assert!(&rt; first.is_ok() && !bits.is_done(next));
+        let constant = bits.constant();
+        let second = rebind_first(&rt, alloc, &terms, next, &mut clauses, &mut bits);
+        assert!(&rt; second.is_ok() && bits.constant() == constant);
+        let values = truths(&rt, alloc, &clauses, &[(8, 254), (8, 3)])?;
+        assert_eq!(&rt;
+            held(&values, &bits),
+            (0, 3),
+            "254 and twice one more, in eight bits"
+        );
+    }
+    Ok(())
+}
+
+#[test]
+fn a_truth_has_one_literal(rt: HostRuntime) -> Result<(), Fail> {
+    let alloc = rt.alloc();
+    let mut clauses = Clauses::new(alloc);
+    let mut terms = Terms::new(alloc, two_bytes(&rt, alloc)?);
+    let a = put(&rt, &mut terms, Term::Cell(0))?;
+    let b = put(&rt, &mut terms, Term::Cell(1))?;
+    let less = put(&rt, &mut terms, Term::Less(a, b))?;
+    assert!(&rt; less.0 < terms.count());
+    assert!(&rt; terms.width_of(less) == 1);
+    let begun = begin(alloc, &terms, &mut clauses);
+    assert!(&rt; begun.is_ok());
+    if let Ok(mut bits) = begun {
+        let got = blast(alloc, &terms, less, &mut clauses, &mut bits);
+        assert!(&rt; got.is_ok());
+        if let Ok(lit) = got {
+            for (x, y, wanted) in [(3, 200, true), (200, 3, false), (7, 7, false)] {
+                let values = truths(&rt, alloc, &clauses, &[(8, x), (8, y)])?;
+                assert_eq!(&rt; value_of(&values, lit), wanted, "{x} below {y}");
+            }
+        }
+    }
     Ok(())
 }
 

@@ -14,9 +14,11 @@ use crate::measures::low;
 use crate::steps::next;
 use c_lexer::Token;
 use c_tree::{AssignOp, BinaryOp, Bracket, Item, Sign, Spec, StorageWord, Symbol};
-use parse_stack::{Around, Names, Place, StepFail, sign_of};
+use parse_stack::{Around, Place, StepFail};
 use parse_steps::Mode;
 use std::alloc::Global;
+use token_signs::sign_of;
+use typedef_names::Names;
 
 /// An item that begins with `extern`: the offsets of `__extension__` and of `extern`, and the tokens behind.
 #[derive(Drop)]

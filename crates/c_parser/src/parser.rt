@@ -12,9 +12,11 @@ use crate::measures::low;
 use c_lexer::Token;
 use c_tree::{BinaryOp, StorageWord, Symbol, Unit};
 use lv_base::{SourceFail, SourceFault};
-use parse_stack::{Names, StepFail, sign_of};
+use parse_stack::StepFail;
 use parse_steps::Mode;
 use std::alloc::Global;
+use token_signs::sign_of;
+use typedef_names::Names;
 
 /// The height of a tree that passes the limit.
 const PASSED: u64 = 201;

@@ -8,9 +8,10 @@ ghost use Rattle.c_parser.specs.Settling.{settled, SettlesTo, OtherwiseTo, IsSho
 
 use crate::statements::{step_begin, step_wait};
 use c_tree::{Statement, StatementWord, Symbol};
-use parse_stack::{Names, Opening, Outer, OuterFrame, StepFail, Wrap, add_statement, wrapped};
+use parse_stack::{Opening, Outer, OuterFrame, StepFail, Wrap, add_statement, wrapped};
 use parse_steps::{Mode, Waiting};
 use std::alloc::{AllocError, Global};
+use typedef_names::Names;
 
 /// Where a whole statement stands: behind the others of a block, or in a `do`.
 #[derive(Drop)]

@@ -17,14 +17,15 @@ use c_tree::{
 };
 use lv_base::Text;
 use parse_stack::{
-    Around, Attributed, Base, Bind, Frame, FunctionHead, Inner, Names, Opened, Opening, Outer,
-    OuterFrame, Place, Spoken, StepFail, Test, Wrap, add_word, is_list, no_parts, push, push_outer,
-    rooted, unspoken,
+    Around, Attributed, Base, Bind, Frame, FunctionHead, Inner, Opened, Opening, Outer, OuterFrame,
+    Place, Spoken, StepFail, Test, Wrap, add_word, is_list, no_parts, push, push_outer, rooted,
+    unspoken,
 };
 use parse_steps::{
     Fork, Mode, Skip, Waiting, begin_in, function_of, step_maybe, step_operand, step_specs, whole,
 };
 use std::alloc::{AllocError, Global};
+use typedef_names::Names;
 
 /// The words behind so many `__extension__`.
 fn extension_words(alloc: Global, offsets: &[u32]) -> Result<Spoken, AllocError>

@@ -14,7 +14,7 @@ use crate::settling::step_whole;
 use crate::statements::{function_item, step_begin, step_either, step_goto, step_label, step_wait};
 use c_tree::{Attribute, AttributeWord, Body, Bracket, Item, Sign, Spec, Symbol};
 use parse_stack::{
-    Around, Attributed, FunctionHead, Names, Place, StepFail, add_attribute, add_word, unspoken,
+    Around, Attributed, FunctionHead, Place, StepFail, add_attribute, add_word, unspoken,
 };
 use parse_steps::{
     Mode, Skip, step_behind, step_constant, step_enumeration, step_listed, step_maybe, step_named,
@@ -22,6 +22,7 @@ use parse_steps::{
     step_value,
 };
 use std::alloc::Global;
+use typedef_names::Names;
 
 /// What a token does among tokens that are kept as they stand: how many brackets are open behind it, or the end.
 pub enum Run {

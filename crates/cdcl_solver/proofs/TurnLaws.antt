@@ -1,53 +1,74 @@
--- Laws at the values of a turn.
-use Rattle.std.proofs.Common.{◌≡◌, ℕ, ◌+◌, ◌-◌, ◌<◌, ◌≤◌, Bool, true, false, List, [], ◌∷◌, ◌++◌, Option, Some, None, slice_get, get_or, zero, suc, ◌⊎◌, inl, inr, refl, sym, ap, ◌∙◌, subst, arith, append_assoc, append-nil, length, length-append, option_to_list}
+-- What a turn of the search leaves, at the values of the code.
+use Rattle.std.proofs.Common.{◌≡◌, ℕ, ◌+◌, ◌-◌, ◌*◌, ◌<◌, ◌≤◌, Bool, true, false, List, [], ◌∷◌, ◌++◌, Option, Some, None, slice_get, zero, suc, ◌⊎◌, inl, inr, refl, sym, ap, ◌∙◌, subst, arith, length, length-append}
+use Rattle.std.proofs.lemmas.Bool.{both_ways, cases_Bool}
 use Rattle.prop.specs.declared.Lit.{Lit}
-use Rattle.cdcl_solver.specs.declared.trail.Entry.{Entry}
-use Rattle.cdcl_solver.specs.Trail.{Set, SetAt, below_of, Going, Told, UipOk, Learnt, Back, Holds}
-use Rattle.cdcl_solver.specs.Covers.{RisesFrom, last_level}
-use Rattle.cdcl_solver.proofs.TrailLaws.{snoc_parts}
-use Rattle.cdcl_solver.proofs.StoreLaws.{rises_pop, last_push}
-use Rattle.cdcl_solver.proofs.JumpLaws.{back_pop, back_all}
+use Rattle.prop.specs.Logic.{all_hold}
+use Rattle.prop.specs.Trues.{listed}
+use Rattle.prop.specs.Steps.{Has, In}
+use Rattle.prop.proofs.Sets.{In-left, Has-head, Has-tail, Has-cons}
+use Rattle.resolution_log.specs.Codes.{AllBelow}
+use Rattle.resolution_log.specs.declared.Chain.{Chain}
+use Rattle.clause_learning.specs.declared.Entry.{Entry}
+use Rattle.clause_learning.specs.Trail.{set_in, Set, Holds}
+use Rattle.clause_learning.specs.Covers.{RisesFrom, last_level}
+use Rattle.clause_learning.specs.Solve.{State, IsSpent, IsHeavy, pairs_of, values_of, trues_of}
+use Rattle.clause_learning.proofs.TrailLaws.{quiet_trail}
+use Rattle.clause_learning.proofs.StateLaws.{pairs_push, front_is, same_clause}
+use Rattle.clause_learning.proofs.StoreLaws.{last_below}
+use Rattle.clause_learning.proofs.MeetLaws.{done_meets, met_answer}
+use Rattle.dense_trail.specs.declared.Trail.{Trail}
+use Rattle.dense_trail.specs.Dense.{known_of, entries_of}
+use Rattle.watched_clauses.specs.Kept.{IsLinked}
+use Rattle.conflict_analysis.specs.Walk.{RowsFit}
+use Rattle.cdcl_solver.specs.Stops.{trail_entries}
+use Rattle.cdcl_solver.specs.Search.{Rests}
+use Rattle.cdcl_solver.proofs.ListLaws.{get_push}
 
-last_split : (x : List Entry) (k : ℕ) (e : Entry) → k + 1 ≡ length x → get_or x k e ≡ e → (t : List Entry) × (x ≡ t ++ (e ∷ []))
-last_split [] k e h g = absurd (omega arith)
-last_split (a ∷ []) zero e h g = ([], ap (λ w. w ∷ []) g)
-last_split (a ∷ []) (suc k) e h g = absurd (omega arith)
-last_split (a ∷ b ∷ x) zero e h g = absurd (omega arith)
-last_split (a ∷ b ∷ x) (suc k) e h g =
-    let q : k + 1 ≡ length (b ∷ x) = omega arith in
-    let (t, r) = last_split (b ∷ x) k e q g in
-    (a ∷ t, ap (λ w. a ∷ w) r)
+pub turn_spent : (clauses : List (List Lit)) (learn : ℕ) (known : List (List Lit)) (level : ℕ) (t : List Entry) (log log2 : List Chain) (ch : Chain) → State clauses known level t log2 → log2 ≡ log ++ (ch ∷ []) → length log < learn → learn ≤ length log2 → IsSpent clauses learn log2
+turn_spent clauses learn known level t log log2 ch s is short big = ((s.results, s.new), omega (arith, ap length is, length-append log (ch ∷ []), short, big))
 
-pub jump_stop : (known : List (List Lit)) (low : ℕ) (old x : List Entry) (k : ℕ) (e : Entry) → Back known low old x → k + 1 ≡ length x → e ≡ get_or x k e → e.level ≤ low → (l : Lit) → Set x l → SetAt low x l
-jump_stop known low old x k e b h g le = let (t, is) = last_split x k e h (sym g) in back_all known low old x t e b is le
+pub turn_heavy : (clauses : List (List Lit)) (learn limit : ℕ) (known : List (List Lit)) (level : ℕ) (t : List Entry) (log log2 : List Chain) (ch : Chain) (pairs : ℕ) → State clauses known level t log2 → log2 ≡ log ++ (ch ∷ []) → pairs ≡ pairs_of log → pairs_of log < limit → length log2 < learn → limit ≤ pairs + length ch.pairs → IsHeavy clauses learn limit log2
+turn_heavy clauses learn limit known level t log log2 ch pairs s is counted light few big = (
+  (s.results, s.new),
+  few,
+  omega (arith, ap pairs_of is, pairs_push log ch, counted, big),
+  λ front last e. subst (λ w. pairs_of w < limit) (front_is log front ch last (sym is ∙ e)) light,
+)
 
-pub jump_pop : (known : List (List Lit)) (low : ℕ) (old x t : List Entry) (k : ℕ) (e : Entry) (r : Option Entry) → Back known low old x → k + 1 ≡ length x → e ≡ get_or x k e → low < e.level → x ≡ t ++ option_to_list r → Back known low old t
-jump_pop known low old x t k e None b h g lt is = subst (Back known low old) (is ∙ append-nil t) b
-jump_pop known low old x t k e (Some d) b h g lt is =
-    let (s, at) = last_split x k e h (sym g) in
-    let p = snoc_parts t s d e (sym is ∙ at) in
-    back_pop known low old x t d b is (subst (λ w. low < w.level) (sym p.1) lt)
+pub turn_counted : (log log2 : List Chain) (ch : Chain) (pairs total : ℕ) → log2 ≡ log ++ (ch ∷ []) → pairs ≡ pairs_of log → total ≡ pairs + length ch.pairs → total ≡ pairs_of log2
+turn_counted log log2 ch pairs total is counted t = omega (arith, ap pairs_of is, pairs_push log ch, counted, t)
 
-pub jump_empty : (low : ℕ) (x : List Entry) → length x ≡ 0 → (l : Lit) → Set x l → SetAt low x l
-jump_empty low [] h l s = s
-jump_empty low (a ∷ x) h l s = absurd (omega arith)
+pub turn_light : (log log2 : List Chain) (ch : Chain) (pairs limit : ℕ) → log2 ≡ log ++ (ch ∷ []) → pairs ≡ pairs_of log → pairs + length ch.pairs < limit → pairs_of log2 < limit
+turn_light log log2 ch pairs limit is counted small = omega (arith, ap pairs_of is, pairs_push log ch, counted, small)
 
--- levels on the way back
-pub jump_rises : (low : ℕ) (x t : List Entry) (k : ℕ) (e : Entry) (r : Option Entry) → k + 1 ≡ length x → e ≡ get_or x k e → low < e.level → x ≡ t ++ option_to_list r → RisesFrom 0 x → low ≤ last_level 0 x → RisesFrom 0 t × (low ≤ last_level 0 t)
-jump_rises low x t k e None h g lt is r le = let p : x ≡ t = is ∙ append-nil t in (subst (RisesFrom 0) p r, subst (λ w. low ≤ last_level 0 w) p le)
-jump_rises low x t k e (Some d) h g lt is r le =
-    let (s, at) = last_split x k e h (sym g) in
-    let p = snoc_parts t s d e (sym is ∙ at) in
-    let q = rises_pop 0 t d (subst (RisesFrom 0) is r) in
-    let l : low < d.level = subst (λ (w : Entry). low < w.level) (sym p.1) lt in
-    (q.0, omega (arith, q.2, l))
+pub turn_rests : (clauses : List (List Lit)) (vars : List ℕ) (rows rows2 : List (List ℕ)) (level : ℕ) (t : Trail) (log : List Chain) (clause : List ℕ) → rows2 ≡ rows ++ (clause ∷ []) → RowsFit vars rows → AllBelow (2 * length vars) clause → State clauses (known_of vars (rows ++ (clause ∷ []))) level (trail_entries vars t) log → IsLinked vars (rows ++ (clause ∷ [])) level t → Rests clauses vars rows2 level t log
+turn_rests clauses vars rows rows2 level t log clause is fit small s l = subst (λ w. Rests clauses vars w level t log) (sym is) (record {
+  state = s;
+  linked = l;
+  fit = λ k r g. elim (get_push rows clause k r g) [ inl p ↦ fit k r p.0 | inr p ↦ subst (AllBelow (2 * length vars)) (sym p.1) small ];
+})
 
-pub jump_level : (low : ℕ) (x : List Entry) (k : ℕ) (e : Entry) → k + 1 ≡ length x → e ≡ get_or x k e → e.level ≤ low → low ≤ last_level 0 x → last_level 0 x ≡ low
-jump_level low x k e h g le l =
-    let (s, at) = last_split x k e h (sym g) in
-    let q : last_level 0 x ≡ e.level = ap (last_level 0) at ∙ last_push 0 s e in
-    omega (arith, q, le, l)
+entries_length : (vars levels : List ℕ) (reasons : List (Option ℕ)) (xs : List ℕ) → length (entries_of vars levels reasons xs) ≡ length xs
+entries_length vars levels reasons [] = refl
+entries_length vars levels reasons (x ∷ xs) = ap suc (entries_length vars levels reasons xs)
 
-pub jump_nothing : (low : ℕ) (x : List Entry) → length x ≡ 0 → low ≤ last_level 0 x → last_level 0 x ≡ low
-jump_nothing low [] h l = omega (arith, l)
-jump_nothing low (a ∷ x) h l = absurd (omega arith)
+pub turn_deep : (vars : List ℕ) (t : Trail) (low : ℕ) → RisesFrom 0 (trail_entries vars t) × (last_level 0 (trail_entries vars t) ≡ low) → low ≤ length t.codes.items
+turn_deep vars t low r = let b = last_below 0 (trail_entries vars t) r.0 in omega (arith, b, r.1, entries_length vars t.levels.items t.reasons.items t.codes.items)
+
+-- a clause has a true literal, or none
+some_true : (t : List Entry) (c : List Lit) → ((m : Lit) × Has c m × Set t m) ⊎ ((m : Lit) → Has c m → Set t m → ⊥)
+some_true t [] = inr (λ m h s. both_ways false refl h)
+some_true t (x ∷ c) = elim (cases_Bool (set_in t x)) [
+  | inl a ↦ inl (x, Has-head x c, a)
+  | inr n ↦ elim (some_true t c) [
+    | inl (m, hm, sm) ↦ inl (m, Has-tail x c m hm, sm)
+    | inr f ↦ inr (λ m h s. elim (Has-cons x c m h) [ inl e ↦ both_ways (set_in t x) n (subst (λ w. Set t w) (sym e) s) | inr b ↦ f m b s ])
+  ]
+]
+
+pub turn_met : (clauses known : List (List Lit)) (level level2 : ℕ) (t t2 : List Entry) (log : List Chain) (met : List ℕ) → State clauses known level t log → Holds known level2 t2 → ((c : List Lit) → In known c → ((l : Lit) → Has c l → Set t2 l → ⊥) → c ≡ []) → met ≡ trues_of t2 → all_hold (listed met) clauses ≡ true
+turn_met clauses known level level2 t t2 log met s h stop is = met_answer t2 met met clauses is (λ v. refl) (done_meets t2 clauses (quiet_trail known t2 h.ok) (λ c hc. (let (d, hd, q) = same_clause known (clauses ++ s.results) c s.parts (In-left clauses s.results c hc) in
+    elim (some_true t2 d) [
+      | inl (m, hm, sm) ↦ (m, q.to m hm, sm)
+      | inr f ↦ absurd (s.some d hd (stop d hd f))
+    ])))

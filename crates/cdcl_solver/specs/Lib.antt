@@ -1,4 +1,4 @@
-pub mod Trail
-pub mod Covers
-pub mod Solve
-pub mod Cuts
+pub mod Stops
+pub mod Learning
+pub mod Opening
+pub mod Search

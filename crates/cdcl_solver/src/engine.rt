@@ -1,25 +1,22 @@
 //! The search: propagate, decide, and learn from each conflict, until an answer stands.
 
-ghost use Rattle.std.specs.Prelude.{◌≡◌, ℕ, ◌+◌, ◌-◌, ◌++◌, ◌∷◌, [], ◌<◌, ◌≤◌, ◌^◌, length, IfOk, Some, None, List, slice_get, true, false, MatchOption, MatchResult};
+ghost use Rattle.std.specs.Prelude.{◌≡◌, ℕ, ◌+◌, ◌*◌, ◌<◌, ◌≤◌, length, IfOk, Some, None, List, [], slice_get, true, false, MatchOption, MatchResult};
 ghost use Rattle.prop.specs.declared.Lit.{Lit};
-ghost use Rattle.prop.specs.Steps.{In, Has};
-ghost use Rattle.prop.specs.Trues.{listed};
-ghost use Rattle.resolution_log.specs.Codes.{CoversAll, Covers};
-ghost use Rattle.cdcl_solver.specs.Trail.{below_of, Going, Back, Set, SetAt, Holds};
-ghost use Rattle.cdcl_solver.specs.Covers.{RisesFrom, last_level};
-ghost use Rattle.cdcl_solver.specs.Solve.{StateOf, IsTurn, IsEnding, IsLonger, IsStop, IsAnswer, IsFail, trues_of};
+ghost use Rattle.prop.specs.Steps.{In};
+ghost use Rattle.clause_learning.specs.Solve.{IsAnswer, IsFail, IsRefuted, trues_of};
+ghost use Rattle.watched_clauses.specs.Kept.{IsFalse};
+ghost use Rattle.cdcl_solver.specs.Stops.{IsStop, trail_entries};
+ghost use Rattle.cdcl_solver.specs.Search.{StateOf, Rests, IsTurn, IsEnding, IsLonger};
 
-use crate::analysis::{all_below, analyze};
-use crate::cone::trimmed;
-use crate::scan::scan;
-use crate::trail::{Entry, Found, Trail};
-use crate::{Answer, Known, SolveFail};
-use prop::{Assignment, Clauses, Lit};
-use resolution_log::{Chain, Log, Pairs, variables};
+use crate::board::{Board, Settled, Stop, go_back, settle};
+use crate::learning::{add_watch, what_to_watch};
+use crate::opening::{set_units, watch_all};
+use clause_learning::{Answer, MOST_PAIRS, SolveFail, trimmed};
+use conflict_analysis::{Notes, analyze};
+use dense_trail::Trail;
+use prop::{Assignment, Clauses};
+use resolution_log::{Chain, Log, Pairs, Rows, coded, variables};
 use std::alloc::{AllocError, Global};
-
-/// The most pairs that a log may have is one less than this.
-pub const MOST_PAIRS: u64 = 134_217_728;
 
 // There are fewer clauses than this, so that each is named by 32 bits.
 const MOST_CLAUSES: usize = 0xffff_ffff;
@@ -27,12 +24,12 @@ const MOST_CLAUSES: usize = 0xffff_ffff;
 /// The whole state between two conflicts.
 #[derive(Drop)]
 pub struct Solver {
-    /// The clauses given, and those learned after them.
-    pub known: Known,
-    /// The literals that are true.
-    pub trail: Trail,
-    /// How many decisions stand.
-    pub level: usize,
+    /// The variables that occur, rising; a variable's number is its place.
+    pub vars: Vec<u32>,
+    /// The clauses with what they watch, and the trail.
+    pub board: Board,
+    /// The clause so far, while a conflict is analysed.
+    pub notes: Notes,
     /// A chain for each learned clause.
     pub log: Log,
     /// How many pairs the log has.
@@ -42,8 +39,8 @@ pub struct Solver {
 /// How a search ends.
 #[derive(Drop)]
 pub enum Ending {
-    /// The trail meets every clause.
-    Met(Trail),
+    /// These variables are true, and all others false, in an assignment that meets every clause.
+    Met(Vec<u32>),
     /// The log refutes the clauses.
     Refuted(Log),
     /// The log has as many chains as were allowed.
@@ -52,72 +49,29 @@ pub enum Ending {
     Heavy(Log),
 }
 
-/// Where propagation stops.
-#[derive(Clone, Copy)]
-pub enum Stop {
-    /// Every clause has a true literal.
-    AllMet,
-    /// All literals of the clause with this number are false.
-    Clash(u32),
-}
-
 /// What a turn of the search leaves.
 #[derive(Drop)]
 pub enum Turn {
-    /// A clause was learned, and the search goes on.
+    /// The search goes on.
     On(Solver),
     /// The search is over.
     Over(Ending),
 }
 
-// The least level at which all literals but one are false.
-fn least_level(level: usize, trail: &Trail, uip: Lit, clause: &[Lit]) -> usize
-    requires deep { 0 < level }
-    requires below { below_of (level - 1) trail.now.entries.items uip clause.now ≡ true }
-    ensures at { below_of result trail.now.entries.items uip clause.now ≡ true }
-    ensures least { (k : ℕ) → k < result → below_of k trail.now.entries.items uip clause.now ≡ false }
-    ensures within { result < level }
-{
-    for k in 0..level - 1 {
-        if all_below(k, trail, uip, clause) {
-            return k;
-        }
-    }
-    level - 1
-}
-
-// Goes back to a level.
-fn jump(trail: &mut Trail, low: usize)
-    requires rises { RisesFrom 0 trail.old.entries.items }
-    requires low { low ≤ last_level 0 trail.old.entries.items }
-    ensures back { (known : List (List Lit)) → Back known low trail.old.entries.items trail.old.entries.items → Back known low trail.old.entries.items trail.new.entries.items × ((l : Lit) → Set trail.new.entries.items l → SetAt low trail.new.entries.items l) }
-    ensures rises { RisesFrom 0 trail.new.entries.items }
-    ensures level { last_level 0 trail.new.entries.items ≡ low }
-    ensures vars { trail.new.vars.items ≡ trail.old.vars.items }
-{
-    while trail.entries.len() > 0 {
-        let e = trail.entries[trail.entries.len() - 1];
-        if e.level <= low {
-            return;
-        }
-        let _ = trail.pop();
-    }
-}
-
 // The number of the next clause, which has 32 bits.
-fn next_number(known: &Known) -> Result<u32, AllocError>
-    ensures value { IfOk result (λ n. n ≡ length known.now) }
+fn next_number(rows: &Rows) -> Result<u32, AllocError>
+    ensures value { IfOk result (λ n. n ≡ length rows.now) }
     ensures few { IfOk result (λ n. n < 4294967295) }
 {
-    let number = known.len();
+    let number = rows.len();
     if number >= MOST_CLAUSES {
         return Err(AllocError);
     }
     Ok(number as u32)
 }
 
-// Learns from the conflict in the clause with this number.
-fn on_conflict(
+// Learns from the conflict in the clause with this number, above the lowest level.
+fn learn_from(
     alloc: Global,
     clauses: &Clauses,
     s: Solver,
@@ -126,39 +80,41 @@ fn on_conflict(
     k: u32,
 ) -> Result<Turn, AllocError>
     requires state { StateOf clauses.now learn limit s }
-    requires index { k < length s.known }
-    requires begin { (d : List Lit) → slice_get s.known k ≡ Some d → Going s.known s.level s.trail.entries.items k d [] }
+    requires deep { 0 < s.board.level }
+    requires clash { IsFalse s.board.rows s.board.trail k }
     requires small { limit ≤ 134217728 }
     ensures turn { IfOk result (IsTurn clauses.now learn limit) }
     ensures longer { IfOk result (IsLonger s.log) }
 {
     let Solver {
-        mut known,
-        mut trail,
-        level,
+        vars,
+        board,
+        mut notes,
         mut log,
         pairs,
     } = s;
-    let a = analyze(alloc, &known, &mut trail, level, k)?;
+    let Board {
+        mut rows,
+        mut watches,
+        mut lists,
+        mut trail,
+        level,
+        ..
+    } = board;
+    let a = analyze(alloc, &vars, &rows, &trail, level, &mut notes, k)?;
     let total = pairs + a.pairs.len() as u64;
-    let chain = Chain {
+    let Some(uip) = a.uip else { unreachable!() };
+    let found = what_to_watch(&trail, notes.learnt.as_slice(), uip);
+    go_back(&mut trail, found.low);
+    let head = trail.codes.len();
+    let number = next_number(&rows)?;
+    trail.push(uip, found.low, Some(number))?;
+    add_watch(&mut watches, &mut lists, found.watch, number)?;
+    rows.push(notes.learnt.as_slice())?;
+    log.push(Chain {
         first: k,
         pairs: a.pairs,
-    };
-    let Some(u) = a.uip else {
-        log.push(chain)?;
-        return Ok(Turn::Over(Ending::Refuted(log)));
-    };
-    let low = least_level(level, &trail, u, a.clause.as_slice());
-    jump(&mut trail, low);
-    let number = next_number(&known)?;
-    trail.push(Entry {
-        lit: u,
-        level: low,
-        reason: Some(number),
     })?;
-    known.push(a.clause.as_slice())?;
-    log.push(chain)?;
     if log.len() as u64 >= learn {
         return Ok(Turn::Over(Ending::Learned(log)));
     }
@@ -166,56 +122,59 @@ fn on_conflict(
         return Ok(Turn::Over(Ending::Heavy(log)));
     }
     Ok(Turn::On(Solver {
-        known,
-        trail,
-        level: low,
+        vars,
+        board: Board {
+            rows,
+            watches,
+            lists,
+            trail,
+            head,
+            level: found.low,
+        },
+        notes,
         log,
         pairs: total,
     }))
 }
 
-// Propagates and decides until a clause is false or all are met.
-fn settle(known: &Known, trail: &mut Trail, level: &mut usize) -> Result<Stop, AllocError>
-    requires few { length known.now < 4294967296 }
-    requires holds { Holds known.now level.old trail.old.entries.items }
-    requires rises { RisesFrom 0 trail.old.entries.items }
-    requires level { last_level 0 trail.old.entries.items ≡ level.old }
-    requires covers { CoversAll trail.old.vars.items known.now }
-    ensures holds { IfOk result (λ _. Holds known.now level.new trail.new.entries.items) }
-    ensures stop { IfOk result (IsStop known.now trail.new.entries.items) }
-    ensures rises { IfOk result (λ _. RisesFrom 0 trail.new.entries.items) }
-    ensures level { IfOk result (λ _. last_level 0 trail.new.entries.items ≡ level.new) }
-    ensures vars { IfOk result (λ _. trail.new.vars.items ≡ trail.old.vars.items) }
+// Refutes by a conflict at the lowest level, in the clause with this number.
+fn refute(
+    alloc: Global,
+    clauses: &Clauses,
+    vars: &[u32],
+    rows: &Rows,
+    trail: &Trail,
+    notes: &mut Notes,
+    mut log: Log,
+    learn: u64,
+    k: u32,
+) -> Result<Ending, AllocError>
+    requires state { Rests clauses.now vars.now rows.now 0 trail.now log }
+    requires short { length log < learn }
+    requires stamps { length notes.old.stamps.items ≡ length vars.now }
+    requires clash { IsFalse rows.now trail.now k }
+    ensures { IfOk result (λ e. (limit : ℕ) → IsEnding clauses.now learn limit e) }
 {
-    let mut at = *level;
-    'search: loop {
-        match scan(trail, known) {
-            Found::Conflict(k) => {
-                *level = at;
-                return Ok(Stop::Clash(k));
-            }
-            Found::Implied(k, l) => {
-                trail.push(Entry {
-                    lit: l,
-                    level: at,
-                    reason: Some(k),
-                })?;
-            }
-            Found::Free(l) => {
-                let next = at + 1;
-                trail.push(Entry {
-                    lit: l,
-                    level: next,
-                    reason: None,
-                })?;
-                at = next;
-            }
-            Found::Done => {
-                *level = at;
-                return Ok(Stop::AllMet);
-            }
+    let a = analyze(alloc, vars, rows, trail, 0, notes, k)?;
+    log.push(Chain {
+        first: k,
+        pairs: a.pairs,
+    })?;
+    Ok(Ending::Refuted(log))
+}
+
+// The variables that the trail makes true.
+fn trues(alloc: Global, vars: &[u32], trail: &Trail) -> Result<Vec<u32>, AllocError>
+    requires { length trail.now.levels.items ≡ length vars.now }
+    ensures { IfOk result (λ r. r.items ≡ trues_of (trail_entries vars.now trail.now)) }
+{
+    let mut out = Vec::new(alloc);
+    for code in trail.codes.as_slice() {
+        if *code % 2 == 0 {
+            out.push(vars[(*code / 2) as usize])?;
         }
     }
+    Ok(out)
 }
 
 // To the next conflict, and over it.
@@ -232,28 +191,42 @@ fn round(
     ensures longer { IfOk result (IsLonger s.log) }
 {
     let Solver {
-        known,
-        mut trail,
-        mut level,
+        vars,
+        board,
+        mut notes,
         log,
         pairs,
     } = s;
-    match settle(&known, &mut trail, &mut level)? {
-        Stop::AllMet => Ok(Turn::Over(Ending::Met(trail))),
-        Stop::Clash(k) => on_conflict(
-            alloc,
-            clauses,
-            Solver {
-                known,
-                trail,
-                level,
+    let Settled { board, stop } = settle(board)?;
+    match stop {
+        Stop::AllMet => {
+            let met = trues(alloc, &vars, &board.trail)?;
+            Ok(Turn::Over(Ending::Met(met)))
+        }
+        Stop::Clash(k) => {
+            if board.level == 0 {
+                let ending = refute(
+                    alloc,
+                    clauses,
+                    &vars,
+                    &board.rows,
+                    &board.trail,
+                    &mut notes,
+                    log,
+                    learn,
+                    k,
+                )?;
+                return Ok(Turn::Over(ending));
+            }
+            let next = Solver {
+                vars,
+                board,
+                notes,
                 log,
                 pairs,
-            },
-            learn,
-            limit,
-            k,
-        ),
+            };
+            learn_from(alloc, clauses, next, learn, limit, k)
+        }
     }
 }
 
@@ -268,42 +241,41 @@ fn find_empty(clauses: &Clauses) -> Option<u32>
     None
 }
 
-fn copy_all(alloc: Global, clauses: &Clauses) -> Result<Known, AllocError>
-    ensures { IfOk result (λ known. known ≡ clauses.now) }
-{
-    let mut known = Known::new(alloc);
-    for number in 0..clauses.len() {
-        known.push(clauses.clause(number))?;
-    }
-    Ok(known)
-}
-
-// The state before the first decision.
-fn start(alloc: Global, clauses: &Clauses, learn: u64, limit: u64) -> Result<Solver, AllocError>
+// The state before the first decision, or a refutation by clauses of one literal.
+fn open(alloc: Global, clauses: &Clauses, learn: u64, limit: u64) -> Result<Turn, AllocError>
     requires learn { 0 < learn }
     requires limit { 0 < limit }
     requires some { (c : List Lit) → In clauses.now c → c ≡ [] → ⊥ }
-    ensures state { IfOk result (StateOf clauses.now learn limit) }
+    ensures { IfOk result (IsTurn clauses.now learn limit) }
 {
     let _ = clauses.len();
     let vars = variables(alloc, clauses)?;
-    let truth = vec![in alloc; false; 2 * vars.len()]?;
-    let levels = vec![in alloc; 0usize; vars.len()]?;
-    let known = copy_all(alloc, clauses)?;
-    let entries = Vec::new(alloc);
+    let rows = coded(alloc, &vars, clauses)?;
+    let made = watch_all(alloc, &rows, 2 * vars.len())?;
+    let mut trail = Trail::new(alloc, vars.len())?;
+    let mut notes = Notes::new(alloc, vars.len())?;
     let log = Log::new(alloc);
-    Ok(Solver {
-        known,
-        trail: Trail {
-            vars,
-            entries,
-            truth,
-            levels,
+    let clash = set_units(&rows, &made.watches, &mut trail)?;
+    if let Some(k) = clash {
+        let ending = refute(
+            alloc, clauses, &vars, &rows, &trail, &mut notes, log, learn, k,
+        )?;
+        return Ok(Turn::Over(ending));
+    }
+    Ok(Turn::On(Solver {
+        vars,
+        board: Board {
+            rows,
+            watches: made.watches,
+            lists: made.lists,
+            trail,
+            head: 0,
+            level: 0,
         },
-        level: 0,
+        notes,
         log,
         pairs: 0,
-    })
+    }))
 }
 
 // Searches until an answer stands.
@@ -319,25 +291,16 @@ fn search(alloc: Global, clauses: &Clauses, learn: u64, limit: u64) -> Result<En
         log.push(Chain { first, pairs })?;
         return Ok(Ending::Refuted(log));
     }
-    let mut s = start(alloc, clauses, learn, limit)?;
+    let mut s = match open(alloc, clauses, learn, limit)? {
+        Turn::Over(ending) => return Ok(ending),
+        Turn::On(next) => next,
+    };
     'rounds: loop {
         match round(alloc, clauses, s, learn, limit)? {
             Turn::Over(ending) => return Ok(ending),
             Turn::On(next) => s = next,
         }
     }
-}
-
-fn trues(alloc: Global, entries: &[Entry]) -> Result<Vec<u32>, AllocError>
-    ensures { IfOk result (λ vars. vars.items ≡ trues_of entries.now) }
-{
-    let mut vars = Vec::new(alloc);
-    for e in entries {
-        if e.lit.positive {
-            vars.push(e.lit.var)?;
-        }
-    }
-    Ok(vars)
 }
 
 // The answer that an ending is. A refutation is cut to what it needs.
@@ -352,10 +315,7 @@ fn answer_of(
     ensures { MatchResult result (IsAnswer clauses.now learn) (IsFail clauses.now learn limit) }
 {
     match ending {
-        Ending::Met(trail) => match trues(alloc, trail.entries.as_slice()) {
-            Ok(vars) => Ok(Answer::Sat(Assignment::from_trues(vars))),
-            Err(_) => Err(SolveFail::Memory),
-        },
+        Ending::Met(vars) => Ok(Answer::Sat(Assignment::from_trues(vars))),
         Ending::Refuted(log) => match trimmed(alloc, clauses, &log) {
             Ok(needed) => Ok(Answer::Unsat(needed)),
             Err(_) => Err(SolveFail::Memory),

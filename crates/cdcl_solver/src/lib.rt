@@ -1,53 +1,18 @@
 //! Clause learning: every answer is an assignment, a lean refutation, or a log of new clauses.
 //!
-//! The search is that of J. Marques-Silva and K. Sakallah (GRASP, 1999) with the first unique implication points of
-//! L. Zhang and others (Efficient Conflict Driven Learning, 2001). Propagation scans all clauses: this is the plain
-//! body, behind contracts that a faster one meets too.
+//! The search is that of J. Marques-Silva and K. Sakallah (GRASP, 1999), with watched literals (M. Moskewicz and others,
+//! Chaff, 2001) and first unique implication points. Clauses are never deleted, and nothing is preprocessed.
 #![tactic(auto)]
 
-mod analysis;
-mod cone;
+mod board;
 mod engine;
-mod known;
-mod scan;
+mod learning;
+mod opening;
 #[cfg(test)]
 mod tests;
-mod trail;
 
-pub use analysis::{Analysis, analyze};
-pub use engine::{Ending, MOST_PAIRS, Solver, Stop, Turn, solve, solve_within};
-pub use known::Known;
-use prop::Assignment;
-use resolution_log::Log;
-pub use trail::{Entry, Found, Look, Trail};
-
-/// What a query answers.
-#[derive(Drop)]
-pub enum Answer {
-    /// An assignment that satisfies all clauses.
-    Sat(Assignment),
-    /// A lean refutation.
-    Unsat(Log),
-    /// A new log of as many chains as were allowed.
-    Spent(Log),
-}
-
-/// Why a query has no answer.
-#[derive(Drop)]
-pub enum SolveFail {
-    /// A new log whose pairs reach the limit with its last chain.
-    OverLog(Log),
-    /// Memory ran out, or a number of 32 bits does.
-    Memory,
-}
-
-/// Why a question that is first made into clauses has no answer.
-#[derive(Drop)]
-pub enum QueryFail {
-    /// The clauses would have this many literals, more than are allowed.
-    Over(u64),
-    /// A new log whose pairs reach the limit with its last chain.
-    OverLog(Log),
-    /// Memory ran out, or a number of 32 bits does.
-    Memory,
-}
+pub use board::{Board, Settled, Stop, go_back, settle};
+pub use clause_learning::{Answer, MOST_PAIRS, QueryFail, SolveFail};
+pub use engine::{Ending, Solver, Turn, solve, solve_within};
+pub use learning::{Highest, add_watch, what_to_watch};
+pub use opening::{Watches, set_units, watch_all};

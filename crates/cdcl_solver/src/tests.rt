@@ -1,6 +1,7 @@
 //! Small sets of clauses with forced answers; each refutation goes through the checker.
 
-use crate::{Answer, SolveFail, solve, solve_within};
+use crate::{solve, solve_within};
+use clause_learning::{Answer, SolveFail};
 use prop::{Clauses, Lit};
 use resolution_log::check_log;
 use std::alloc::Global;
@@ -146,6 +147,33 @@ fn pigeons(rt: HostRuntime) -> Result<(), Fail> {
         assert!(rt; limit > 0 && limit < 1000000);
         let got = solve_within(rt.alloc(), &clauses, 1000000, limit);
         assert!(rt; kind(rt.alloc(), &clauses, got) == Some(want));
+    }
+    Ok(())
+}
+
+// Both bodies answer alike, and each refutation goes through the checker.
+#[test]
+fn both_bodies(rt: HostRuntime) -> Result<(), Fail> {
+    let rows: [&[&[i64]]; 5] = [
+        &[&[1, 2], &[-1, 3]],
+        &[&[1], &[-1]],
+        SQUARE,
+        PIGEONS,
+        &[&[4294967295, -4294967295], &[9, 9], &[-9, -9, 4]],
+    ];
+    for set in rows {
+        let clauses = clauses_of(&rt, rt.alloc(), set)?;
+        let fast = solve(rt.alloc(), &clauses, 1000);
+        let plain = plain_solver::solve(rt.alloc(), &clauses, 1000);
+        let answer = kind(rt.alloc(), &clauses, fast);
+        assert!(rt; answer.is_some() && answer == kind(rt.alloc(), &clauses, plain));
+    }
+    for (pigeons, holes) in [(3, 3), (4, 3), (5, 4), (4, 5)] {
+        let clauses = pigeonhole(&rt, rt.alloc(), pigeons, holes)?;
+        let fast = solve(rt.alloc(), &clauses, 100000);
+        let plain = plain_solver::solve(rt.alloc(), &clauses, 100000);
+        let answer = kind(rt.alloc(), &clauses, fast);
+        assert!(rt; answer.is_some() && answer == kind(rt.alloc(), &clauses, plain));
     }
     Ok(())
 }

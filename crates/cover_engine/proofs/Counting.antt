@@ -11,7 +11,7 @@ use Rattle.cover_engine.proofs.Subtrees.{all_append, below_inside, below_times, 
 
 -- covered vertices are those with a count
 
-eq_turned : (a b : ℕ) → nat_eq a b ≡ nat_eq b a
+pub eq_turned : (a b : ℕ) → nat_eq a b ≡ nat_eq b a
 eq_turned a b = elim (cases_eq a b) [
   | inl is ↦ eq-eqb a b is ∙ sym (eq-eqb b a (sym is))
   | inr ne ↦ ne_eqb a b ne ∙ sym (ne_eqb b a (λ e. ne (sym e)))

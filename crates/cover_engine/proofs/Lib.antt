@@ -4,6 +4,7 @@ pub mod UnitLemmas
 pub mod RefineLemmas
 pub mod Subtrees
 pub mod Counting
+pub mod Onto
 pub mod Growing
 pub mod LastSettled
 pub mod Labelling

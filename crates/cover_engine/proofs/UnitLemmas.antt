@@ -1,12 +1,12 @@
 -- What the calls of an unwinding need and keep.
-use Rattle.std.proofs.Common.{◌≡◌, ◌<◌, ◌∙◌, ℕ, ap, length, slice_index_or, ◌++◌, reverse, List, [], ◌∷◌, sym, refl, subst, Bool, true, false, ◌&&◌}
+use Rattle.std.proofs.Common.{◌≡◌, ◌<◌, ◌∙◌, ℕ, ap, length, slice_index_or, ◌++◌, reverse, List, [], ◌∷◌, sym, refl, subst, Bool, true, false, not, ◌&&◌, ◌==◌}
 use Rattle.c_graph.specs.Shape.{Flow}
 use Rattle.reach_tree.specs.declared.vertex.VertexId.{VertexId}
 use Rattle.std.proofs.lemmas.List.{get_or_default}
 use Rattle.reach_tree.specs.declared.vertex.Vertex.{Vertex}
 use Rattle.reach_tree.specs.Trees.{root_at, vertex_at}
 use Rattle.cover_engine.specs.declared.unit.UnitDone.{UnitDone}
-use Rattle.cover_engine.specs.Unwindings.{Pair, Unwound, path_of, is_none, is_open_leaf}
+use Rattle.cover_engine.specs.Unwindings.{Pair, Unwound, has, is_above, is_covered, may_pair, path_of, is_none, is_open_leaf, same, yes_since}
 use Rattle.bv_term.specs.declared.term.TermId.{TermId}
 use Rattle.bv_term.specs.WellFormed.{Table}
 use Rattle.cover_engine.specs.declared.unit.Apart.{Apart}
@@ -17,6 +17,10 @@ use Rattle.cover_engine.proofs.Legality.{legal-unit}
 and-left : (a b : Bool) → (a && b) ≡ true → a ≡ true
 and-left true b h = refl
 and-left false b h = absurd (cc)
+
+and-right : (a b : Bool) → (a && b) ≡ true → b ≡ true
+and-right true b h = h
+and-right false b h = absurd (cc)
 
 none-nil : {A : Type 0} (xs : List A) → is_none xs ≡ true → xs ≡ []
 none-nil [] h = refl
@@ -60,3 +64,16 @@ made_refine vs ws table table' ps kept js ks others v fs old is a t ke ends =
     ∙ ap (λ (y : Table). let u : Unwound = record { vertices = refined_along table vs (path_of vs v) (reverse fs); terms = y; pairs = kept; journal = ks; apart = others } in u) t
     ∙ made (refined_along table vs (path_of vs v) (reverse fs)) table kept (pairs_but_onto (strengthened_along table vs (path_of vs v) (reverse fs)) ps) ks (js ++ Refine v fs ∷ []) others ke ends
     ∙ ap (λ (u : Unwound). after_refine u v fs) is
+
+-- the left side of a pair is no ancestor of the right
+pub pair-apart : (u : Unwound) (v w : VertexId) → may_pair u v w ≡ true → has v.0 (path_of u.vertices w) ≡ false
+pair-apart u v w h =
+    let five = and-right (not (same v w)) _ h in
+    let four = and-right ((vertex_at u.vertices v.0).node.0 == (vertex_at u.vertices w.0).node.0) _ five in
+    let three = and-right (not (is_covered u v)) _ four in
+    let two = and-right (not (is_covered u w)) _ three in
+    above (has v.0 (path_of u.vertices w)) (and-left (not (is_above u.vertices v w)) (not (yes_since false u.journal v w)) two)
+  where
+    above : (b : Bool) → not b ≡ true → b ≡ false
+    above true e = absurd (cc)
+    above false e = refl

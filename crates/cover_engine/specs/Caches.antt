@@ -1,5 +1,5 @@
 -- What an unwinding keeps beside its parts, so that questions about it are look-ups.
-use Rattle.std.specs.Prelude.{ℕ, ◌+◌, ◌<◌, ◌≡◌, ◌==◌, Bool, true, false, List, [], ◌∷◌, ◌++◌, zero, suc, length, All, Option, None, Some, slice_index, if◌then◌else◌}
+use Rattle.std.specs.Prelude.{ℕ, ◌+◌, ◌<◌, ◌≡◌, ◌==◌, ◌||◌, Bool, true, false, nat_lt, List, [], ◌∷◌, ◌++◌, zero, suc, length, All, Option, None, Some, slice_index, if◌then◌else◌}
 use Rattle.reach_tree.specs.declared.vertex.VertexId.{VertexId}
 use Rattle.reach_tree.specs.declared.vertex.Vertex.{Vertex}
 use Rattle.reach_tree.specs.Trees.{vertex_at}
@@ -72,6 +72,20 @@ pairs_under vs v (p ∷ ps) = if has v.0 (path_of vs p.1) then p ∷ pairs_under
 abbrev pub pairs_onto : List ℕ → List Pair → List Pair
 pairs_onto ws [] = []
 pairs_onto ws (p ∷ ps) = if has p.1.0 ws then p ∷ pairs_onto ws ps else pairs_onto ws ps
+
+-- the numbers of the right sides of pairs
+abbrev pub rights : List Pair → List ℕ
+rights [] = []
+rights (p ∷ ps) = p.1.0 ∷ rights ps
+
+-- for each number, how many pairs are onto its vertex
+abbrev pub AreOnto : List Pair → List ℕ → Type 0
+AreOnto ps counts = (z : ℕ) → slice_index counts z ≡ times z (rights ps)
+
+-- some pair is onto one of these vertices
+abbrev pub lead_onto : List Pair → List ℕ → Bool
+lead_onto ps [] = false
+lead_onto ps (x ∷ xs) = nat_lt 0 (times x (rights ps)) || lead_onto ps xs
 
 -- both sides of each pair are there
 abbrev pub AreInside : List Vertex → List Pair → Type 0

@@ -3,6 +3,7 @@
 
 mod covering;
 mod look_up;
+mod pairs;
 mod refinement;
 mod settling;
 mod unit;

@@ -1,16 +1,14 @@
 //! Look-ups over the parts of an unwinding. They take no memory.
-ghost use Rattle.std.specs.Prelude.{◌≡◌, ◌<◌, ◌||◌, length, false, slice_get, IfOk};
-ghost use Rattle.cover_engine.specs.Units.{apart_now, pairs_but_under};
+ghost use Rattle.std.specs.Prelude.{◌≡◌, ◌<◌, ◌||◌, length, false, slice_get};
+ghost use Rattle.cover_engine.specs.Units.{apart_now};
 ghost use Rattle.reach_tree.specs.Trees.{vertex_at};
 ghost use Rattle.cover_engine.specs.Unwindings.{has, is_end, is_false_term, path_up, some_false};
-ghost use Rattle.cover_engine.specs.Caches.{AreInside, IsFamily};
+ghost use Rattle.cover_engine.specs.Caches.{IsFamily};
 
 use crate::unit::Apart;
 use bv_term::{Term, TermId, Terms};
 use c_graph::Node;
-use lv_base::Memory;
 use reach_tree::{Vertex, VertexId};
-use std::alloc::Global;
 
 /// The parent of the vertex of this number, none past the end.
 pub fn parent_of(vertices: &[Vertex], v: usize) -> Option<VertexId>
@@ -103,24 +101,4 @@ pub fn entry_of(vertices: &[Vertex], v: VertexId, w: VertexId) -> Apart
         left_version: vertices[v.0 as usize].version,
         right_version: vertices[w.0 as usize].version,
     }
-}
-
-/// The pairs whose right side is neither the vertex nor below it.
-pub fn pairs_kept(
-    alloc: Global,
-    vertices: &[Vertex],
-    v: VertexId,
-    pairs: &[(VertexId, VertexId)],
-) -> Result<Vec<(VertexId, VertexId)>, Memory>
-    requires family { IsFamily vertices.now }
-    requires inside { AreInside vertices.now pairs.now }
-    ensures { IfOk result (λ r. r.items ≡ pairs_but_under vertices.now v pairs.now) }
-{
-    let mut kept = Vec::new(alloc);
-    for pair in pairs {
-        if !above_at(vertices, v.0 as usize, pair.1.0 as usize) {
-            kept.push(*pair)?;
-        }
-    }
-    Ok(kept)
 }

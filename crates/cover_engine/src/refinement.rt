@@ -2,7 +2,7 @@
 ghost use Rattle.std.specs.Prelude.{ℕ, ◌≡◌, ◌<◌, All, length, reverse, IfOk};
 ghost use Rattle.reach_tree.specs.Trees.{vertex_at};
 ghost use Rattle.cover_engine.specs.Unwindings.{has, is_true_term, path_of};
-ghost use Rattle.cover_engine.specs.Units.{numbers_of, pairs_but_onto, strengthens};
+ghost use Rattle.cover_engine.specs.Units.{numbers_of, strengthens};
 ghost use Rattle.cover_engine.specs.Caches.{IsFamily};
 ghost use Rattle.cover_engine.specs.Settlings.{version_at};
 ghost use Rattle.cover_engine.specs.Keeping.{label_with, labelled, new_labels_of};
@@ -147,21 +147,4 @@ pub fn labelled_by(alloc: Global, labels: &[NewLabel]) -> Result<Vec<u32>, Memor
         numbers.push(label.vertex.0)?;
     }
     Ok(numbers)
-}
-
-/// The pairs whose right side is none of these vertices.
-pub fn pairs_but(
-    alloc: Global,
-    vertices: &[u32],
-    pairs: &[(VertexId, VertexId)],
-) -> Result<Vec<(VertexId, VertexId)>, Memory>
-    ensures { IfOk result (λ r. r.items ≡ pairs_but_onto vertices.now pairs.now) }
-{
-    let mut kept = Vec::new(alloc);
-    for pair in pairs {
-        if !has_number(vertices, pair.1.0) {
-            kept.push(*pair)?;
-        }
-    }
-    Ok(kept)
 }

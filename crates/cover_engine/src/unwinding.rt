@@ -9,8 +9,9 @@ ghost use Rattle.cover_engine.specs.Unwindings.{is_complete, is_covered, is_open
 ghost use Rattle.cover_engine.specs.Settlings.{same_sides};
 ghost use Rattle.cover_engine.specs.Units.{CanCover, CanExpand, CanPart, CanRefine, Legal, after_cover, after_expand, after_part, after_refine, start};
 
-use crate::covering::{Falling, below_of, falling_onto, falling_under, lower, raise};
+use crate::covering::{below_lefts_of, below_of, lower, raise};
 use crate::look_up::{above_at, closed_at, entry_of};
+use crate::pairs::Pairs;
 use crate::refinement::{labelled_by, labels_along};
 use crate::settling::{Settling, Sides, apart_since, apart_with, covered_now, covered_since};
 use crate::unit::{Apart, FormulaList, UnitDone};
@@ -29,7 +30,7 @@ use std::marker::Model;
 #[derive(Drop)]
 pub struct Unwinding {
     tree: Tree,
-    pairs: Vec<(VertexId, VertexId)>,
+    pairs: Pairs,
     journal: Vec<UnitDone>,
     apart: Vec<Apart>,
     covers: Vec<u32>,
@@ -46,12 +47,12 @@ impl Model for Unwinding {
     ghost view = { λ u. record {
       vertices = u.tree.vertices;
       terms = u.tree.terms;
-      pairs = u.pairs.items;
+      pairs = u.pairs;
       journal = u.journal.items;
       apart = u.apart.items;
     } };
 
-    ghost invariant = { λ u. IsKept u.tree.vertices u.pairs.items u.journal.items u.apart.items u.covers.items u.refines u.settled };
+    ghost invariant = { λ u. IsKept u.tree.vertices u.pairs u.journal.items u.apart.items u.covers.items u.refines u.settled };
 }
 
 impl Unwinding {
@@ -65,7 +66,7 @@ impl Unwinding {
         let covers = [0].to_vec(alloc)?;
         Ok(Unwinding {
             tree,
-            pairs: Vec::new(alloc),
+            pairs: Pairs::new(alloc),
             journal: Vec::new(alloc),
             apart: Vec::new(alloc),
             covers,
@@ -92,7 +93,7 @@ impl Unwinding {
     pub fn pairs(&self) -> &[(VertexId, VertexId)]
         ensures { result.now ≡ self.now.pairs }
     {
-        &self.pairs
+        self.pairs.as_slice()
     }
 
     /// The units that made it, in order.
@@ -225,12 +226,12 @@ impl Unwinding {
         }
         let labels = labels_along(alloc, &self.tree, v, formulas.as_slice())?;
         let strengthened = labelled_by(alloc, &labels)?;
-        let falling = falling_onto(alloc, self.tree.vertices(), &strengthened, &self.pairs)?;
-        let Falling { kept, lowered } = falling;
+        let fallen = self.pairs.fallen_onto(alloc, &strengthened)?;
+        let lowered = below_lefts_of(alloc, self.tree.vertices(), &fallen)?;
         self.journal.push(UnitDone::Refine(v, formulas))?;
         lower(&mut self.covers, &lowered);
         self.tree.relabel(labels);
-        self.pairs = kept;
+        self.pairs.drop_onto(&strengthened, &fallen);
         self.refines += 1;
         Ok(())
     }
@@ -264,18 +265,26 @@ impl Unwinding {
         if self.journal.len() >= u32::MAX as usize {
             return Err(Memory);
         }
-        let falling = falling_under(alloc, self.tree.vertices(), v, &self.pairs)?;
-        let Falling { mut kept, lowered } = falling;
-        kept.push((v, w))?;
-        let raised = below_of(alloc, self.tree.vertices(), v.0)?;
+        let vertices = self.tree.vertices();
+        let raised = below_of(alloc, vertices, v.0)?;
+        let fallen = self.pairs.fallen_under(alloc, vertices, v, &raised)?;
+        let lowered = below_lefts_of(alloc, vertices, &fallen)?;
         let sides = Sides::of(v, w);
         let settling = covered_now(self.settled.get(&sides).copied(), self.refines);
         let unit = UnitDone::CoverYes(v, w);
-        note(&mut self.journal, &mut self.settled, unit, sides, settling)?;
-        lower(&mut self.covers, &lowered);
-        raise(&mut self.covers, &raised);
-        self.pairs = kept;
-        Ok(())
+        self.pairs.push(v, w)?;
+        match note(&mut self.journal, &mut self.settled, unit, sides, settling) {
+            Ok(()) => {
+                lower(&mut self.covers, &lowered);
+                raise(&mut self.covers, &raised);
+                self.pairs.drop_under(self.tree.vertices(), v, &fallen);
+                Ok(())
+            }
+            Err(end) => {
+                self.pairs.pop();
+                Err(end)
+            }
+        }
     }
 
     /// Keeps the pair apart by a store that meets the first vertex's label and not the second's.

@@ -5,9 +5,9 @@ use Rattle.resolution_log.specs.declared.Chain.{Chain}
 use Rattle.resolution_log.specs.Chains.{then_with, chain_result, results_of, IsRefutation}
 use Rattle.resolution_log.specs.declared.LogFail.{LogFail}
 use Rattle.resolution_log.specs.declared.LogFail.TheVariants.{BadStep, NoEmpty, Memory}
-use Rattle.cdcl_solver.specs.declared.Answer.{Answer}
-use Rattle.cdcl_solver.specs.declared.Answer.TheVariants.{Unsat}
-use Rattle.cdcl_solver.specs.Solve.{IsAnswer}
+use Rattle.clause_learning.specs.declared.Answer.{Answer}
+use Rattle.clause_learning.specs.declared.Answer.TheVariants.{Unsat}
+use Rattle.clause_learning.specs.Solve.{IsAnswer}
 use Rattle.resolution_log.specs.Logs.{New, New.none, New.more, Lean}
 
 ended : {known rs : List (List Lit)} {log : List Chain} (last : Chain) → New known log rs → chain_result (known ++ rs) last ≡ Some [] → results_of known (log ++ (last ∷ [])) ≡ Some (rs ++ ([] ∷ []))

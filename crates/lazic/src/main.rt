@@ -47,10 +47,6 @@ where
             return no_memory(rt);
         }
     }
-    let mut random = [0u8; 16];
-    if rt.fill_bytes(&mut random).is_err() {
-        random = [0u8; 16];
-    }
     let files: Result<R, AllocError> = rt.clone();
     let Ok(files) = files else {
         return no_memory(rt);
@@ -67,7 +63,7 @@ where
         &mut folder,
         &mut out,
         moment(rt),
-        random,
+        random_bytes(rt),
         &FreeGate,
     )
     .status
@@ -81,6 +77,15 @@ fn no_memory<R: Print + Clone + Drop>(rt: &R) -> u8 {
     match HostSink::new(prints).put(b"NO MEMORY\n") {
         Ok(()) => 15,
         Err(_) => 14,
+    }
+}
+
+// Sixteen bytes of chance, or zeroes where there are none.
+fn random_bytes(source: &impl RandomSource) -> [u8; 16] {
+    let mut bytes = [0u8; 16];
+    match source.fill_bytes(&mut bytes) {
+        Ok(()) => bytes,
+        Err(_) => [0u8; 16],
     }
 }
 

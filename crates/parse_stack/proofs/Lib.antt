@@ -1,4 +1,2 @@
 pub mod StackLemmas
 pub mod Views
-pub mod WordLemmas
-pub mod MarkLemmas

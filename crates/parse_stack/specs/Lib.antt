@@ -1,5 +1,3 @@
 pub mod View
 pub mod Rows
 pub mod Folding
-pub mod Keywords
-pub mod Marks

@@ -7,16 +7,12 @@ mod frames;
 mod heights;
 mod kinds;
 mod lows;
-mod names;
 mod nodes;
 mod parts;
 mod places;
 mod reduce;
 mod rows;
 mod stacks;
-mod symbols;
-#[cfg(test)]
-mod tests;
 mod words;
 
 pub use declared::{
@@ -31,7 +27,6 @@ pub use lows::{
     around_high, attributed_high, attributes_height, declared_high, inner_high, is_list,
     listing_high, parameters_high,
 };
-pub use names::Names;
 pub use nodes::{call_node, enumeration, no_parts, plain_more, sizeof_node, tested, valued_more};
 pub use parts::{DeclaratorRow, EnumRow, ParamRow, Part, PartRow, Spoken, TallForm};
 pub use places::{
@@ -43,7 +38,6 @@ pub use rows::{
     add_attribute, add_declarator, add_parameter, add_part, add_statement, add_word, say, unspoken,
 };
 pub use stacks::{Folded, Held, fold, pop, push, push_outer, rooted};
-pub use symbols::sign_of;
 pub use words::{
     is_typed, is_typedef, is_void, site_of_place, with_named, with_storage, with_type,
 };

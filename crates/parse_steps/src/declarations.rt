@@ -21,12 +21,13 @@ use c_tree::{
 };
 use lv_base::Text;
 use parse_stack::{
-    Around, Attributed, Base, Declared, Declaring, FunctionHead, Names, Opening, Outer, ParamRow,
-    Part, PartRow, Place, Spoken, StepFail, TallForm, above, add_declarator, add_parameter,
+    Around, Attributed, Base, Declared, Declaring, FunctionHead, Opening, Outer, ParamRow, Part,
+    PartRow, Place, Spoken, StepFail, TallForm, above, add_declarator, add_parameter,
     attributes_height, is_first, is_object, is_skipped_name, is_typedef, may_be_array,
     may_be_function, may_be_whole, may_have_attribute, rooted, unspoken,
 };
 use std::alloc::{AllocError, Global};
+use typedef_names::Names;
 
 /// Behind a declared name.
 pub fn declared_name(

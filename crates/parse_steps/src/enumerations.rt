@@ -13,10 +13,11 @@ use crate::specifiers::step_specs;
 use c_tree::{AssignOp, Bracket, Spec, Symbol};
 use lv_base::Text;
 use parse_stack::{
-    Around, Base, EnumHead, EnumRow, Frame, Inner, Listing, Names, Nest, Part, Spoken, StepFail,
-    Valuing, above, add_word, enumeration, plain_more, push, rooted, valued_more,
+    Around, Base, EnumHead, EnumRow, Frame, Inner, Listing, Nest, Part, Spoken, StepFail, Valuing,
+    above, add_word, enumeration, plain_more, push, rooted, valued_more,
 };
 use std::alloc::{AllocError, Global};
+use typedef_names::Names;
 
 /// The words of a cast or of `sizeof`.
 pub fn nested(alloc: Global, n: Nest, k: Inner) -> Result<Box<Around>, AllocError>

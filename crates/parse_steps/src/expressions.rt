@@ -13,10 +13,11 @@ use crate::values::step_folded;
 use c_tree::{AssignOp, BinaryOp, Bracket, Crement, Expr, PrefixOp, Symbol};
 use lv_base::Text;
 use parse_stack::{
-    Bind, Frame, Inner, Names, Opened, Part, StepFail, above, add_part, fold, least, level,
-    make_part, no_parts, push,
+    Bind, Frame, Inner, Opened, Part, StepFail, above, add_part, fold, least, level, make_part,
+    no_parts, push,
 };
 use std::alloc::Global;
+use typedef_names::Names;
 
 /// A whole operand that is one token.
 fn operand(alloc: Global, e: Expr, k: Inner) -> Result<Mode, StepFail>

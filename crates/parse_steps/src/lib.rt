@@ -6,6 +6,8 @@ mod enumerations;
 mod expressions;
 mod modes;
 mod specifiers;
+#[cfg(test)]
+mod tests;
 mod values;
 
 pub use declarations::{

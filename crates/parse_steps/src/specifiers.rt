@@ -15,11 +15,12 @@ use crate::modes::{Mode, Waiting};
 use c_tree::{AttributeWord, Bracket, Known, Name, Site, Spec, Symbol};
 use lv_base::Text;
 use parse_stack::{
-    Around, Attributed, Bind, Declared, Declaring, Frame, Inner, Names, ParamRow, Place, Spoken,
-    StepFail, above, add_parameter, is_typed, is_void, make_part, no_declarators, push, say,
-    site_of_place, sizeof_node, unspoken, with_named, with_storage, with_type,
+    Around, Attributed, Bind, Declared, Declaring, Frame, Inner, ParamRow, Place, Spoken, StepFail,
+    above, add_parameter, is_typed, is_void, make_part, no_declarators, push, say, site_of_place,
+    sizeof_node, unspoken, with_named, with_storage, with_type,
 };
 use std::alloc::Global;
+use typedef_names::Names;
 
 fn site_of(w: &Around) -> Site
     ensures { result ≡ sf.site_of (v.around w.now) }

@@ -15,11 +15,11 @@ use crate::expressions::{assign, binary, question, sequence, step_operand};
 use crate::modes::{Mode, Waiting};
 use c_tree::{Bracket, Expr, ForHead, ForStart, Head, Statement, Symbol};
 use parse_stack::{
-    Around, Base, Bind, Declared, Frame, Inner, Names, Opened, Outer, OuterFrame, Part, PartRow,
-    StepFail, Test, Top, Wrap, above, add_part, call_node, make_part, pop, push, push_outer,
-    rooted, tested,
+    Around, Base, Bind, Declared, Frame, Inner, Opened, Outer, OuterFrame, Part, PartRow, StepFail,
+    Test, Top, Wrap, above, add_part, call_node, make_part, pop, push, push_outer, rooted, tested,
 };
 use std::alloc::Global;
+use typedef_names::Names;
 
 /// A statement is to come inside of this.
 pub fn begin_in(o: Outer, w: Wrap) -> Result<Mode, StepFail>

@@ -6,7 +6,7 @@ use Rattle.lv_base.specs.declared.kind.Kind.{Kind}
 use Rattle.lv_base.specs.declared.kind.Model.{Model}
 use Rattle.lv_base.specs.declared.fault.SourceFault.TheVariants as fault
 use Rattle.c_tree.specs.Tree as t
-use Rattle.c_run.specs.Breaking.{Broken, line}
+use Rattle.c_run.specs.Breaking.{line}
 use Rattle.c_meaning.specs.Bindings.{Env, object_number, declared_at}
 use Rattle.c_meaning.specs.Jumps as source
 use Rattle.c_meaning.specs.Program.{Function, functions_of, env_of}
@@ -216,7 +216,7 @@ module _ (env : Env) (model : Model) (bodies : List (List ℕ)) where
 
   -- ---- Functions
 
-  function_same : (f : Function) → typed_jumps (elab.function_of env model bodies f) ≡ source_jumps env f
+  pub function_same : (f : Function) → typed_jumps (elab.function_of env model bodies f) ≡ source_jumps env f
   function_same f =
       let labels = source.labels_of_all env [] f.body in
       let gotos = source.gotos_of_all env [] f.body in

@@ -1,1 +1,5 @@
 mod Jumping
+mod Effects
+mod Sequencing
+mod Bodies
+mod Controlling

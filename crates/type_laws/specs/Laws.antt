@@ -9,6 +9,7 @@ use Rattle.c_meaning.specs.Program.{Function, functions_of, env_of}
 use Rattle.c_typed.specs.Rules as rules
 use Rattle.c_typed.specs.Tree as t
 use Rattle.c_types.specs.Elaborated.{elaborated}
+use Rattle.type_laws.specs.Aims.{SourceAims}
 
 -- labels, jumps into scopes, and jumps outside of their statements, of a function with a body
 abbrev pub source_jumps : Env → Function → List Broken
@@ -36,3 +37,7 @@ all_typed (f ∷ fs) = typed_jumps f ++ all_typed fs
 
 abbrev pub SameJumps : Type 0
 SameJumps = (items : Items) → (model : Model) → all_typed (elaborated items model).functions ≡ all_source (env_of items model) (functions_of (env_of items model) items)
+
+-- all rules of labels, jumps, effects and calls
+abbrev pub SameControl : Type 0
+SameControl = (items : Items) → (model : Model) → SourceAims items model → rules.broken (elaborated items model) ≡ jumps.control_faults (env_of items model) (functions_of (env_of items model) items)

@@ -1,6 +1,7 @@
-use crate::same_jumps;
+use crate::{same_control, same_jumps};
 
 #[test]
-fn the_law_is_there() {
+fn the_laws_are_there() {
     same_jumps();
+    same_control();
 }

@@ -3,7 +3,7 @@ use Rattle.std.proofs.lemmas.Bool.{both_ways, eqb-true, eq-eqb}
 use Rattle.std.proofs.lemmas.List.{take_all}
 use Rattle.prop.specs.declared.Lit.{Lit}
 use Rattle.prop.specs.Steps.{In}
-use Rattle.cdcl_solver.proofs.RoundLaws.{none_more, nil_of}
+use Rattle.clause_learning.proofs.MeetLaws.{none_more, nil_of}
 use Rattle.cdcl_solver.proofs.engine.find_empty.Goals as goal
 
 pub returns-then-is_empty : goal.returns-then-is_empty

@@ -1,30 +1,23 @@
-use Rattle.std.proofs.Common.{rules, ◌≡◌, ℕ, List, subst, Some, slice_get}
+use Rattle.std.proofs.Common.{rules, ◌≡◌, ℕ, List, subst, [], sym, ap, ◌∙◌}
 use Rattle.prop.specs.declared.Lit.{Lit}
-use Rattle.cdcl_solver.specs.Solve.{IsStop}
-use Rattle.cdcl_solver.proofs.RoundLaws.{round_begin, round_met, round_state, round_index}
+use Rattle.prop.specs.Steps.{Has, In}
+use Rattle.clause_learning.specs.Trail.{Set, Holds}
+use Rattle.clause_learning.specs.Solve.{trues_of}
+use Rattle.dense_trail.specs.Dense.{known_of}
+use Rattle.cdcl_solver.specs.declared.board.Stop.TheVariants.{AllMet}
+use Rattle.cdcl_solver.specs.Stops.{IsStop, trail_entries}
+use Rattle.cdcl_solver.proofs.TurnLaws.{turn_met}
 use Rattle.cdcl_solver.proofs.engine.round.Goals as goal
 
-pub on_conflict-requires-clause-begin : goal.on_conflict-requires-clause-begin
-on_conflict-requires-clause-begin c =
-    let (d, g, f) = subst (IsStop c.args.s.known c.settle.new.trail.entries.items) c.in-Clash.is c.in_ok-settle.ensures.stop in
-    round_begin c.args.clauses.now c.args.learn c.args.limit c.args.s c.requires.state c.settle.new.level c.settle.new.trail.entries.items c.in_ok-settle.ensures.holds c.in-Clash.k d g f
-
-pub on_conflict-requires-clause-index : goal.on_conflict-requires-clause-index
-on_conflict-requires-clause-index c =
-    let (d, g, f) = subst (IsStop c.args.s.known c.settle.new.trail.entries.items) c.in-Clash.is c.in_ok-settle.ensures.stop in
-    round_index c.args.s.known c.in-Clash.k d g
-
-pub on_conflict-requires-clause-state : goal.on_conflict-requires-clause-state
-on_conflict-requires-clause-state c = record {
-  state = round_state c.args.clauses.now c.args.learn c.args.limit c.args.s c.requires.state c.settle.new.level c.settle.new.trail.entries.items c.in_ok-settle.ensures.holds;
-  short = c.requires.state.short;
-  counted = c.requires.state.counted;
-  light = c.requires.state.light;
-  covers = rw c.in_ok-settle.ensures.vars c.requires.state.covers;
-  rises = c.in_ok-settle.ensures.rises;
-  level = c.in_ok-settle.ensures.level;
-  few = c.requires.state.few;
-}
-
-pub returns-in-AllMet-clause-turn : goal.returns-in-AllMet-clause-turn
-returns-in-AllMet-clause-turn c = round_met c.args.clauses.now c.args.learn c.args.limit c.args.s c.requires.state c.settle.new.level c.settle.new.trail.entries.items c.in_ok-settle.ensures.holds (subst (IsStop c.args.s.known c.settle.new.trail.entries.items) c.in-AllMet.is c.in_ok-settle.ensures.stop)
+pub returns-in_ok-met-in-AllMet-clause-turn : goal.returns-in_ok-met-in-AllMet-clause-turn
+returns-in_ok-met-in-AllMet-clause-turn c =
+    let v : List ℕ = c.args.s.vars.items in
+    let t = c.in_ok-board.field-0.board.trail in
+    let e = c.in_ok-board.ensures.stop v c.requires.state.rests.linked in
+    let stops : c.in_ok-board.field-0.stop ≡ AllMet = search rules in
+    let met = subst (IsStop v c.in_ok-board.field-0.board.rows t) stops e.1 in
+    let same' : c.in_ok-board.field-0.board.rows ≡ c.args.s.board.rows = c.in_ok-board.ensures.rows in
+    turn_met c.args.clauses.now (known_of v c.args.s.board.rows) c.args.s.board.level c.in_ok-board.field-0.board.level (trail_entries v c.args.s.board.trail) (trail_entries v t) c.args.s.log c.in_ok-met-in-AllMet.met.items c.requires.state.rests.state
+    (subst (λ (w : List (List ℕ)). Holds (known_of v w) c.in_ok-board.field-0.board.level (trail_entries v t)) same' e.0.holds)
+    (subst (λ (w : List (List ℕ)). (c : List Lit) → In (known_of v w) c → ((l : Lit) → Has c l → Set (trail_entries v t) l → ⊥) → c ≡ []) same' met)
+    (c.in_ok-met-in-AllMet.ensures ∙ ap (λ (w : List ℕ). trues_of (trail_entries w t)) c.deref.ensures.value)

@@ -1,6 +1,6 @@
 use Rattle.std.proofs.Common.{rules, ◌≡◌, ◌∙◌, ap, ◌++◌, ◌∷◌, [], refl, List}
 use Rattle.resolution_log.specs.declared.Chain.{Chain}
-use Rattle.cdcl_solver.proofs.RoundLaws.{empty_lean}
+use Rattle.clause_learning.proofs.MeetLaws.{empty_lean}
 use Rattle.cdcl_solver.proofs.engine.search.Goals as goal
 
 pub returns-in-Some : goal.returns-in-Some

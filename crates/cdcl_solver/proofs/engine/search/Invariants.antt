@@ -1,5 +1,5 @@
 use Rattle.std.proofs.Common.{◌-◌, length}
-use Rattle.cdcl_solver.specs.Solve.{StateOf}
+use Rattle.cdcl_solver.specs.Search.{StateOf}
 use Rattle.cdcl_solver.proofs.engine.search.Given as goal
 
 abbrev pub invariant-rounds : goal.invariant-rounds

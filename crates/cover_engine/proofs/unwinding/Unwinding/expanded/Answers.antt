@@ -16,7 +16,7 @@ invariant_of-self-in-Ok c =
     subst (λ (u : Unwound). (vertex_at u.vertices c.args.v.0).children ≡ []) (sym c.self.view_is) (open-childless c.args.graph.now c.args.self.now c.args.v c.requires.can.leaf) in
     let out : c.in_ok-edges.edges.items ≡ outs c.args.graph.now (vertex_at c.self.inside.tree.vertices c.args.v.0).node =
     c.in_ok-edges.ensures ∙ ap (λ (x : Vertex). outs c.args.graph.now x.node) (vertex-read c.vertices.result.now c.self.inside.tree.vertices c.index-vertices-v.result c.args.v.0 c.vertices.ensures.value lv) in
-    kept_expanded c.args.graph.now c.self.inside.tree.vertices c.expand_both.new.tree.vertices c.self.inside.pairs.items c.self.inside.journal.items c.expand_both.new.journal.items c.self.inside.apart.items
+    kept_expanded c.args.graph.now c.self.inside.tree.vertices c.expand_both.new.tree.vertices c.self.inside.pairs c.self.inside.journal.items c.expand_both.new.journal.items c.self.inside.apart.items
     c.self.inside.covers.items c.append.new.self.items c.self.inside.refines c.index-above.result.now c.len-2.result c.self.inside.settled c.args.v
     c.self.invariant lv none (omega arith) c.in-Ok.ensures.vertices c.in-Ok.ensures.journal
     (c.in_ok-append.ensures.items ∙ ap (λ xs. c.self.inside.covers.items ++ xs) c.in_ok-covers.ensures)

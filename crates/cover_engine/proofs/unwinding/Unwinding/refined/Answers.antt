@@ -24,10 +24,10 @@ lower-requires-clause-inside c =
     let labels : c.in_ok-labels.labels.items ≡ new_labels_of c.self.inside.tree.terms c.self.inside.tree.vertices (path_of c.self.inside.tree.vertices c.args.v) (reverse c.args.formulas) = c.in_ok-labels.ensures ∙ ap (λ (fs : List TermId). new_labels_of c.self.inside.tree.terms c.self.inside.tree.vertices (path_of c.self.inside.tree.vertices c.args.v) (reverse fs)) c.as_slice.ensures in
     let strong : c.deref-2.result.now ≡ strengthened_along c.self.inside.tree.terms c.self.inside.tree.vertices (path_of c.self.inside.tree.vertices c.args.v) (reverse c.args.formulas) =
     c.deref-2.ensures.value ∙ c.in_ok-strengthened.ensures ∙ ap labelled (c.deref.ensures.value ∙ labels) ∙ labels_strengthen c.self.inside.tree.terms c.self.inside.tree.vertices (path_of c.self.inside.tree.vertices c.args.v) (reverse c.args.formulas) (suc c.args.v.0) falls in
-    let low : c.deref-4.result.now ≡ below_lefts c.self.inside.tree.vertices (pairs_onto (strengthened_along c.self.inside.tree.terms c.self.inside.tree.vertices (path_of c.self.inside.tree.vertices c.args.v) (reverse c.args.formulas)) c.self.inside.pairs.items) =
-    c.deref-4.ensures.value ∙ c.in_ok-falling.ensures.lowered ∙ ap (λ (vs : List Vertex). below_lefts vs (pairs_onto c.deref-2.result.now c.deref-3.result.now)) c.vertices.ensures.value
-    ∙ ap (λ (ws : List ℕ). below_lefts c.self.inside.tree.vertices (pairs_onto ws c.deref-3.result.now)) strong ∙ ap (λ (ps : List Pair). below_lefts c.self.inside.tree.vertices (pairs_onto (strengthened_along c.self.inside.tree.terms c.self.inside.tree.vertices (path_of c.self.inside.tree.vertices c.args.v) (reverse c.args.formulas)) ps)) c.deref-3.ensures.value in
-    refine_lowers c.self.inside.tree.vertices c.self.inside.pairs.items c.self.inside.journal.items c.self.inside.apart.items c.self.inside.covers.items c.self.inside.refines c.self.inside.settled c.self.invariant (strengthened_along c.self.inside.tree.terms c.self.inside.tree.vertices (path_of c.self.inside.tree.vertices c.args.v) (reverse c.args.formulas)) c.deref-4.result.now low
+    let low : c.deref-4.result.now ≡ below_lefts c.self.inside.tree.vertices (pairs_onto (strengthened_along c.self.inside.tree.terms c.self.inside.tree.vertices (path_of c.self.inside.tree.vertices c.args.v) (reverse c.args.formulas)) c.self.inside.pairs) =
+    c.deref-4.ensures.value ∙ c.in_ok-lowered.ensures ∙ ap (λ (vs : List Vertex). below_lefts vs c.deref-3.result.now) c.vertices.ensures.value
+    ∙ ap (below_lefts c.self.inside.tree.vertices) (c.deref-3.ensures.value ∙ c.in_ok-fallen.ensures ∙ ap (λ (ws : List ℕ). pairs_onto ws c.self.inside.pairs) strong) in
+    refine_lowers c.self.inside.tree.vertices c.self.inside.pairs c.self.inside.journal.items c.self.inside.apart.items c.self.inside.covers.items c.self.inside.refines c.self.inside.settled c.self.invariant (strengthened_along c.self.inside.tree.terms c.self.inside.tree.vertices (path_of c.self.inside.tree.vertices c.args.v) (reverse c.args.formulas)) c.deref-4.result.now low
 
 pub lower-requires-clause-enough : goal.lower-requires-clause-enough
 lower-requires-clause-enough c =
@@ -36,10 +36,10 @@ lower-requires-clause-enough c =
     let labels : c.in_ok-labels.labels.items ≡ new_labels_of c.self.inside.tree.terms c.self.inside.tree.vertices (path_of c.self.inside.tree.vertices c.args.v) (reverse c.args.formulas) = c.in_ok-labels.ensures ∙ ap (λ (fs : List TermId). new_labels_of c.self.inside.tree.terms c.self.inside.tree.vertices (path_of c.self.inside.tree.vertices c.args.v) (reverse fs)) c.as_slice.ensures in
     let strong : c.deref-2.result.now ≡ strengthened_along c.self.inside.tree.terms c.self.inside.tree.vertices (path_of c.self.inside.tree.vertices c.args.v) (reverse c.args.formulas) =
     c.deref-2.ensures.value ∙ c.in_ok-strengthened.ensures ∙ ap labelled (c.deref.ensures.value ∙ labels) ∙ labels_strengthen c.self.inside.tree.terms c.self.inside.tree.vertices (path_of c.self.inside.tree.vertices c.args.v) (reverse c.args.formulas) (suc c.args.v.0) falls in
-    let low : c.deref-4.result.now ≡ below_lefts c.self.inside.tree.vertices (pairs_onto (strengthened_along c.self.inside.tree.terms c.self.inside.tree.vertices (path_of c.self.inside.tree.vertices c.args.v) (reverse c.args.formulas)) c.self.inside.pairs.items) =
-    c.deref-4.ensures.value ∙ c.in_ok-falling.ensures.lowered ∙ ap (λ (vs : List Vertex). below_lefts vs (pairs_onto c.deref-2.result.now c.deref-3.result.now)) c.vertices.ensures.value
-    ∙ ap (λ (ws : List ℕ). below_lefts c.self.inside.tree.vertices (pairs_onto ws c.deref-3.result.now)) strong ∙ ap (λ (ps : List Pair). below_lefts c.self.inside.tree.vertices (pairs_onto (strengthened_along c.self.inside.tree.terms c.self.inside.tree.vertices (path_of c.self.inside.tree.vertices c.args.v) (reverse c.args.formulas)) ps)) c.deref-3.ensures.value in
-    refine_enough c.self.inside.tree.vertices c.self.inside.pairs.items c.self.inside.journal.items c.self.inside.apart.items c.self.inside.covers.items c.self.inside.refines c.self.inside.settled c.self.invariant (strengthened_along c.self.inside.tree.terms c.self.inside.tree.vertices (path_of c.self.inside.tree.vertices c.args.v) (reverse c.args.formulas)) c.deref-4.result.now low
+    let low : c.deref-4.result.now ≡ below_lefts c.self.inside.tree.vertices (pairs_onto (strengthened_along c.self.inside.tree.terms c.self.inside.tree.vertices (path_of c.self.inside.tree.vertices c.args.v) (reverse c.args.formulas)) c.self.inside.pairs) =
+    c.deref-4.ensures.value ∙ c.in_ok-lowered.ensures ∙ ap (λ (vs : List Vertex). below_lefts vs c.deref-3.result.now) c.vertices.ensures.value
+    ∙ ap (below_lefts c.self.inside.tree.vertices) (c.deref-3.ensures.value ∙ c.in_ok-fallen.ensures ∙ ap (λ (ws : List ℕ). pairs_onto ws c.self.inside.pairs) strong) in
+    refine_enough c.self.inside.tree.vertices c.self.inside.pairs c.self.inside.journal.items c.self.inside.apart.items c.self.inside.covers.items c.self.inside.refines c.self.inside.settled c.self.invariant (strengthened_along c.self.inside.tree.terms c.self.inside.tree.vertices (path_of c.self.inside.tree.vertices c.args.v) (reverse c.args.formulas)) c.deref-4.result.now low
 
 pub relabel-requires : goal.relabel-requires
 relabel-requires c =
@@ -58,14 +58,14 @@ invariant_of-self-2 c =
     let labels : c.in_ok-labels.labels.items ≡ new_labels_of c.self.inside.tree.terms c.self.inside.tree.vertices (path_of c.self.inside.tree.vertices c.args.v) (reverse c.args.formulas) = c.in_ok-labels.ensures ∙ ap (λ (fs : List TermId). new_labels_of c.self.inside.tree.terms c.self.inside.tree.vertices (path_of c.self.inside.tree.vertices c.args.v) (reverse fs)) c.as_slice.ensures in
     let strong : c.deref-2.result.now ≡ strengthened_along c.self.inside.tree.terms c.self.inside.tree.vertices (path_of c.self.inside.tree.vertices c.args.v) (reverse c.args.formulas) =
     c.deref-2.ensures.value ∙ c.in_ok-strengthened.ensures ∙ ap labelled (c.deref.ensures.value ∙ labels) ∙ labels_strengthen c.self.inside.tree.terms c.self.inside.tree.vertices (path_of c.self.inside.tree.vertices c.args.v) (reverse c.args.formulas) (suc c.args.v.0) falls in
-    let kept : c.in_ok-falling.falling.kept.items ≡ pairs_but_onto (strengthened_along c.self.inside.tree.terms c.self.inside.tree.vertices (path_of c.self.inside.tree.vertices c.args.v) (reverse c.args.formulas)) c.self.inside.pairs.items =
-    c.in_ok-falling.ensures.kept ∙ ap (λ (ws : List ℕ). pairs_but_onto ws c.deref-3.result.now) strong ∙ ap (pairs_but_onto (strengthened_along c.self.inside.tree.terms c.self.inside.tree.vertices (path_of c.self.inside.tree.vertices c.args.v) (reverse c.args.formulas))) c.deref-3.ensures.value in
-    let low : c.deref-4.result.now ≡ below_lefts c.self.inside.tree.vertices (pairs_onto (strengthened_along c.self.inside.tree.terms c.self.inside.tree.vertices (path_of c.self.inside.tree.vertices c.args.v) (reverse c.args.formulas)) c.self.inside.pairs.items) =
-    c.deref-4.ensures.value ∙ c.in_ok-falling.ensures.lowered ∙ ap (λ (vs : List Vertex). below_lefts vs (pairs_onto c.deref-2.result.now c.deref-3.result.now)) c.vertices.ensures.value
-    ∙ ap (λ (ws : List ℕ). below_lefts c.self.inside.tree.vertices (pairs_onto ws c.deref-3.result.now)) strong ∙ ap (λ (ps : List Pair). below_lefts c.self.inside.tree.vertices (pairs_onto (strengthened_along c.self.inside.tree.terms c.self.inside.tree.vertices (path_of c.self.inside.tree.vertices c.args.v) (reverse c.args.formulas)) ps)) c.deref-3.ensures.value in
+    let kept : c.drop_onto.new.self ≡ pairs_but_onto (strengthened_along c.self.inside.tree.terms c.self.inside.tree.vertices (path_of c.self.inside.tree.vertices c.args.v) (reverse c.args.formulas)) c.self.inside.pairs =
+    c.drop_onto.ensures ∙ ap (λ (ws : List ℕ). pairs_but_onto ws c.self.inside.pairs) (c.deref-5.ensures.value ∙ sym c.deref-2.ensures.value ∙ strong) in
+    let low : c.deref-4.result.now ≡ below_lefts c.self.inside.tree.vertices (pairs_onto (strengthened_along c.self.inside.tree.terms c.self.inside.tree.vertices (path_of c.self.inside.tree.vertices c.args.v) (reverse c.args.formulas)) c.self.inside.pairs) =
+    c.deref-4.ensures.value ∙ c.in_ok-lowered.ensures ∙ ap (λ (vs : List Vertex). below_lefts vs c.deref-3.result.now) c.vertices.ensures.value
+    ∙ ap (below_lefts c.self.inside.tree.vertices) (c.deref-3.ensures.value ∙ c.in_ok-fallen.ensures ∙ ap (λ (ws : List ℕ). pairs_onto ws c.self.inside.pairs) strong) in
     let after : c.relabel.new.self.vertices ≡ refined_along c.self.inside.tree.terms c.self.inside.tree.vertices (path_of c.self.inside.tree.vertices c.args.v) (reverse c.args.formulas) =
     c.relabel.ensures.vertices ∙ ap (relabelled c.self.inside.tree.vertices) labels ∙ labels_refine c.self.inside.tree.terms c.self.inside.tree.vertices (path_of c.self.inside.tree.vertices c.args.v) (reverse c.args.formulas) (suc c.args.v.0) falls in
-    kept_refined c.self.inside.tree.terms c.self.inside.tree.vertices c.relabel.new.self.vertices c.self.inside.pairs.items c.in_ok-falling.falling.kept.items (pairs_onto (strengthened_along c.self.inside.tree.terms c.self.inside.tree.vertices (path_of c.self.inside.tree.vertices c.args.v) (reverse c.args.formulas)) c.self.inside.pairs.items) c.self.inside.journal.items c.push.new.self.items c.self.inside.apart.items c.self.inside.covers.items c.lower.new.counts.items c.deref-4.result.now
+    kept_refined c.self.inside.tree.terms c.self.inside.tree.vertices c.relabel.new.self.vertices c.self.inside.pairs c.drop_onto.new.self (pairs_onto (strengthened_along c.self.inside.tree.terms c.self.inside.tree.vertices (path_of c.self.inside.tree.vertices c.args.v) (reverse c.args.formulas)) c.self.inside.pairs) c.self.inside.journal.items c.push.new.self.items c.self.inside.apart.items c.self.inside.covers.items c.lower.new.counts.items c.deref-4.result.now
     c.self.inside.refines c.self.inside.settled c.args.v c.args.formulas (reverse c.args.formulas) c.self.invariant lv (omega arith) after c.in_ok-push.ensures.items kept refl low c.lower.ensures.sized c.lower.ensures.lowered
 
 pub returns-clause-legal : goal.returns-clause-legal
@@ -75,11 +75,11 @@ returns-clause-legal c =
     let labels : c.in_ok-labels.labels.items ≡ new_labels_of c.self.inside.tree.terms c.self.inside.tree.vertices (path_of c.self.inside.tree.vertices c.args.v) (reverse c.args.formulas) = c.in_ok-labels.ensures ∙ ap (λ (fs : List TermId). new_labels_of c.self.inside.tree.terms c.self.inside.tree.vertices (path_of c.self.inside.tree.vertices c.args.v) (reverse fs)) c.as_slice.ensures in
     let strong : c.deref-2.result.now ≡ strengthened_along c.self.inside.tree.terms c.self.inside.tree.vertices (path_of c.self.inside.tree.vertices c.args.v) (reverse c.args.formulas) =
     c.deref-2.ensures.value ∙ c.in_ok-strengthened.ensures ∙ ap labelled (c.deref.ensures.value ∙ labels) ∙ labels_strengthen c.self.inside.tree.terms c.self.inside.tree.vertices (path_of c.self.inside.tree.vertices c.args.v) (reverse c.args.formulas) (suc c.args.v.0) falls in
-    let kept : c.in_ok-falling.falling.kept.items ≡ pairs_but_onto (strengthened_along c.self.inside.tree.terms c.self.inside.tree.vertices (path_of c.self.inside.tree.vertices c.args.v) (reverse c.args.formulas)) c.self.inside.pairs.items =
-    c.in_ok-falling.ensures.kept ∙ ap (λ (ws : List ℕ). pairs_but_onto ws c.deref-3.result.now) strong ∙ ap (pairs_but_onto (strengthened_along c.self.inside.tree.terms c.self.inside.tree.vertices (path_of c.self.inside.tree.vertices c.args.v) (reverse c.args.formulas))) c.deref-3.ensures.value in
+    let kept : c.drop_onto.new.self ≡ pairs_but_onto (strengthened_along c.self.inside.tree.terms c.self.inside.tree.vertices (path_of c.self.inside.tree.vertices c.args.v) (reverse c.args.formulas)) c.self.inside.pairs =
+    c.drop_onto.ensures ∙ ap (λ (ws : List ℕ). pairs_but_onto ws c.self.inside.pairs) (c.deref-5.ensures.value ∙ sym c.deref-2.ensures.value ∙ strong) in
     let after : c.relabel.new.self.vertices ≡ refined_along c.self.inside.tree.terms c.self.inside.tree.vertices (path_of c.self.inside.tree.vertices c.args.v) (reverse c.args.formulas) =
     c.relabel.ensures.vertices ∙ ap (relabelled c.self.inside.tree.vertices) labels ∙ labels_refine c.self.inside.tree.terms c.self.inside.tree.vertices (path_of c.self.inside.tree.vertices c.args.v) (reverse c.args.formulas) (suc c.args.v.0) falls in
-    legal-after c.args.graph.now c.args.self.now _ (Refine c.args.v c.args.formulas) c.requires.legal c.requires.can (made_refine c.self.inside.tree.vertices c.relabel.new.self.vertices c.self.inside.tree.terms c.relabel.new.self.terms c.self.inside.pairs.items c.in_ok-falling.falling.kept.items c.self.inside.journal.items c.push.new.self.items c.self.inside.apart.items c.args.v c.args.formulas c.args.self.now c.self.view_is after c.relabel.ensures.terms kept c.in_ok-push.ensures.items)
+    legal-after c.args.graph.now c.args.self.now _ (Refine c.args.v c.args.formulas) c.requires.legal c.requires.can (made_refine c.self.inside.tree.vertices c.relabel.new.self.vertices c.self.inside.tree.terms c.relabel.new.self.terms c.self.inside.pairs c.drop_onto.new.self c.self.inside.journal.items c.push.new.self.items c.self.inside.apart.items c.args.v c.args.formulas c.args.self.now c.self.view_is after c.relabel.ensures.terms kept c.in_ok-push.ensures.items)
 
 pub returns-clause-done : goal.returns-clause-done
 returns-clause-done c =
@@ -88,8 +88,8 @@ returns-clause-done c =
     let labels : c.in_ok-labels.labels.items ≡ new_labels_of c.self.inside.tree.terms c.self.inside.tree.vertices (path_of c.self.inside.tree.vertices c.args.v) (reverse c.args.formulas) = c.in_ok-labels.ensures ∙ ap (λ (fs : List TermId). new_labels_of c.self.inside.tree.terms c.self.inside.tree.vertices (path_of c.self.inside.tree.vertices c.args.v) (reverse fs)) c.as_slice.ensures in
     let strong : c.deref-2.result.now ≡ strengthened_along c.self.inside.tree.terms c.self.inside.tree.vertices (path_of c.self.inside.tree.vertices c.args.v) (reverse c.args.formulas) =
     c.deref-2.ensures.value ∙ c.in_ok-strengthened.ensures ∙ ap labelled (c.deref.ensures.value ∙ labels) ∙ labels_strengthen c.self.inside.tree.terms c.self.inside.tree.vertices (path_of c.self.inside.tree.vertices c.args.v) (reverse c.args.formulas) (suc c.args.v.0) falls in
-    let kept : c.in_ok-falling.falling.kept.items ≡ pairs_but_onto (strengthened_along c.self.inside.tree.terms c.self.inside.tree.vertices (path_of c.self.inside.tree.vertices c.args.v) (reverse c.args.formulas)) c.self.inside.pairs.items =
-    c.in_ok-falling.ensures.kept ∙ ap (λ (ws : List ℕ). pairs_but_onto ws c.deref-3.result.now) strong ∙ ap (pairs_but_onto (strengthened_along c.self.inside.tree.terms c.self.inside.tree.vertices (path_of c.self.inside.tree.vertices c.args.v) (reverse c.args.formulas))) c.deref-3.ensures.value in
+    let kept : c.drop_onto.new.self ≡ pairs_but_onto (strengthened_along c.self.inside.tree.terms c.self.inside.tree.vertices (path_of c.self.inside.tree.vertices c.args.v) (reverse c.args.formulas)) c.self.inside.pairs =
+    c.drop_onto.ensures ∙ ap (λ (ws : List ℕ). pairs_but_onto ws c.self.inside.pairs) (c.deref-5.ensures.value ∙ sym c.deref-2.ensures.value ∙ strong) in
     let after : c.relabel.new.self.vertices ≡ refined_along c.self.inside.tree.terms c.self.inside.tree.vertices (path_of c.self.inside.tree.vertices c.args.v) (reverse c.args.formulas) =
     c.relabel.ensures.vertices ∙ ap (relabelled c.self.inside.tree.vertices) labels ∙ labels_refine c.self.inside.tree.terms c.self.inside.tree.vertices (path_of c.self.inside.tree.vertices c.args.v) (reverse c.args.formulas) (suc c.args.v.0) falls in
-    made_refine c.self.inside.tree.vertices c.relabel.new.self.vertices c.self.inside.tree.terms c.relabel.new.self.terms c.self.inside.pairs.items c.in_ok-falling.falling.kept.items c.self.inside.journal.items c.push.new.self.items c.self.inside.apart.items c.args.v c.args.formulas c.args.self.now c.self.view_is after c.relabel.ensures.terms kept c.in_ok-push.ensures.items
+    made_refine c.self.inside.tree.vertices c.relabel.new.self.vertices c.self.inside.tree.terms c.relabel.new.self.terms c.self.inside.pairs c.drop_onto.new.self c.self.inside.journal.items c.push.new.self.items c.self.inside.apart.items c.args.v c.args.formulas c.args.self.now c.self.view_is after c.relabel.ensures.terms kept c.in_ok-push.ensures.items

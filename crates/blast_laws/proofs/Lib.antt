@@ -1,0 +1,14 @@
+pub mod Words
+pub mod Places
+pub mod Owes
+pub mod Operations
+pub mod Elements
+pub mod Stores
+pub mod Terms
+pub mod Sizes
+pub mod Turns
+pub mod Rising
+pub mod Keeping
+pub mod Runs
+pub mod Scopes
+pub mod Bounding

@@ -1,6 +1,0 @@
-use Rattle.std.proofs.Common.{◌≡◌, ◌+◌, ◌++◌, List, drop, length}
-use Rattle.cdcl_solver.specs.Cuts.{need_in, cut_from}
-use Rattle.cdcl_solver.proofs.cone.cut.Given as goal
-
-abbrev pub invariant-loop-k : goal.invariant-loop-k
-invariant-loop-k l = l.log ++ cut_from (need_in l.cone.marks.items) (l.base + l.k) (drop l.k l.chains) ≡ cut_from (need_in l.cone.marks.items) l.base l.chains

@@ -1,6 +1,0 @@
-use Rattle.std.proofs.Common.{◌≡◌, ℕ, ◌<◌, false}
-use Rattle.cdcl_solver.specs.Trail.{below_of}
-use Rattle.cdcl_solver.proofs.engine.least_level.Given as goal
-
-abbrev pub invariant-loop-k : goal.invariant-loop-k
-invariant-loop-k l = (j : ℕ) → j < l.k → below_of j l.trail.entries.items l.uip l.clause ≡ false

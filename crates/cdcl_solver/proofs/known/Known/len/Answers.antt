@@ -1,9 +1,0 @@
-use Rattle.std.proofs.Common.{rules, ◌≡◌, ◌∙◌, sym, ap, arith, length}
-use Rattle.prop.proofs.Pieces.{length-pieces}
-use Rattle.cdcl_solver.proofs.known.Known.len.Goals as goal
-
-pub returns : goal.returns
-returns c =
-    let h = length-pieces 0 c.self.inside.ends.items c.self.inside.items.items in
-    let e = ap length c.self.view_is in
-    omega (arith, h, e, c.len.ensures, c.self.inside.ends.ok.0)

@@ -1,6 +1,0 @@
-use Rattle.std.proofs.Common.{◌≡◌, drop, None}
-use Rattle.cdcl_solver.specs.Trail.{scan_of}
-use Rattle.cdcl_solver.proofs.scan.scan.Given as goal
-
-abbrev pub invariant-loop-i : goal.invariant-loop-i
-invariant-loop-i l = scan_of l.trail.entries.items l.known 0 None ≡ scan_of l.trail.entries.items (drop l.i l.known) l.i l.open

@@ -1,0 +1,10 @@
+pub mod TrailLaws
+pub mod AnalysisLaws
+pub mod JumpLaws
+pub mod GhostLaws
+pub mod StoreLaws
+pub mod TurnLaws
+pub mod StateLaws
+pub mod CoverLaws
+pub mod MeetLaws
+pub mod ConeLaws

@@ -1,0 +1,4 @@
+pub mod Trail
+pub mod Covers
+pub mod Solve
+pub mod Cuts

@@ -1,0 +1,4 @@
+pub mod RowLaws
+pub mod NoteLaws
+pub mod WalkLaws
+pub mod StepLaws

@@ -1,0 +1,3 @@
+pub mod CodeLaws
+pub mod ValueLaws
+pub mod EntryLaws

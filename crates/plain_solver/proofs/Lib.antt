@@ -1,0 +1,4 @@
+pub mod ScanLaws
+pub mod SettleLaws
+pub mod ConflictLaws
+pub mod RoundLaws

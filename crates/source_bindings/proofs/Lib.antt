@@ -1,0 +1,3 @@
+mod Views
+mod Rows
+mod Arms

@@ -1,0 +1,8 @@
+//! What each token is to the grammar: its symbol, with the token's offset.
+#![tactic(auto)]
+
+mod symbols;
+#[cfg(test)]
+mod tests;
+
+pub use symbols::sign_of;

@@ -1,0 +1,8 @@
+use Rattle.std.proofs.Common.{◌≡◌, length, take}
+use Rattle.typedef_names.proofs.names.Names.leave.Given as goal
+
+abbrev pub invariant-names : goal.invariant-names
+invariant-names l = take l.count l.self ≡ take l.count l.fn.self
+
+abbrev pub decreases-names : goal.decreases-names
+decreases-names l = length l.self

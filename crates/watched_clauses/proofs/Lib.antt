@@ -1,0 +1,6 @@
+pub mod ContentLaws
+pub mod JudgeLaws
+pub mod WatchLaws
+pub mod VisitLaws
+pub mod QueueLaws
+pub mod PassLaws

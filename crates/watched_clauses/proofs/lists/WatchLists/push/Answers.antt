@@ -1,0 +1,15 @@
+use Rattle.std.proofs.Common.{arith, ◌≡◌, ◌∙◌, ap, sym, length, set, ℕ, List, ◌<◌, get_or, [], ◌∷◌, ◌++◌}
+use Rattle.watched_clauses.proofs.ContentLaws.{contents_length, contents_set, items_at}
+use Rattle.watched_clauses.proofs.lists.WatchLists.push.Goals as goal
+
+pub index_mut-requires : goal.index_mut-requires
+index_mut-requires c =
+    let e = ap length c.self.view_is in
+    omega (arith, c.requires, e, contents_length c.self.inside.lists.items, c.self.inside.lists.ok.0)
+
+pub returns : goal.returns
+returns c =
+    let lt : c.args.code < length c.self.inside.lists.items = omega (arith, c.requires, ap length c.self.view_is, contents_length c.self.inside.lists.items) in
+    contents_set c.self.inside.lists.items c.args.code c.push.new.self
+    ∙ ap (λ w. set w c.args.code c.push.new.self.items) c.self.view_is
+    ∙ ap (set c.args.self.now c.args.code) (c.in_ok-push.ensures.items ∙ ap (λ w. w ++ (c.args.clause ∷ [])) (items_at c.self.inside.lists.items c.args.code c.index_mut.result.now c.args.self.now lt c.index_mut.ensures.value c.self.view_is))

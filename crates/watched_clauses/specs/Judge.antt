@@ -1,0 +1,33 @@
+-- What a clause asks for when a literal that it watches has become false.
+use Rattle.std.specs.Prelude.{◌≡◌, ℕ, Bool, true, false, ◌||◌, cond, List, [], ◌∷◌, Option, Some, None, nat_eq, slice_index_or, ◌⊎◌}
+use Rattle.prop.specs.Trues.{listed}
+use Rattle.dense_trail.specs.Dense.{negation, is_true}
+use Rattle.watched_clauses.specs.declared.looking.Watch.{Watch}
+use Rattle.watched_clauses.specs.declared.looking.Finding.{Finding}
+use Rattle.watched_clauses.specs.declared.looking.Finding.TheVariants.{Elsewhere, Met, Open, Lone, Clash}
+
+abbrev pub none_watched : Watch
+none_watched = record { first = 0; second = 0 }
+
+-- the literals that a clause watches
+abbrev pub first_of : List Watch → ℕ → ℕ
+first_of watches k = (slice_index_or watches k none_watched).first
+
+abbrev pub second_of : List Watch → ℕ → ℕ
+second_of watches k = (slice_index_or watches k none_watched).second
+
+-- the first literal but one that is not false
+abbrev pub first_open : List Bool → ℕ → List ℕ → Option ℕ
+first_open truth other [] = None
+first_open truth other (k ∷ ks) = cond (nat_eq k other || is_true truth (negation k)) (first_open truth other ks) (Some k)
+
+-- one of two is this, and the other that
+abbrev pub AreWatched : ℕ → ℕ → ℕ → ℕ → Type 0
+AreWatched first second one other = ((first ≡ one) × (second ≡ other)) ⊎ ((second ≡ one) × (first ≡ other))
+
+abbrev pub IsFinding : List Bool → ℕ → ℕ → ℕ → List ℕ → Finding → Type 0
+IsFinding truth falsified first second r Elsewhere = (first ≡ falsified → ⊥) × (second ≡ falsified → ⊥)
+IsFinding truth falsified first second r Met = (other : ℕ) × AreWatched first second falsified other × (is_true truth other ≡ true)
+IsFinding truth falsified first second r (Open other open') = AreWatched first second falsified other × (is_true truth other ≡ false) × (listed r open' ≡ true) × (open' ≡ other → ⊥) × (is_true truth (negation open') ≡ false)
+IsFinding truth falsified first second r (Lone other) = AreWatched first second falsified other × (is_true truth other ≡ false) × (is_true truth (negation other) ≡ false) × ((k : ℕ) → listed r k ≡ true → (k ≡ other → ⊥) → is_true truth (negation k) ≡ true)
+IsFinding truth falsified first second r Clash = (k : ℕ) → listed r k ≡ true → is_true truth (negation k) ≡ true

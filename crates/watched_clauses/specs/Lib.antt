@@ -1,0 +1,5 @@
+pub mod Contents
+pub mod Judge
+pub mod Watching
+pub mod Kept
+pub mod Passing

@@ -1,0 +1,15 @@
+//! Propagation by two watched literals (M. Moskewicz and others, Chaff, 2001).
+//!
+//! Each clause of at least two different literals names two different ones that are watched, and each literal has the
+//! list of the clauses that watch it. Of each false watched literal this is kept: it still waits in the queue, or the
+//! clause's other watched literal is true and became so at a level that is not above. So a clause is looked at only when
+//! a watched literal of it becomes false, and nothing is to be mended when the search goes back.
+#![tactic(auto)]
+
+mod lists;
+mod looking;
+mod visiting;
+
+pub use lists::WatchLists;
+pub use looking::{Finding, Watch, judge};
+pub use visiting::propagate;
