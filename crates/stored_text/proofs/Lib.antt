@@ -3,3 +3,4 @@ pub mod Steps
 pub mod Walks
 pub mod Exact
 pub mod Whole
+pub mod Written

@@ -3,6 +3,7 @@ use Rattle.std.specs.Prelude.{ℕ, ◌+◌, ◌≡◌, ◌<◌, ◌≤◌, ◌�
 use Rattle.stored_text.specs.declared.StoredFail.TheVariants.{Format, Over}
 use Rattle.stored_text.specs.RunText.{Spells, GoesOn, AreShort, run_text}
 use Rattle.stored_text.specs.Reading.{read_run_of}
+use Rattle.stored_text.specs.Writing.{write_run_of}
 
 -- a file is read to some values exactly where it is their run text and they are at most a million; so it has one reading
 abbrev pub RunTextIsRead : Type 0
@@ -22,3 +23,7 @@ OverIsNamed =
     (file : List ℕ) (number count : ℕ) → read_run_of file ≡ Err (Over number count)
     → (number ≡ 9) × (((22000006 < length file) × (count ≡ 22000007))
     ⊎ ((count ≡ 1000001) × ((values : List ℤ) × (b : ℕ) × (rest : List ℕ) × (file ≡ run_text values ++ b ∷ rest) × AreShort values × (1000000 ≤ length values) × GoesOn (run_text values ++ b ∷ []))))
+
+-- what is written of values is read back as these values
+abbrev pub WrittenIsRead : Type 0
+WrittenIsRead = (values : List ℤ) (file : List ℕ) → AreShort values → write_run_of values ≡ Ok file → read_run_of file ≡ Ok values

@@ -1,6 +1,6 @@
 //! Laws of run files, each as the contract of a function that does nothing.
 
-ghost use Rattle.stored_text.specs.Laws.{RunTextIsRead, RefusedAtTheFirstByte, OverIsNamed};
+ghost use Rattle.stored_text.specs.Laws.{RunTextIsRead, RefusedAtTheFirstByte, OverIsNamed, WrittenIsRead};
 
 /// A file is read to some values exactly where it is their run text, and they are at most a million.
 pub fn run_text_is_read()
@@ -15,4 +15,9 @@ pub fn refused_at_the_first_byte()
 /// A refusal by the limit means that the file has too many bytes, or that a million values stand before one more.
 pub fn over_is_named()
     ensures { OverIsNamed }
+{}
+
+/// What is written of values is read back as these values.
+pub fn written_is_read()
+    ensures { WrittenIsRead }
 {}

@@ -9,11 +9,13 @@ mod line;
 mod reading;
 #[cfg(test)]
 mod tests;
+mod writing;
 
-pub use laws::{over_is_named, refused_at_the_first_byte, run_text_is_read};
+pub use laws::{over_is_named, refused_at_the_first_byte, run_text_is_read, written_is_read};
 pub use line::{Line, Next};
 pub use reading::{MOST_BYTES, MOST_VALUES, read_run};
 use thiserror::Error;
+pub use writing::write_run;
 
 /// Why a stored file is not read or written.
 #[derive(Clone, Copy, Debug, Drop, PartialEq, Error)]

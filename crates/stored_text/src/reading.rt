@@ -9,7 +9,7 @@ use crate::StoredFail;
 use crate::line::{Line, Next};
 use std::alloc::Global;
 
-const HEAD: [u8; 6] = *b"run 1\n";
+pub(crate) const HEAD: [u8; 6] = *b"run 1\n";
 
 /// The most values that a run file may have.
 pub const MOST_VALUES: usize = 1_000_000;

@@ -1,7 +1,11 @@
 //! Run files that are read, and those that are refused, each at its byte.
 
+ghost use Rattle.std.specs.Prelude.{IfOk};
+ghost use Rattle.stored_text.specs.RunText.{AreShort};
+
 use crate::{
-    MOST_BYTES, StoredFail, over_is_named, read_run, refused_at_the_first_byte, run_text_is_read,
+    MOST_BYTES, MOST_VALUES, StoredFail, over_is_named, read_run, refused_at_the_first_byte,
+    run_text_is_read, write_run, written_is_read,
 };
 use std::alloc::Global;
 use std::process::Abort;
@@ -43,6 +47,7 @@ fn read_and_refused(rt: HostRuntime) -> Result<(), Fail> {
     run_text_is_read();
     refused_at_the_first_byte();
     over_is_named();
+    written_is_read();
     for (bytes, values) in READ {
         match read_run(rt.alloc(), bytes) {
             Ok(got) => assert!(rt; got.as_slice() == values),
@@ -69,6 +74,39 @@ fn zeros(alloc: Global, lines: u32, end: &[u8]) -> Result<Vec<u8>, Fail> {
         file.push(*byte)?;
     }
     Ok(file)
+}
+
+// So many zeros.
+#[tactic(auto, using(crate::proofs::Written::short_more))]
+fn short_zeros(alloc: Global, count: usize) -> Result<Vec<i128>, Fail>
+    ensures { IfOk result (λ values. AreShort values.items) }
+{
+    let mut values = Vec::new(alloc);
+    for _ in 0..count {
+        values.push(0)?;
+    }
+    Ok(values)
+}
+
+#[test]
+fn written(rt: HostRuntime) -> Result<(), Fail> {
+    for (bytes, values) in READ {
+        match write_run(rt.alloc(), values) {
+            Ok(file) => assert!(rt; file.as_slice() == bytes),
+            Err(_) => assert!(rt; false),
+        }
+    }
+    let full = short_zeros(rt.alloc(), MOST_VALUES)?;
+    match write_run(rt.alloc(), &full) {
+        Ok(file) => assert!(rt; file.len() == 2_000_006),
+        Err(_) => assert!(rt; false),
+    }
+    let over = short_zeros(rt.alloc(), MOST_VALUES + 1)?;
+    match write_run(rt.alloc(), &over) {
+        Ok(_) => assert!(rt; false),
+        Err(fail) => assert!(rt; fail == StoredFail::Over(9, 1_000_001)),
+    }
+    Ok(())
 }
 
 #[test]

@@ -1,6 +1,7 @@
 use crate::Kinds;
 use crate::journey::Journey;
-use crate::plain::{Kept, count_of, is_complete, is_covered, length_of, may_settle};
+use crate::plain::{Replay, count_of};
+use cover_engine::Unwinding;
 use lv_base::Memory;
 use rand_core::{Rng, SeedableRng};
 use rand_xoshiro::Xoshiro256PlusPlus;
@@ -109,21 +110,54 @@ fn a_pair_falls_and_comes_again(rt: HostRuntime) -> Result<(), Fail> {
     Ok(())
 }
 
-/// Compares what the unwinding answers of each vertex, of all, and of some pairs, with the plain definitions.
-fn compare(rt: &impl Abort, journey: &Journey, kept: &[Kept], rng: &mut Xoshiro256PlusPlus) {
+/// Compares the unwinding's labels and pairs with those of its journal's replay.
+fn compare_parts(rt: &impl Abort, unwinding: &Unwinding, replay: &Replay) {
+    assert!(rt; replay.has_pairs_of(unwinding));
+    for (v, vertex) in (0..).zip(unwinding.vertices()) {
+        assert!(rt; replay.has_label_of(vertex, v));
+    }
+}
+
+/// Compares what the unwinding has and answers, of each vertex, of all, and of some pairs, with a plain replay of its
+/// journal.
+fn compare(
+    rt: &impl Abort,
+    alloc: Global,
+    journey: &Journey,
+    rng: &mut Xoshiro256PlusPlus,
+) -> Result<(), Memory> {
     let unwinding = journey.unwinding();
+    let replay = Replay::of(alloc, unwinding)?;
+    compare_parts(rt, unwinding, &replay);
     let count = count_of(unwinding);
     for v in 0..count {
-        assert_eq!(rt; covered(rt, journey, v), is_covered(unwinding, v));
+        assert_eq!(rt;
+            covered(rt, journey, v),
+            replay.is_covered(unwinding.vertices(), v)
+        );
     }
-    assert_eq!(rt; unwinding.complete(journey.graph()), is_complete(journey));
+    assert_eq!(rt;
+        unwinding.complete(journey.graph()),
+        replay.is_complete(journey)
+    );
+    compare_pairs(rt, journey, &replay, rng);
+    Ok(())
+}
+
+/// Compares whether some random pairs may be settled.
+fn compare_pairs(
+    rt: &impl Abort,
+    journey: &Journey,
+    replay: &Replay,
+    rng: &mut Xoshiro256PlusPlus,
+) {
+    let unwinding = journey.unwinding();
+    let count = count_of(unwinding);
     for _ in 0..20 {
         let v = below(rng, count);
         let w = below(rng, count);
-        assert_eq!(rt;
-            settles(rt, journey, v, w),
-            may_settle(unwinding, kept, v, w)
-        );
+        let wanted = replay.may_settle(unwinding.vertices(), v, w);
+        assert_eq!(rt; settles(rt, journey, v, w), wanted);
     }
 }
 
@@ -140,7 +174,6 @@ fn below(rng: &mut Xoshiro256PlusPlus, count: u32) -> u32 {
 fn try_unit(
     alloc: Global,
     journey: &mut Journey,
-    kept: &mut Vec<Kept>,
     rng: &mut Xoshiro256PlusPlus,
 ) -> Result<bool, Memory> {
     let count = count_of(journey.unwinding());
@@ -151,19 +184,7 @@ fn try_unit(
         0 => journey.expand(alloc, v),
         1 => journey.refine(alloc, v, below(rng, 3)),
         2 => journey.cover(alloc, v, w),
-        _ => {
-            let done = journey.part(alloc, v, w, 1)? || journey.part(alloc, v, w, 0)?;
-            if done {
-                let vertices = journey.unwinding().vertices();
-                let lengths = (length_of(vertices, v), length_of(vertices, w));
-                kept.push(Kept {
-                    left: v,
-                    right: w,
-                    lengths,
-                })?;
-            }
-            Ok(done)
-        }
+        _ => Ok(journey.part(alloc, v, w, 1)? || journey.part(alloc, v, w, 0)?),
     }
 }
 
@@ -177,13 +198,12 @@ fn random_journey(
     let Some(mut journey) = Journey::new(alloc, last)? else {
         return Ok(Kinds::of(&[]));
     };
-    let mut kept = Vec::new(alloc);
     for _ in 0..20_000 {
         if journey.unwinding().journal().len() >= 100 {
             break;
         }
-        if try_unit(alloc, &mut journey, &mut kept, rng)? {
-            compare(rt, &journey, &kept, rng);
+        if try_unit(alloc, &mut journey, rng)? {
+            compare(rt, alloc, &journey, rng)?;
         }
     }
     Ok(Kinds::of(journey.unwinding().journal()))
