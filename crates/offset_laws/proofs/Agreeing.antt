@@ -1,17 +1,16 @@
 -- A constant expression is the same in two environments that agree where it stands.
-use Rattle.std.proofs.Common.{◌≡◌, ℕ, suc, ◌≤◌, ◌<◌, Bool, true, false, ◌&&◌, not, if◌then◌else◌, List, [], ◌∷◌, Option, None, Some, ℤ, pos, refl, sym, ap, ◌∙◌, subst, arith}
+use Rattle.std.proofs.Common.{◌≡◌, ℕ, suc, ◌≤◌, Bool, true, false, ◌&&◌, not, if◌then◌else◌, List, Option, None, Some, ℤ, pos, refl, ap, ◌∙◌, arith}
 use Rattle.std.specs.Prelude.{slice_get, int_lt}
 use mathlib.Core.Path.{fun_ext}
-use Rattle.lv_base.specs.declared.kind.Kind.{Kind}
 use Rattle.lv_base.specs.declared.kind.Kind.TheVariants as kind
 use Rattle.lv_base.specs.declared.kind.Model.{Model}
 use Rattle.lv_base.specs.Integers.{truth}
 use Rattle.c_tree.specs.declared.symbol.BinaryOp.TheVariants as op
 use Rattle.c_tree.specs.declared.tree.PrefixOp.TheVariants as pre
 use Rattle.c_tree.specs.Tree as t
-use Rattle.c_run.specs.Run.{Run, give, ◌>>=◌, choose, read, located, is_true, Element}
+use Rattle.c_run.specs.Run.{Run, give, ◌>>=◌, choose, read, located, is_true}
 use Rattle.c_run.specs.Operators.{Use, used, dropped}
-use Rattle.c_meaning.specs.Kinds.{CType, kind_of, is_kind, size_of, as_type}
+use Rattle.c_meaning.specs.Kinds.{kind_of, is_kind, size_of, as_type}
 use Rattle.c_meaning.specs.Bindings.{Env, Entity, anObjectOf, aFunctionOf, aConstantOf, aTypeOf, aTagOf, aNameOf, nothingOf, entity_of, entity_of_entry, entity_type, object_number, object_type, size_of_object, count_of, visible, declared_at, constant_value, has_negative, named_kind, word_kind, named_in, or_kind, or_typing, typing_of, words_type}
 use Rattle.c_meaning.specs.Types.{type_of, type_of_last, called_type, element_type, prefix_type, binary_type, arms_type}
 use Rattle.c_meaning.specs.Constants.{is_object, is_constant, constant_context, no_state, got_value, only_if, constant_of}

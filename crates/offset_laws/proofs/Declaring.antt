@@ -1,5 +1,5 @@
 -- The declarations of declarators, statements and items lie where these stand.
-use Rattle.std.proofs.Common.{◌≡◌, ℕ, suc, ◌≤◌, Bool, true, false, ◌&&◌, List, [], ◌∷◌, ◌++◌, Option, None, Some, refl, sym, subst, append_assoc, arith}
+use Rattle.std.proofs.Common.{◌≡◌, ℕ, suc, ◌≤◌, Bool, true, false, List, [], ◌++◌, Option, None, Some, refl, arith}
 use Rattle.lv_base.specs.declared.kind.Kind.{Kind}
 use Rattle.c_tree.specs.Tree as t
 use Rattle.c_tree.specs.declared.known.Site.{Site}
@@ -7,14 +7,13 @@ use Rattle.c_tree.specs.declared.known.Site.TheVariants as site
 use Rattle.c_tree.specs.declared.known.Known.{Known as Told}
 use Rattle.c_tree.specs.Shape as sh
 use Rattle.c_tree.specs.Shape.{ShapedOption, ShapedInitial, ShapedForm, ShapedDeclarators, ShapedDeclaration, ShapedForStart, ShapedStatement, ShapedStatements, may_declare, declared, are_no_parts}
-use Rattle.c_meaning.specs.Tokens.{count_parts, open_of, close_of, end_of}
+use Rattle.c_meaning.specs.Tokens.{count_parts, close_of, end_of}
 use Rattle.c_meaning.specs.Scope as s
-use Rattle.c_meaning.specs.Constants.{listed}
 use Rattle.c_meaning.specs.Rules as rules
 use Rattle.offset_laws.proofs.Logic.{nil_left, nil_right, and_left}
 use Rattle.offset_laws.proofs.Standing.{In, InOption, itself}
 use Rattle.offset_laws.proofs.Statements.{InForm, InInitial, InDeclarators, InDeclaration, InStart, InStatement, InStatements, ordered_declarators}
-use Rattle.offset_laws.proofs.Lying.{Known, Room, nowhere, within, Allows, Sized, NameLies, ObjectLies, Lies, Placed, wider, stretch, join, empty, one, late, lift, alike, never, inner_room}
+use Rattle.offset_laws.proofs.Lying.{Known, Room, nowhere, within, Allows, Sized, NameLies, ObjectLies, Placed, wider, stretch, join, empty, one, late, lift, alike, inner_room}
 use Rattle.offset_laws.proofs.Placing.{placed, placed_parts, placed_words, placed_option, placed_prototype, close_in}
 
 -- ---- What a declarator declares

@@ -1,5 +1,5 @@
 -- The declarations of a file lie where its items stand.
-use Rattle.std.proofs.Common.{◌≡◌, ℕ, suc, ◌≤◌, Bool, true, false, List, [], ◌∷◌, ◌++◌, Option, None, Some, refl, sym, subst, append_assoc, arith}
+use Rattle.std.proofs.Common.{◌≡◌, ℕ, suc, ◌≤◌, Bool, true, false, List, [], ◌∷◌, ◌++◌, None, Some, sym, subst, append_assoc, arith}
 use Rattle.c_tree.specs.Tree as t
 use Rattle.c_tree.specs.declared.known.Site.TheVariants as site
 use Rattle.c_tree.specs.Shape as sh
@@ -9,9 +9,9 @@ use Rattle.c_meaning.specs.Bindings.{kind_in, words_type}
 use Rattle.c_meaning.specs.Scope as s
 use Rattle.c_meaning.specs.Rules as rules
 use Rattle.offset_laws.proofs.Logic.{nil_left, nil_right}
-use Rattle.offset_laws.proofs.Standing.{InWords, InParameters, itself, ordered_words, ordered_parameters}
-use Rattle.offset_laws.proofs.Statements.{InBody, InItems, ordered_declaration}
-use Rattle.offset_laws.proofs.Lying.{Known, Room, nowhere, within, Allows, Lies, Placed, wider, stretch, join, empty, one, late, lift, alike, never, same_room}
+use Rattle.offset_laws.proofs.Standing.{InWords, InParameters, itself, ordered_words}
+use Rattle.offset_laws.proofs.Statements.{InBody, InItems}
+use Rattle.offset_laws.proofs.Lying.{Known, nowhere, within, Lies, Placed, wider, stretch, join, empty, late, lift, alike, same_room}
 use Rattle.offset_laws.proofs.Placing.{placed_words, placed_parameters, placed_prototype, close_in}
 use Rattle.offset_laws.proofs.Declaring.{placed_declaration, placed_statements}
 

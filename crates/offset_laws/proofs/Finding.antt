@@ -1,5 +1,5 @@
 -- Names in a function's body find their own declarations, and none of a prototype's parameters.
-use Rattle.std.proofs.Common.{◌≡◌, ◌⊎◌, inl, inr, ℕ, suc, ◌≤◌, ◌<◌, Bool, true, false, ◌&&◌, not, if◌then◌else◌, List, [], ◌∷◌, ◌++◌, length, map, append_assoc, Option, None, Some, refl, sym, ap, ◌∙◌, subst, arith}
+use Rattle.std.proofs.Common.{◌≡◌, ◌⊎◌, inl, inr, ℕ, suc, ◌≤◌, Bool, true, false, ◌&&◌, not, if◌then◌else◌, List, [], ◌∷◌, ◌++◌, length, map, append_assoc, Option, None, Some, refl, sym, ap, ◌∙◌, subst, arith}
 use Rattle.std.specs.Prelude.{slice_get, find, nat_eq, nat_le, bytes_eq}
 use Rattle.std.proofs.lemmas.Bool.{eq-eqb, lt-leb}
 use Rattle.lv_base.specs.declared.kind.Model.{Model}
@@ -9,8 +9,8 @@ use Rattle.c_meaning.specs.Bindings.{Env, Entry, Object, Entity, anObjectOf, aFu
 use Rattle.c_meaning.specs.Constants as c
 use Rattle.fit_laws.specs.Laws.{IsNoName}
 use Rattle.offset_laws.proofs.Logic.{and_right}
-use Rattle.offset_laws.proofs.Lying.{Known, Apart, AllApart, Distinct, Room, nowhere, within, NameLies, Lies, AllLie}
-use Rattle.offset_laws.proofs.Growing.{AllFail, found_here, other_offset, NameTold, IsAName, AllNumbered, OwnTold, IsNew, AllOf, length_as, Step, step_of, next_numbered, Grown, grown, fetched_next}
+use Rattle.offset_laws.proofs.Lying.{Known, AllApart, Distinct, Room, nowhere, within, NameLies, AllLie}
+use Rattle.offset_laws.proofs.Growing.{AllFail, found_here, other_offset, NameTold, AllNumbered, OwnTold, IsNew, AllOf, length_as, Step, step_of, next_numbered, Grown, grown, fetched_next}
 
 -- ---- A declaration is found at its own offset
 

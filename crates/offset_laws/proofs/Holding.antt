@@ -1,6 +1,5 @@
 -- What the bodies of a source hold that breaks no rule.
 use Rattle.std.proofs.Common.{◌≡◌, ℕ, suc, ◌≤◌, Bool, true, false, ◌&&◌, not, List, [], ◌∷◌, ◌++◌, Option, None, Some, refl, sym, ap, ◌∙◌, subst, arith}
-use Rattle.std.specs.Prelude.{slice_get}
 use Rattle.c_tree.specs.Tree as t
 use Rattle.c_tree.specs.declared.known.Site.{Site}
 use Rattle.c_tree.specs.declared.known.Site.TheVariants as site
@@ -10,13 +9,13 @@ use Rattle.c_tree.specs.Shape as sh
 use Rattle.c_tree.specs.Shape.{ShapedDeclarators, ShapedDeclaration, ShapedForStart, ShapedStatement, ShapedStatements, may_declare}
 use Rattle.c_meaning.specs.Tokens.{end_of}
 use Rattle.c_meaning.specs.Scope as s
-use Rattle.c_meaning.specs.Bindings.{Env, Object, Entity, anObjectOf, entity_of, object_number, size_of_object, declared_at}
+use Rattle.c_meaning.specs.Bindings.{Env, Object, entity_of, object_number, size_of_object, declared_at}
 use Rattle.c_types.specs.Fit.{IsThere}
 use Rattle.fit_laws.specs.Laws.{IsNoName, Unnamed, AllUnnamed}
 use Rattle.fit_laws.specs.Holds.{IsOne, OptionHolds, InitialHolds, DeclaratorsHold, DeclarationHolds, StartHolds, StatementHolds, StatementsHold}
 use Rattle.offset_laws.proofs.Logic.{and_right, not_true}
 use Rattle.offset_laws.proofs.Standing.{In, InParts, InOption, ordered, ordered_parts, ordered_words, ordered_option}
-use Rattle.offset_laws.proofs.Statements.{InForm, InInitial, InDeclarators, InDeclaration, InStart, InStatement, InStatements, ordered_form, ordered_initial, ordered_declarators, ordered_head, ordered_start, ordered_for, ordered_statement, ordered_statements}
+use Rattle.offset_laws.proofs.Statements.{InInitial, InDeclarators, InDeclaration, InStart, InStatement, InStatements, ordered_form, ordered_initial, ordered_declarators, ordered_head, ordered_start, ordered_for, ordered_statement, ordered_statements}
 use Rattle.offset_laws.proofs.Finding.{FoundAt, FoundAs, AllFound, found_left, found_right}
 use Rattle.offset_laws.proofs.Typedefs.{typedef_known}
 

@@ -1,20 +1,18 @@
 -- Each array of a source that breaks no rule has elements.
-use Rattle.std.proofs.Common.{◌≡◌, ℕ, zero, suc, ◌≤◌, ◌<◌, Bool, true, false, ◌&&◌, ◌||◌, not, if◌then◌else◌, List, [], ◌∷◌, ◌++◌, length, map, append-nil, Option, None, Some, ℤ, pos, negsuc, refl, sym, ap, ◌∙◌, subst, arith}
+use Rattle.std.proofs.Common.{◌≡◌, ℕ, suc, ◌≤◌, ◌<◌, Bool, true, false, ◌&&◌, ◌||◌, not, if◌then◌else◌, List, [], ◌∷◌, ◌++◌, length, map, Option, None, Some, ℤ, pos, negsuc, sym, ap, ◌∙◌, subst, arith}
 use Rattle.std.proofs.lemmas.Bool.{leb-false, le-leb}
-use Rattle.std.specs.Prelude.{slice_get, find, nat_eq, nat_le, int_le, unsigned_abs}
-use Rattle.lv_base.specs.declared.kind.Model.{Model}
+use Rattle.std.specs.Prelude.{slice_get, find, nat_eq, nat_le, int_le}
 use Rattle.c_tree.specs.Tree as t
 use Rattle.c_meaning.specs.Kinds.{is_kind}
 use Rattle.c_meaning.specs.Types.{type_of}
 use Rattle.c_meaning.specs.Scope as s
-use Rattle.c_meaning.specs.Bindings.{Env, Entry, Object, Entity, anObjectOf, aFunctionOf, aConstantOf, aTypeOf, aTagOf, aNameOf, nothingOf, entity_of, entity_of_entry, visible_in, is_visible, inner, visible, declared_at}
+use Rattle.c_meaning.specs.Bindings.{Env, Entry, Object, Entity, anObjectOf, aFunctionOf, aConstantOf, aTypeOf, aTagOf, aNameOf, nothingOf, entity_of, entity_of_entry, visible_in, is_visible, inner}
 use Rattle.c_meaning.specs.Constants as c
 use Rattle.c_meaning.specs.Rules as rules
 use Rattle.c_types.specs.Fit.{LengthFits, ObjectsFit}
 use Rattle.offset_laws.proofs.Logic.{nil_left, nil_right, line_holds, unless_lines}
-use Rattle.offset_laws.proofs.Standing.{In}
-use Rattle.offset_laws.proofs.Lying.{Known, Sized, Behind, Apart, AllApart, Distinct, Lies, AllLie, Room}
-use Rattle.offset_laws.proofs.Growing.{AllFail, found_more, AllHidden, seen_more, other_offset, not_yet, Numbered, AllNumbered, AllOf, length_as, Step, step_of, next_numbered, Grown, grown, fetched, if_true}
+use Rattle.offset_laws.proofs.Lying.{Known, Sized, Behind, AllApart, Distinct, AllLie, Room}
+use Rattle.offset_laws.proofs.Growing.{AllFail, found_more, AllHidden, seen_more, other_offset, not_yet, Numbered, AllNumbered, AllOf, length_as, step_of, next_numbered, Grown, grown, fetched, if_true}
 use Rattle.offset_laws.proofs.Agreeing.{SameObject, Same, constant_of_same}
 
 -- ---- What is declared behind these offsets doesn't matter there

@@ -1,5 +1,5 @@
 -- Declarations in a row: each lies in its part of the tree, no two have one offset, and each holds behind those before it.
-use Rattle.std.proofs.Common.{◌≡◌, ℕ, suc, ◌≤◌, Bool, true, false, List, [], ◌∷◌, ◌++◌, Option, None, Some, refl, arith}
+use Rattle.std.proofs.Common.{◌≡◌, ℕ, suc, ◌≤◌, Bool, true, false, List, [], ◌∷◌, ◌++◌, None, Some, arith}
 use Rattle.lv_base.specs.declared.kind.Model.{Model}
 use Rattle.c_tree.specs.Tree as t
 use Rattle.c_meaning.specs.Scope as s

@@ -1,14 +1,14 @@
 -- The declarations of expressions, words and parameters lie where these stand.
-use Rattle.std.proofs.Common.{◌≡◌, ℕ, suc, ◌≤◌, Bool, true, false, List, [], ◌∷◌, ◌++◌, Option, None, Some, refl, sym, subst, append_assoc, arith}
+use Rattle.std.proofs.Common.{◌≡◌, ℕ, suc, ◌≤◌, Bool, true, false, List, [], ◌∷◌, Option, None, Some, sym, subst, append_assoc, arith}
 use Rattle.c_tree.specs.Tree as t
 use Rattle.c_tree.specs.declared.known.Site.TheVariants as site
 use Rattle.c_tree.specs.declared.known.Known.{Known as Told}
 use Rattle.c_tree.specs.Words.{nothing_known, is_typed}
 use Rattle.c_tree.specs.Shape.{Shaped, ShapedParts, ShapedWords, ShapedWord, ShapedEnumerators, ShapedOption, ShapedParams, ShapedParameters, AreSpecs}
-use Rattle.c_meaning.specs.Tokens.{last_of, last_of_parts, first_of_word, first_of_words, open_of, close_of}
+use Rattle.c_meaning.specs.Tokens.{last_of, first_of_word, first_of_words, close_of}
 use Rattle.c_meaning.specs.Scope as s
-use Rattle.offset_laws.proofs.Standing.{In, InParts, InWords, InWord, InEnumerators, InOption, InParams, InParameters, ordered, ordered_parts, ordered_words, ordered_enumerators, ordered_params, itself}
-use Rattle.offset_laws.proofs.Lying.{Known, Room, nowhere, within, Lies, Placed, stretch, join, empty, one, late, lift}
+use Rattle.offset_laws.proofs.Standing.{In, InParts, InWords, InWord, InEnumerators, InOption, InParams, InParameters, ordered, ordered_enumerators, ordered_params, itself}
+use Rattle.offset_laws.proofs.Lying.{Known, nowhere, within, Lies, Placed, stretch, join, empty, one, late, lift}
 
 -- ---- The first and the last token
 

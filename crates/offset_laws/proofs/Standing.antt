@@ -6,7 +6,7 @@ use Rattle.c_tree.specs.declared.symbol.Symbol.TheVariants as sy
 use Rattle.c_tree.specs.declared.symbol.Sign.{Sign}
 use Rattle.c_tree.specs.Symbols.{sign}
 use Rattle.c_tree.specs.Tree as t
-use Rattle.c_tree.specs.Spelling.{opening, closing, comma, prefix_symbol, spell_raw, spell_attribute, spell_attributes, spell, spell_parts, spell_words, spell_word, spell_enumerators, spell_option, spell_name, spell_option_name, spell_params, spell_parameters}
+use Rattle.c_tree.specs.Spelling.{opening, closing, comma, spell_raw, spell_attribute, spell_attributes, spell, spell_parts, spell_words, spell_word, spell_enumerators, spell_option, spell_option_name, spell_params, spell_parameters}
 
 -- ---- Places of parts
 

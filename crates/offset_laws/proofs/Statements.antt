@@ -1,6 +1,5 @@
 -- Where statements and items stand whose tokens rise.
-use Rattle.std.proofs.Common.{ℕ, suc, ◌≤◌, List, [], ◌∷◌, Option, None, Some, arith}
-use Rattle.c_tree.specs.declared.symbol.AssignOp.TheVariants as to
+use Rattle.std.proofs.Common.{ℕ, suc, ◌≤◌, List, ◌∷◌, Option, None, Some, arith}
 use Rattle.c_tree.specs.declared.symbol.Bracket.TheVariants as br
 use Rattle.c_tree.specs.declared.symbol.StatementWord.{StatementWord}
 use Rattle.c_tree.specs.declared.symbol.StatementWord.TheVariants as key

@@ -1,5 +1,5 @@
 -- Words that stand together have `typedef` among them where their storage says so.
-use Rattle.std.proofs.Common.{◌≡◌, ℕ, Bool, true, false, Option, None, Some, if◌then◌else◌, refl, sym, ap, ◌∙◌}
+use Rattle.std.proofs.Common.{◌≡◌, ℕ, Bool, true, false, Option, None, Some, if◌then◌else◌, refl, ap, ◌∙◌}
 use Rattle.std.specs.Option.{option_map, option_and_then}
 use Rattle.c_tree.specs.declared.symbol.StorageWord.{StorageWord}
 use Rattle.c_tree.specs.declared.symbol.StorageWord.TheVariants as word
@@ -11,7 +11,7 @@ use Rattle.c_tree.specs.declared.known.Site.{Site}
 use Rattle.c_tree.specs.declared.known.Site.TheVariants as site
 use Rattle.c_tree.specs.declared.known.Known.{Known}
 use Rattle.c_tree.specs.Tree as t
-use Rattle.c_tree.specs.Words.{known, only, storage_with, is_typedef, is_lawful, lawful, known_type, known_storage, with_type, type_with, with_storage, with_named, with_word, alone}
+use Rattle.c_tree.specs.Words.{known, only, storage_with, is_typedef, is_lawful, lawful, known_type, known_storage, type_with, with_word, alone}
 use Rattle.c_meaning.specs.Scope as s
 
 abbrev or_this : {A : Type 0} → A → Option A → A

@@ -1,17 +1,15 @@
 -- A source that breaks no rule of names, types and calls, and whose tokens rise.
-use Rattle.std.proofs.Common.{◌≡◌, ◌⊎◌, inl, inr, ℕ, suc, ◌≤◌, Bool, true, false, List, [], ◌∷◌, ◌++◌, map, append-nil, append_assoc, Option, None, Some, refl, sym, ap, ◌∙◌, subst, arith}
-use Rattle.lv_base.specs.declared.kind.Model.{Model}
+use Rattle.std.proofs.Common.{◌≡◌, inl, inr, ℕ, suc, true, List, [], ◌∷◌, ◌++◌, map, append-nil, append_assoc, None, Some, refl, sym, ap, ◌∙◌, subst, arith}
 use Rattle.c_tree.specs.declared.symbol.Sign.{Sign}
 use Rattle.c_tree.specs.declared.symbol.Symbol.TheVariants as sy
 use Rattle.c_tree.specs.Symbols.{sign}
 use Rattle.c_tree.specs.Tree as t
 use Rattle.c_tree.specs.Shape as sh
 use Rattle.c_tree.specs.Shape.{ShapedItems}
-use Rattle.c_tree.specs.Denotes.{IsSpelled, spelling}
+use Rattle.c_tree.specs.Denotes.{spelling}
 use Rattle.c_tree.specs.declared.known.Site.TheVariants as site
 use Rattle.c_meaning.specs.Tokens.{open_of, close_of}
 use Rattle.c_meaning.specs.Scope as s
-use Rattle.c_meaning.specs.Bindings.{Env, Entry, kind_in, words_type}
 use Rattle.c_meaning.specs.Constants as c
 use Rattle.c_meaning.specs.Program.{Function, functions_of, env_of}
 use Rattle.c_meaning.specs.Rules as rules
@@ -20,12 +18,12 @@ use Rattle.fit_laws.specs.Known.{KnownHold}
 use Rattle.offset_laws.specs.Rising.{Rises}
 use Rattle.offset_laws.specs.Laws.{SourcesHold}
 use Rattle.offset_laws.proofs.Logic.{nil_left, nil_right}
-use Rattle.offset_laws.proofs.Standing.{RisesTo, first, itself, ordered_words, ordered_parameters}
-use Rattle.offset_laws.proofs.Statements.{InItems, read_items, ordered_declaration, ordered_statements}
-use Rattle.offset_laws.proofs.Lying.{Known, Room, nowhere, within, Lies, AllLie, Placed, same_room}
+use Rattle.offset_laws.proofs.Standing.{RisesTo, itself, ordered_words, ordered_parameters}
+use Rattle.offset_laws.proofs.Statements.{InItems, read_items}
+use Rattle.offset_laws.proofs.Lying.{Known, nowhere, within, same_room}
 use Rattle.offset_laws.proofs.Declaring.{placed_declaration}
 use Rattle.offset_laws.proofs.Files.{body_shaped, placed_function, placed_skipped, placed_items}
-use Rattle.offset_laws.proofs.Growing.{AllNumbered, Grown, grown}
+use Rattle.offset_laws.proofs.Growing.{grown}
 use Rattle.offset_laws.proofs.Lengths.{objects_fit}
 use Rattle.offset_laws.proofs.Finding.{AllFound, found_left, found_right, all_found, AllTold, all_told, AllFree, free_both, free_of, free_inner, no_names}
 use Rattle.offset_laws.proofs.Holding.{statements_hold}
