@@ -1,9 +1,9 @@
 -- What runs of sources that break no rule never meet.
-use Rattle.std.specs.Prelude.{◌≡◌, ℕ, Bool, true, false, not, List, [], Some, ℤ, slice_get}
+use Rattle.std.specs.Prelude.{◌≡◌, ℕ, zero, suc, Bool, true, false, not, List, [], Option, Some, None, ℤ, slice_get}
 use Rattle.lv_base.specs.declared.kind.Model.{Model}
 use Rattle.c_tree.specs.Tree.{Items}
-use Rattle.c_run.specs.Run.{State, Got, Value, Stop, Compute}
-use Rattle.c_run.specs.Loops.{toLabel, toCase, toDefault, From, Start, Seek, Exit, Normal, Broke, Continued, Returned, Jumped, Absent, Calls}
+use Rattle.c_run.specs.Run.{State, Got, Value, Stop, Run, give, ◌>>=◌, spent, Compute}
+use Rattle.c_run.specs.Loops.{toLabel, toCase, toDefault, From, Start, Seek, Exit, Normal, Broke, Continued, Returned, Jumped, Absent, Calls, enter}
 use Rattle.c_meaning.specs.Execution.{exec_all}
 use Rattle.c_meaning.specs.Good.{Good}
 use Rattle.c_meaning.specs.Jumps.{Jump, labels_of_all, has_name}
@@ -35,3 +35,25 @@ BodiesLeft = (items : Items) → (model : Model) → Good items model → (numbe
     (compute : Compute) → (inputs : List ℤ) → (call : Calls) → (turns : ℕ) → (from : From) → (st : State) →
     IsLeft (labels_of_all (env_of items model) [] f.body) (may_lack from (labels_of_all (env_of items model) [] f.body))
     (exec_all (context (env_of items model) model compute inputs (functions_of (env_of items model) items) call) f.result turns f.body from st)
+
+-- ---- Calls
+
+-- as a body is left and entered again, but for what is done where a label is absent
+abbrev pub left_or : Run (Option ℤ) → Exit → (List ℕ → Run (Option ℤ)) → Run (Option ℤ)
+left_or stray (Returned v) again = give v
+left_or stray (Jumped label) again = again label
+left_or stray Absent again = stray
+left_or stray exit again = give None
+
+abbrev pub enter_or : Run (Option ℤ) → ℕ → (From → Run Exit) → From → Run (Option ℤ)
+enter_or stray zero body from = spent 0
+enter_or stray (suc n) body from = do
+  exit ← body from
+  left_or stray exit (λ label. enter_or stray n body (Seek (toLabel label)))
+
+-- whatever were done there
+abbrev pub LabelsFound : Type 0
+LabelsFound = (items : Items) → (model : Model) → Good items model → (number : ℕ) → (f : Function) → slice_get (functions_of (env_of items model) items) number ≡ Some f →
+    (compute : Compute) → (inputs : List ℤ) → (call : Calls) → (turns entries : ℕ) → (stray : Run (Option ℤ)) → (st : State) →
+    enter_or stray entries (exec_all (context (env_of items model) model compute inputs (functions_of (env_of items model) items) call) f.result turns f.body) Start st
+    ≡ enter entries (exec_all (context (env_of items model) model compute inputs (functions_of (env_of items model) items) call) f.result turns f.body) Start st
