@@ -1,0 +1,15 @@
+mod Logic
+mod Standing
+mod Statements
+mod Lying
+mod Placing
+mod Declaring
+mod Files
+mod Growing
+mod Agreeing
+mod Lengths
+mod Typedefs
+mod Finding
+mod Holding
+mod Whole
+mod Sources

@@ -1,0 +1,37 @@
+-- What the order of tokens leaves to the rules of names, and the typed trees of sources that break no rule.
+use Rattle.std.specs.Prelude.{◌≡◌, ℕ, List, [], map, ℤ}
+use Rattle.lv_base.specs.declared.kind.Model.{Model}
+use Rattle.c_tree.specs.declared.symbol.Sign.{Sign}
+use Rattle.c_tree.specs.Tree.{Items}
+use Rattle.c_tree.specs.Denotes.{IsSpelled}
+use Rattle.c_meaning.specs.Good.{Good}
+use Rattle.c_meaning.specs.Jumps.{control_faults}
+use Rattle.c_meaning.specs.Program.{functions_of, env_of, run}
+use Rattle.c_meaning.specs.Rules.{typing_faults}
+use Rattle.c_typed.specs.Rules.{broken}
+use Rattle.c_typed.specs.Run as typed
+use Rattle.c_types.specs.Elaborated.{elaborated}
+use Rattle.fit_laws.specs.Whole.{SourceHolds}
+use Rattle.offset_laws.specs.Rising.{Rises}
+
+-- a source that breaks no rule of names, types, calls, constants and cases
+abbrev pub IsRight : Items → Model → Type 0
+IsRight items model = typing_faults (env_of items model) model (map (λ f. f.name) (functions_of (env_of items model) items)) items ≡ []
+
+abbrev pub SourcesHold : Type 0
+SourcesHold = (tokens : List Sign) (items : Items) → (model : Model) → IsSpelled tokens items → Rises 0 tokens → IsRight items model → SourceHolds items model
+
+-- its typed tree runs as it does, with any number of turns, on any inputs
+abbrev pub SourcesRun : Type 0
+SourcesRun = (tokens : List Sign) (items : Items) → (model : Model) → IsSpelled tokens items → Rises 0 tokens → IsRight items model → (turns : ℕ) → (inputs : List ℤ) →
+    typed.run turns (elaborated items model) inputs ≡ run turns items model inputs
+
+-- its typed tree breaks the rules of labels, jumps, effects and calls at the same tokens
+abbrev pub SourcesBreak : Type 0
+SourcesBreak = (tokens : List Sign) (items : Items) → (model : Model) → IsSpelled tokens items → Rises 0 tokens → IsRight items model →
+    broken (elaborated items model) ≡ control_faults (env_of items model) (functions_of (env_of items model) items)
+
+-- a source that breaks no rule at all
+abbrev pub GoodSources : Type 0
+GoodSources = (tokens : List Sign) (items : Items) → (model : Model) → IsSpelled tokens items → Rises 0 tokens → Good items model →
+    (broken (elaborated items model) ≡ []) × ((turns : ℕ) → (inputs : List ℤ) → typed.run turns (elaborated items model) inputs ≡ run turns items model inputs)

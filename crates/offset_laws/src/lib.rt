@@ -1,0 +1,47 @@
+//! What the order of a source's tokens leaves to its typed tree.
+#![tactic(auto)]
+
+ghost use Rattle.offset_laws.specs.Laws.{GoodSources, SourcesBreak, SourcesHold, SourcesRun};
+
+use c_types::same_run;
+use fit_laws::{known_hold, sources_fit};
+use type_laws::same_control;
+
+/// In a source whose tokens rise, each name of a body finds its own declaration and no parameter of a prototype, and a length
+/// is the same where it is declared and over the whole source; so that, where no rule of names, types, calls, constants and
+/// cases is broken, each array has elements, and each initial value its object.
+pub fn sources_hold()
+    ensures { SourcesHold }
+{
+    known_hold();
+}
+
+/// The typed tree of a source that breaks no rule of names, types, calls, constants and cases runs as the source does.
+pub fn sources_run()
+    ensures { SourcesRun }
+{
+    sources_hold();
+    sources_fit();
+    same_run();
+}
+
+/// The typed tree of such a source breaks the rules of labels, jumps, effects that are not sequenced, and calls that lead back
+/// to their caller, exactly where the source does, at the same tokens in the same order.
+pub fn sources_break()
+    ensures { SourcesBreak }
+{
+    sources_hold();
+    sources_fit();
+    same_control();
+}
+
+/// The typed tree of a source that breaks no rule at all breaks none, and runs as the source does.
+pub fn good_sources()
+    ensures { GoodSources }
+{
+    sources_run();
+    sources_break();
+}
+
+#[cfg(test)]
+mod tests;

@@ -1,0 +1,9 @@
+use crate::{good_sources, sources_break, sources_hold, sources_run};
+
+#[test]
+fn the_laws_are_there() {
+    sources_hold();
+    sources_run();
+    sources_break();
+    good_sources();
+}

@@ -1,0 +1,8 @@
+use crate::{calls_found, good_programs, tokens_rise};
+
+#[test]
+fn the_laws_are_there() {
+    tokens_rise();
+    good_programs();
+    calls_found();
+}
