@@ -4,6 +4,8 @@
 mod cells;
 mod halt;
 mod machine;
+#[cfg(test)]
+mod tests;
 mod values;
 
 pub use cells::Cells;
