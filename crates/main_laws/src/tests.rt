@@ -1,0 +1,6 @@
+use crate::main_found;
+
+#[test]
+fn the_laws_are_there() {
+    main_found();
+}
