@@ -34,6 +34,7 @@ pub struct Called {
     pub at: u32,
 }
 
+/// Whether the values of an expression's list are used: those of a call's arguments are, and those before a comma's last part are not.
 pub fn list_use(e: &Expr) -> Usage
     ensures { use_of result ≡ val.list_use (v.expr e.now) }
 {
