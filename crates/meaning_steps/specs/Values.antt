@@ -207,11 +207,15 @@ module _ (c : Context) where
   finish_binary op.OrElse at a b x y = give (choose (is_true x) (pos 1) (truth (is_true y)))
   finish_binary o at a b x y = applied c at o (kind_at c a) (kind_at c b) x y
 
-  abbrev pub finish_assign : AssignOp → ℕ → Ex → Ex → Element → ℤ → ℤ → Run ℤ
-  finish_assign to.Plain at a b place x y = write place (to_kind c (kind_at c a) y)
-  finish_assign o at a b place x y = do
+  -- `E1 op= E2`
+  abbrev pub compound : AssignOp → ℕ → Ex → Ex → Element → ℤ → ℤ → Run ℤ
+  compound o at a b place x y = do
     v ← applied c at (assigned_op o) (kind_at c a) (kind_at c b) x y
     write place (to_kind c (kind_at c a) v)
+
+  abbrev pub finish_assign : AssignOp → ℕ → Ex → Ex → Element → ℤ → ℤ → Run ℤ
+  finish_assign to.Plain at a b place x y = write place (to_kind c (kind_at c a) y)
+  finish_assign o at a b place x y = compound o at a b place x y
 
   abbrev pub finish_postfix : Crement → ℕ → Ex → Element → ℤ → Run ℤ
   finish_postfix by at e place x = do

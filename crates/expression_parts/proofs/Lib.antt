@@ -1,0 +1,3 @@
+pub mod Lists
+pub mod Knowing
+pub mod Operations
