@@ -39,7 +39,7 @@ lent_back n new old e f = take_front new (drop (length new) old) n (omega (arith
     take_front (x ∷ xs) ys (suc n) h = ap (λ w. x ∷ w) (take_front xs ys n (omega (arith, h)))
 
 -- nothing waits
-drop_end : (xs : List ℕ) (n : ℕ) → length xs ≤ n → drop n xs ≡ []
+pub drop_end : (xs : List ℕ) (n : ℕ) → length xs ≤ n → drop n xs ≡ []
 drop_end [] zero e = refl
 drop_end [] (suc n) e = refl
 drop_end (x ∷ xs) zero e = absurd (omega (arith, e))

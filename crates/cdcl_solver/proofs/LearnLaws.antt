@@ -33,41 +33,11 @@ use Rattle.watched_clauses.proofs.QueueLaws.{linked_is, level_negation, watching
 use Rattle.conflict_analysis.specs.Walk.{first_entries, AreAbove, IsTaught}
 use Rattle.cdcl_solver.specs.Stops.{trail_entries}
 use Rattle.cdcl_solver.specs.Learning.{IsHighest, with_watch}
+use Rattle.cdcl_solver.proofs.GoneLaws.{watching_back, gone_back, gone_wide, gone_set, gone_at, gone_old, gone_still, gone_stays}
 use Rattle.cdcl_solver.proofs.ListLaws.{get_push, get_lt, first_old, second_old, first_new, second_new, with_grow, with_first, with_second, with_back}
 
 take_in : (xs : List ℕ) (i k : ℕ) → listed (take i xs) k ≡ true → listed xs k ≡ true
 take_in xs i k h = subst (λ w. listed w k ≡ true) (take-append-drop i xs) (listed_left (take i xs) (drop i xs) k h)
-
--- going back to a level that nothing in the queue is of
-module _ (rows : List (List ℕ)) (watches : List Watch) (L : ℕ → ℕ → Bool) (truth truth2 : List Bool) (levels queue : List ℕ) (level low : ℕ) (lt : low < level) (wide : length truth2 ≡ length truth) (to : (z : ℕ) → is_true truth2 z ≡ true → (is_true truth z ≡ true) × (level_of levels z ≤ low)) (from : (z : ℕ) → is_true truth z ≡ true → level_of levels z ≤ low → is_true truth2 z ≡ true) where
-  excuse_back : (k x y : ℕ) → ((z : ℕ) → listed queue z ≡ true → level_of levels z ≡ level) → Excused (waits_in queue) truth levels k x y → Excused (waits_in []) truth2 levels k x y
-  excuse_back k x y queued e f =
-      let p = to (negation x) f in
-      let same' = level_negation levels x in
-      elim (excused_cases (waits_in queue) truth levels k x y e p.0) [
-        | inl w ↦ (let q = queued (negation x) w in absurd (omega (arith, q, p.1, lt)))
-        | inr t ↦ excused_true (waits_in []) truth2 levels k x y (from y t.0 (omega (arith, t.1, p.1, same'))) t.1 f
-      ]
-
-  pub watching_back : Watching rows watches L (waits_in queue) truth levels level queue → Watching rows watches L (waits_in []) truth2 levels low []
-  watching_back s = record {
-    paired = s.paired;
-    below = λ k r z g h. (let b = s.below k r z g h in omega (arith, b, wide));
-    firsts = λ k h. (let b = s.firsts k h in omega (arith, b, wide));
-    seconds = λ k h. (let b = s.seconds k h in omega (arith, b, wide));
-    numbers = s.numbers;
-    two = λ k r g n. (let w = s.two k r g n in record {
-      in_first = w.in_first;
-      in_second = w.in_second;
-      at_first = w.at_first;
-      at_second = w.at_second;
-      first = excuse_back k (first_of watches k) (second_of watches k) s.queued w.first;
-      second = excuse_back k (second_of watches k) (first_of watches k) s.queued w.second;
-    });
-    one = λ k r g n. (let o = s.one k r g n in record { only = o.only; holds = from (first_of watches k) o.holds (omega (arith, o.low)); low = o.low });
-    top = λ z h. (to z h).1;
-    queued = λ z h. absurd (both_ways false refl h);
-  }
 
 -- one more clause is watched
 pub watching_add : (rows : List (List ℕ)) (watches : List Watch) (lists : List (List ℕ)) (truth : List Bool) (levels queue : List ℕ) (level : ℕ) (r : List ℕ) (w : Watch) → w.first < length lists → w.second < length lists → length lists ≡ length truth → ((z : ℕ) → listed r z ≡ true → z < length truth) → listed r w.first ≡ true → is_true truth w.first ≡ true → is_true truth (negation w.first) ≡ false → (nat_eq w.first w.second ≡ true → ((z : ℕ) → listed r z ≡ true → z ≡ w.first) × (level_of levels w.first ≡ 0)) → (nat_eq w.first w.second ≡ false → (listed r w.second ≡ true) × (level_of levels w.first ≤ level_of levels w.second)) → Watching rows watches (lists_in lists) (waits_in queue) truth levels level queue → Watching (rows ++ (r ∷ [])) (watches ++ (w ∷ [])) (lists_in (with_watch lists w (length rows))) (waits_in queue) truth levels level queue
@@ -188,37 +158,25 @@ module _ (vars : List ℕ) (rows : List (List ℕ)) (t : Trail) (level : ℕ) (l
       known = known_of vars rows
 
       b : Back known low (trail_entries vars t) (trail_entries vars t2) × ((m : Lit) → Set (trail_entries vars t2) m → SetAt low (trail_entries vars t2) m)
-      b = back vars known (back_start known low level (trail_entries vars t) (let q = low_less in omega (arith, q)) l.holds.ok l.holds.low)
+      b = gone_back vars rows t level l low low_less t2 back rises levels_is
 
       wide2 : length t2.truth.items ≡ 2 * length vars
-      wide2 = omega (arith, t2.wide, ap length levels_is, l.wide)
+      wide2 = gone_wide vars rows t level l low low_less t2 back rises levels_is
 
       now_set : (m : Lit) → set_in (trail_entries vars t2) m ≡ is_true t2.truth.items (code_of vars m)
-      now_set m = set_code vars t2.levels.items t2.codes.items t2.reasons.items t2.truth.items l.up wide2 t2.valued m
+      now_set m = gone_set vars rows t level l low low_less t2 back rises levels_is m
 
       now_at : (m : Lit) (n : ℕ) → set_at n (trail_entries vars t2) m ≡ (is_true t2.truth.items (code_of vars m) && nat_le (level_of t.levels.items (code_of vars m)) n)
-      now_at m n = at_code vars t2.levels.items t2.codes.items t2.reasons.items t2.truth.items l.up wide2 t2.valued m n ∙ ap (λ w. is_true t2.truth.items (code_of vars m) && nat_le (level_of w (code_of vars m)) n) levels_is
+      now_at m n = gone_at vars rows t level l low low_less t2 back rises levels_is m n
 
       old_at : (m : Lit) (n : ℕ) → set_at n (trail_entries vars t) m ≡ (is_true t.truth.items (code_of vars m) && nat_le (level_of t.levels.items (code_of vars m)) n)
-      old_at m n = at_code vars t.levels.items t.codes.items t.reasons.items t.truth.items l.up as_vars t.valued m n
+      old_at m n = gone_old vars rows t level l low low_less t2 back rises levels_is m n
 
-      -- what is still true
       pub still : (z : ℕ) → is_true t2.truth.items z ≡ true → (is_true t.truth.items z ≡ true) × (level_of t.levels.items z ≤ low)
-      still z h =
-          let lt = true_below t2.truth.items z h in
-          let z_is = code_at vars z l.up (omega (arith, lt, wide2)) in
-          let s = b.1 (lit_at vars z) (now_set (lit_at vars z) ∙ ap (is_true t2.truth.items) z_is ∙ h) in
-          let o = b.0.fewer_at low (lit_at vars z) s in
-          let p = and_parts (is_true t.truth.items (code_of vars (lit_at vars z))) (nat_le (level_of t.levels.items (code_of vars (lit_at vars z))) low) (sym (old_at (lit_at vars z) low) ∙ o) in
-          (subst (λ c. is_true t.truth.items c ≡ true) z_is p.0, subst (λ c. level_of t.levels.items c ≤ low) z_is (leb-true (level_of t.levels.items (code_of vars (lit_at vars z))) low p.1))
+      still z h = gone_still vars rows t level l low low_less t2 back rises levels_is z h
 
       pub stays : (z : ℕ) → is_true t.truth.items z ≡ true → level_of t.levels.items z ≤ low → is_true t2.truth.items z ≡ true
-      stays z h le =
-          let lt = true_below t.truth.items z h in
-          let z_is = code_at vars z l.up (omega (arith, lt, as_vars)) in
-          let o : SetAt low (trail_entries vars t) (lit_at vars z) = old_at (lit_at vars z) low ∙ and_from _ _ (ap (is_true t.truth.items) z_is ∙ h) (le-leb (level_of t.levels.items (code_of vars (lit_at vars z))) low (subst (λ c. level_of t.levels.items c ≤ low) (sym z_is) le)) in
-          let s = b.0.keeps low (lit_at vars z) (omega arith) o in
-          ap (is_true t2.truth.items) (sym z_is) ∙ sym (now_set (lit_at vars z)) ∙ Set-at low (trail_entries vars t2) (lit_at vars z) s
+      stays z h le = gone_stays vars rows t level l low low_less t2 back rises levels_is z h le
 
       -- what is still true stands before
       still_before : (z : ℕ) → is_true t2.truth.items z ≡ true → listed (take left t.codes.items) z ≡ true

@@ -5,3 +5,4 @@ pub mod ListLaws
 pub mod LearnLaws
 pub mod OpenLaws
 pub mod TurnLaws
+pub mod GoneLaws

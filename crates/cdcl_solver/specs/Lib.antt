@@ -2,3 +2,4 @@ pub mod Stops
 pub mod Learning
 pub mod Opening
 pub mod Search
+pub mod Pacing

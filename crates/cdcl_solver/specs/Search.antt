@@ -29,6 +29,7 @@ pub record StateOf (clauses : List (List Lit)) (learn limit : ℕ) (s : Solver) 
   pub light : pairs_of s.log < limit
   pub few : length s.board.rows < 4294967296
   pub stamps : length s.notes.stamps.items ≡ length s.vars.items
+  pub pace : 0 < s.pace.size
 
 abbrev pub IsEnding : List (List Lit) → ℕ → ℕ → Ending → Type 0
 IsEnding clauses learn limit (Met vars) = all_hold (listed vars.items) clauses ≡ true

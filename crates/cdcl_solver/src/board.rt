@@ -1,13 +1,14 @@
 //! The clauses with the literals that they watch, and the trail: propagation, decisions, and the way back.
 
-ghost use Rattle.std.specs.Prelude.{◌≡◌, ℕ, ◌+◌, ◌*◌, ◌/◌, ◌<◌, ◌≤◌, List, length, IfOk, MatchOption, true, false};
+ghost use Rattle.std.specs.Prelude.{◌≡◌, ℕ, ◌+◌, ◌*◌, ◌/◌, ◌<◌, ◌≤◌, List, length, IfOk};
 ghost use Rattle.prop.specs.declared.Lit.{Lit};
 ghost use Rattle.clause_learning.specs.Trail.{Back, Set, SetAt};
 ghost use Rattle.clause_learning.specs.Covers.{RisesFrom, last_level};
-ghost use Rattle.dense_trail.specs.Dense.{is_true, entries_of};
-ghost use Rattle.watched_clauses.specs.Kept.{KeepsWatch, IsLinked, IsFalse};
+ghost use Rattle.watched_clauses.specs.Kept.{KeepsWatch, IsLinked};
 ghost use Rattle.cdcl_solver.specs.Stops.{IsStop, trail_entries};
 
+use crate::choosing::choice;
+use activity_heap::Order;
 use dense_trail::Trail;
 use resolution_log::Rows;
 use std::alloc::AllocError;
@@ -22,6 +23,8 @@ pub struct Board {
     pub watches: Vec<Watch>,
     /// For each literal the clauses that watch it.
     pub lists: WatchLists,
+    /// Which variable is decided next.
+    pub order: Order,
     /// The literals that are true.
     pub trail: Trail,
     /// The literals of the trail from here on wait in the queue: their lists were not gone through.
@@ -32,6 +35,7 @@ pub struct Board {
     pub ghost within: { head ≤ length trail.codes.items },
     pub ghost all: { length lists ≡ length trail.truth.items },
     pub ghost deep: { level ≤ length trail.codes.items },
+    pub ghost ordered: { length order.phases.items ≡ length trail.levels.items },
 }
 
 /// Where propagation stops.
@@ -52,21 +56,6 @@ pub struct Settled {
     pub stop: Stop,
 }
 
-// A variable without a value, by its number.
-fn free_number(trail: &Trail) -> Option<u32>
-    ensures { MatchOption result ((n : ℕ) → n < length trail.now.levels.items → is_true trail.now.truth.items (2 * n) ≡ false → is_true trail.now.truth.items (2 * n + 1) ≡ true) (λ n. (n < length trail.now.levels.items) × (is_true trail.now.truth.items (2 * n) ≡ false) × (is_true trail.now.truth.items (2 * n + 1) ≡ false)) }
-{
-    for number in 0..trail.levels.len() {
-        if trail.truth[2 * number] {
-            continue;
-        }
-        if !trail.truth[2 * number + 1] {
-            return Some(number as u32);
-        }
-    }
-    None
-}
-
 /// Propagates and decides until a clause is false or all are met.
 pub fn settle(board: Board) -> Result<Settled, AllocError>
     requires { length board.rows < 4294967296 }
@@ -77,6 +66,7 @@ pub fn settle(board: Board) -> Result<Settled, AllocError>
         rows,
         mut watches,
         mut lists,
+        mut order,
         mut trail,
         mut head,
         mut level,
@@ -96,6 +86,7 @@ pub fn settle(board: Board) -> Result<Settled, AllocError>
                     rows,
                     watches,
                     lists,
+                    order,
                     trail,
                     head,
                     level,
@@ -103,12 +94,13 @@ pub fn settle(board: Board) -> Result<Settled, AllocError>
                 stop: Stop::Clash(number),
             });
         }
-        let Some(number) = free_number(&trail) else {
+        let Some(code) = choice(&mut order, &trail) else {
             return Ok(Settled {
                 board: Board {
                     rows,
                     watches,
                     lists,
+                    order,
                     trail,
                     head,
                     level,
@@ -116,23 +108,59 @@ pub fn settle(board: Board) -> Result<Settled, AllocError>
                 stop: Stop::AllMet,
             });
         };
-        trail.push(2 * number + 1, level + 1, None)?;
+        trail.push(code, level + 1, None)?;
         level += 1;
     }
 }
 
-/// Takes values away until all that are left are of a level.
-pub fn go_back(trail: &mut Trail, low: u32)
-    ensures back { (vars : List ℕ) (known : List (List Lit)) → Back known low (trail_entries vars trail.old) (trail_entries vars trail.old) → Back known low (trail_entries vars trail.old) (trail_entries vars trail.new) × ((l : Lit) → Set (trail_entries vars trail.new) l → SetAt low (trail_entries vars trail.new) l) }
-    ensures rises { (vars : List ℕ) → RisesFrom 0 (trail_entries vars trail.old) → low ≤ last_level 0 (trail_entries vars trail.old) → RisesFrom 0 (trail_entries vars trail.new) × (last_level 0 (trail_entries vars trail.new) ≡ low) }
-    ensures levels { trail.new.levels.items ≡ trail.old.levels.items }
-    ensures wide { length trail.new.truth.items ≡ length trail.old.truth.items }
+/// Takes values away until all that are left are of a level. Their variables may be decided again.
+pub fn go_back(trail: &mut Trail, order: &mut Order, low: u32) -> Result<(), AllocError>
+    requires { length order.old.phases.items ≡ length trail.old.levels.items }
+    ensures back { IfOk result (λ _. (vars : List ℕ) (known : List (List Lit)) → Back known low (trail_entries vars trail.old) (trail_entries vars trail.old) → Back known low (trail_entries vars trail.old) (trail_entries vars trail.new) × ((l : Lit) → Set (trail_entries vars trail.new) l → SetAt low (trail_entries vars trail.new) l)) }
+    ensures rises { IfOk result (λ _. (vars : List ℕ) → RisesFrom 0 (trail_entries vars trail.old) → low ≤ last_level 0 (trail_entries vars trail.old) → RisesFrom 0 (trail_entries vars trail.new) × (last_level 0 (trail_entries vars trail.new) ≡ low)) }
+    ensures levels { IfOk result (λ _. trail.new.levels.items ≡ trail.old.levels.items) }
+    ensures wide { IfOk result (λ _. length trail.new.truth.items ≡ length trail.old.truth.items) }
+    ensures ordered { IfOk result (λ _. length order.new.phases.items ≡ length order.old.phases.items) }
 {
     'back: while trail.codes.len() > 0 {
         let code = trail.codes[trail.codes.len() - 1];
         if trail.levels[(code / 2) as usize] <= low {
-            return;
+            return Ok(());
         }
         let _ = trail.pop();
+        order.put_back(code / 2, code % 2 == 0)?;
     }
+    Ok(())
+}
+
+/// Takes all decisions back.
+pub fn start_over(vars: &[u32], board: Board) -> Result<Board, AllocError>
+    requires { IsLinked vars.now board.rows board.level board.trail }
+    ensures linked { IfOk result (λ b. IsLinked vars.now b.rows 0 b.trail) }
+    ensures level { IfOk result (λ b. b.level ≡ 0) }
+    ensures rows { IfOk result (λ b. b.rows ≡ board.rows) }
+{
+    let _ = vars.len();
+    if board.level == 0 {
+        return Ok(board);
+    }
+    let Board {
+        rows,
+        watches,
+        lists,
+        mut order,
+        mut trail,
+        ..
+    } = board;
+    go_back(&mut trail, &mut order, 0)?;
+    let head = trail.codes.len();
+    Ok(Board {
+        rows,
+        watches,
+        lists,
+        order,
+        trail,
+        head,
+        level: 0,
+    })
 }

@@ -8,9 +8,12 @@ ghost use Rattle.watched_clauses.specs.Kept.{IsFalse};
 ghost use Rattle.cdcl_solver.specs.Stops.{IsStop, trail_entries};
 ghost use Rattle.cdcl_solver.specs.Search.{StateOf, Rests, IsTurn, IsEnding, IsLonger};
 
-use crate::board::{Board, Settled, Stop, go_back, settle};
+use crate::board::{Board, Settled, Stop, go_back, settle, start_over};
+use crate::choosing::bump_all;
 use crate::learning::{add_watch, what_to_watch};
 use crate::opening::{set_units, watch_all};
+use crate::pacing::{Pace, paced};
+use activity_heap::Order;
 use clause_learning::{Answer, MOST_PAIRS, SolveFail, trimmed};
 use conflict_analysis::{Notes, analyze};
 use dense_trail::Trail;
@@ -34,6 +37,8 @@ pub struct Solver {
     pub log: Log,
     /// How many pairs the log has.
     pub pairs: u64,
+    /// When the search starts over.
+    pub pace: Pace,
 }
 
 /// How a search ends.
@@ -92,11 +97,13 @@ fn learn_from(
         mut notes,
         mut log,
         pairs,
+        pace,
     } = s;
     let Board {
         mut rows,
         mut watches,
         mut lists,
+        mut order,
         mut trail,
         level,
         ..
@@ -105,7 +112,8 @@ fn learn_from(
     let total = pairs + a.pairs.len() as u64;
     let Some(uip) = a.uip else { unreachable!() };
     let found = what_to_watch(&trail, notes.learnt.as_slice(), uip);
-    go_back(&mut trail, found.low);
+    bump_all(&mut order, &trail, &notes, a.left);
+    go_back(&mut trail, &mut order, found.low)?;
     let head = trail.codes.len();
     let number = next_number(&rows)?;
     trail.push(uip, found.low, Some(number))?;
@@ -127,6 +135,7 @@ fn learn_from(
             rows,
             watches,
             lists,
+            order,
             trail,
             head,
             level: found.low,
@@ -134,6 +143,7 @@ fn learn_from(
         notes,
         log,
         pairs: total,
+        pace,
     }))
 }
 
@@ -196,6 +206,7 @@ fn round(
         mut notes,
         log,
         pairs,
+        pace,
     } = s;
     let Settled { board, stop } = settle(board)?;
     match stop {
@@ -224,10 +235,47 @@ fn round(
                 notes,
                 log,
                 pairs,
+                pace,
             };
             learn_from(alloc, clauses, next, learn, limit, k)
         }
     }
+}
+
+// After a conflict: all decisions are taken back where it is time. What was learned stays.
+fn go_on(clauses: &Clauses, s: Solver, learn: u64, limit: u64) -> Result<Solver, AllocError>
+    requires { StateOf clauses.now learn limit s }
+    ensures state { IfOk result (StateOf clauses.now learn limit) }
+    ensures log { IfOk result (λ r. r.log ≡ s.log) }
+{
+    let Solver {
+        vars,
+        board,
+        notes,
+        log,
+        pairs,
+        pace,
+    } = s;
+    let next = paced(pace);
+    if pace.left > 0 {
+        return Ok(Solver {
+            vars,
+            board,
+            notes,
+            log,
+            pairs,
+            pace: next,
+        });
+    }
+    let board = start_over(vars.as_slice(), board)?;
+    Ok(Solver {
+        vars,
+        board,
+        notes,
+        log,
+        pairs,
+        pace: next,
+    })
 }
 
 fn find_empty(clauses: &Clauses) -> Option<u32>
@@ -262,12 +310,14 @@ fn open(alloc: Global, clauses: &Clauses, learn: u64, limit: u64) -> Result<Turn
         )?;
         return Ok(Turn::Over(ending));
     }
+    let order = Order::new(alloc, vars.len() as u32)?;
     Ok(Turn::On(Solver {
         vars,
         board: Board {
             rows,
             watches: made.watches,
             lists: made.lists,
+            order,
             trail,
             head: 0,
             level: 0,
@@ -275,6 +325,11 @@ fn open(alloc: Global, clauses: &Clauses, learn: u64, limit: u64) -> Result<Turn
         notes,
         log,
         pairs: 0,
+        pace: Pace {
+            turn: 1,
+            size: 1,
+            left: 100,
+        },
     }))
 }
 
@@ -298,7 +353,7 @@ fn search(alloc: Global, clauses: &Clauses, learn: u64, limit: u64) -> Result<En
     'rounds: loop {
         match round(alloc, clauses, s, learn, limit)? {
             Turn::Over(ending) => return Ok(ending),
-            Turn::On(next) => s = next,
+            Turn::On(next) => s = go_on(clauses, next, learn, limit)?,
         }
     }
 }

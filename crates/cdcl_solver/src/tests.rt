@@ -1,5 +1,6 @@
 //! Small sets of clauses with forced answers; each refutation goes through the checker.
 
+use crate::pacing::{Pace, paced};
 use crate::{solve, solve_within};
 use clause_learning::{Answer, SolveFail};
 use prop::{Clauses, Lit};
@@ -141,6 +142,7 @@ fn pigeons(rt: HostRuntime) -> Result<(), Fail> {
         (4, 3, 10, OverLog),
         (4, 4, 1000, Sat),
         (5, 4, 100000, Unsat),
+        (7, 6, 900000, Unsat),
     ];
     for (pigeons, holes, limit, want) in rows {
         let clauses = pigeonhole(&rt, rt.alloc(), pigeons, holes)?;
@@ -174,6 +176,26 @@ fn both_bodies(rt: HostRuntime) -> Result<(), Fail> {
         let plain = plain_solver::solve(rt.alloc(), &clauses, 100000);
         let answer = kind(rt.alloc(), &clauses, fast);
         assert!(rt; answer.is_some() && answer == kind(rt.alloc(), &clauses, plain));
+    }
+    Ok(())
+}
+
+// The sequence by which the search starts over.
+#[test]
+fn paces(rt: HostRuntime) -> Result<(), Fail> {
+    let mut pace = Pace {
+        turn: 1,
+        size: 1,
+        left: 1,
+    };
+    for wanted in [1, 1, 2, 1, 1, 2, 4, 1, 1, 2, 1, 1, 2, 4, 8] {
+        assert!(rt; pace.size == wanted && pace.size > 0);
+        pace = paced(Pace {
+            turn: pace.turn,
+            size: pace.size,
+            left: 0,
+        });
+        assert!(rt; pace.size > 0 && u64::from(pace.left) == 100 * u64::from(pace.size));
     }
     Ok(())
 }

@@ -1,4 +1,4 @@
-use Rattle.std.proofs.Common.{rules, arith, ◌≡◌, ◌∙◌, ℕ, ◌+◌, ◌-◌, ◌<◌, ◌≤◌, length, sym, ap, subst, get_or, ◌*◌}
+use Rattle.std.proofs.Common.{rules, arith, ◌≡◌, ◌∙◌, ℕ, ◌+◌, ◌-◌, ◌<◌, ◌≤◌, length, sym, ap, subst, get_or, ◌*◌, ◌/◌, length-set}
 use Rattle.cdcl_solver.specs.Stops.{trail_entries}
 use Rattle.cdcl_solver.proofs.BackLaws.{last_fits, back_stop, rises_stop, back_step, rises_step, back_empty, rises_empty}
 use Rattle.cdcl_solver.proofs.board.go_back.Goals as goal
@@ -35,5 +35,12 @@ back-preserved c =
       rises = λ vars r le. rises_step c.back.trail (some w) c.index-code.result.now (read w) vars c.index.result.now c.index.ensures c.pop.new.self c.pop.result c.pop.ensures.codes c.pop.ensures.levels c.pop.ensures.reasons c.args.low c.if-index-low.false (c.back.invariant.rises vars r le);
       levels = c.pop.ensures.levels ∙ c.back.invariant.levels;
       reasons = c.pop.ensures.reasons ∙ c.back.invariant.reasons;
+      ordered = ap length c.in_ok-put_back.ensures.phases ∙ length-set c.back.order.phases.items (c.index-code.result.now / 2) _ ∙ c.back.invariant.ordered;
       wide = c.pop.new.self.wide ∙ ap (λ w. 2 * length w) c.pop.ensures.levels ∙ sym c.back.trail.wide ∙ c.back.invariant.wide;
     }
+
+pub put_back-requires : goal.put_back-requires
+put_back-requires c =
+    let w = (goal.at.put_back-requires c).After-index-code in
+    let q = last_fits c.back.trail (some w) c.index-code.result.now (read w) in
+    omega (arith, q, c.requires, c.back.invariant.ordered, ap length c.back.invariant.levels)

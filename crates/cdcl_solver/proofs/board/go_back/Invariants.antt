@@ -11,6 +11,7 @@ invariant-back l = record {
   rises : (vars : List ℕ) → RisesFrom 0 (trail_entries vars l.initial.trail) → l.low ≤ last_level 0 (trail_entries vars l.initial.trail) → RisesFrom 0 (trail_entries vars l.trail) × (l.low ≤ last_level 0 (trail_entries vars l.trail));
   levels : l.trail.levels.items ≡ l.initial.trail.levels.items;
   reasons : l.trail.reasons.items ≡ l.initial.trail.reasons.items;
+  ordered : length l.order.phases.items ≡ length l.initial.order.phases.items;
   wide : length l.trail.truth.items ≡ length l.initial.trail.truth.items;
 }
 

@@ -10,6 +10,7 @@ invariant-search l = record {
   linked : (vars : List ℕ) → IsLinked vars l.rows l.initial.level l.initial.trail → IsLinked vars l.rows l.level l.trail;
   deep : l.level ≤ length l.trail.codes.items;
   rows : l.rows ≡ l.initial.rows;
+  ordered : length l.order.phases.items ≡ length l.trail.levels.items;
 }
 
 abbrev pub decreases-search : goal.decreases-search

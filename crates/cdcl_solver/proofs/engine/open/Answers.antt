@@ -35,6 +35,7 @@ invariant_of-result c =
       within = omega arith;
       all = omega (arith, b.all, c.set_units.new.trail.wide, c.in_ok-clash.ensures.wide, c.in_ok-trail.ensures.vars, c.len-3.ensures, c.in_ok-vars.vars.ok.0);
       deep = omega arith;
+      ordered = omega (arith, c.in_ok-order.ensures.phases, c.len-5.ensures, c.len-3.ensures, c.in_ok-trail.ensures.vars, c.in_ok-clash.ensures.wide);
     }
 
 pub returns : goal.returns
@@ -45,4 +46,5 @@ returns c = record {
   light = omega (arith, ap pairs_of c.new-log.ensures, c.requires.limit);
   few = (let q = open_length c.args.clauses.now c.in_ok-vars.vars.items c.in_ok-rows.rows c.in_ok-vars.ensures.rising c.in_ok-vars.ensures.covers (c.in_ok-rows.ensures ∙ ap (λ (w : List ℕ). all_codes w c.args.clauses.now) c.deref.ensures.value) c.requires.some in omega (arith, q, c.len.ensures.value, c.len.ensures.within));
   stamps = omega (arith, c.in_ok-notes.ensures, c.len-4.ensures, c.in_ok-vars.vars.ok.0);
+  pace = omega arith;
 }
