@@ -79,7 +79,7 @@ module _ (g : Flow) (u0 u1 u2 u3 u4 u5 : Unwound) (i1 i2 i3 i4 i5 : TermId) wher
       → IsPut u2.terms u3.terms (Equal (term 1) (term 0)) → slice_get u3.terms.terms i3.0 ≡ Some (Equal (term 1) (term 0)) → u3 ≡ record u2 { terms = u3.terms }
       → IsPut u3.terms u4.terms (Constant 1 1) → slice_get u4.terms.terms i4.0 ≡ Some (Constant 1 1) → u4 ≡ record u3 { terms = u4.terms }
       → IsPut u4.terms u5.terms (Constant 1 0) → slice_get u5.terms.terms i5.0 ≡ Some (Constant 1 0) → u5 ≡ record u4 { terms = u5.terms }
-      → Travels g u5
+      → Travels g u5 × (u5 ≡ start g label_table)
   five_put graph s cells empty p1 n1 o1 p2 n2 o2 p3 n3 o3 p4 n4 o4 p5 n5 o5 =
       let widths : widths_of g.cells ≡ 32 ∷ 32 ∷ [] = ap (λ (f : Flow). widths_of f.cells) graph.1 in
       let zero' : u0.terms ≡ record { cells = 32 ∷ 32 ∷ []; terms = [] } = same_table u0.terms (cells ∙ widths) empty in
@@ -89,7 +89,7 @@ module _ (g : Flow) (u0 u1 u2 u3 u4 u5 : Unwound) (i1 i2 i3 i4 i5 : TermId) wher
       let t4 = put_new u3.terms u4.terms (Constant 32 0 ∷ Cell 0 ∷ Equal (term 1) (term 0) ∷ []) (Constant 1 1) i4 t3 p4 n4 fourth in
       let t5 : u5.terms ≡ label_table = put_new u4.terms u5.terms (Constant 32 0 ∷ Cell 0 ∷ Equal (term 1) (term 0) ∷ Constant 1 1 ∷ []) (Constant 1 0) i5 t4 p5 n5 fifth in
       let s5 = stays g u4 u5 (stays g u3 u4 (stays g u2 u3 (stays g u1 u2 (stays g u0 u1 s o1) o2) o3) o4) o5 in
-      record { graph = graph; terms = t5; legal = legal_start g u5 s5 (ap (λ (x : Table). x.cells) t5 ∙ sym widths) }
+      (record { graph = graph; terms = t5; legal = legal_start g u5 s5 (ap (λ (x : Table). x.cells) t5 ∙ sym widths) }, s5 ∙ ap (start g) t5)
     where
       same_table : (x : Table) → x.cells ≡ 32 ∷ 32 ∷ [] → x.terms ≡ [] → x ≡ record { cells = 32 ∷ 32 ∷ []; terms = [] }
       same_table x a b =

@@ -1,5 +1,5 @@
 -- The graph of a loop, the table of its labels' terms, and which formulas follow along its edges.
-use Rattle.std.specs.Prelude.{ℕ, ◌==◌, ◌&&◌, ◌||◌, ◌≡◌, Bool, true, false, nat_le, List, [], ◌∷◌, Option, Some}
+use Rattle.std.specs.Prelude.{ℕ, ◌==◌, ◌&&◌, ◌||◌, ◌≡◌, Bool, true, false, nat_le, nat_lt, length, slice_get, None, List, [], ◌∷◌, Option, Some}
 use Rattle.lv_base.specs.declared.fault.ErrorKind.{ErrorKind}
 use Rattle.lv_base.specs.declared.fault.ErrorKind.TheVariants.{Reach}
 use Rattle.bv_term.specs.declared.term.TermId.{TermId}
@@ -8,7 +8,7 @@ use Rattle.bv_term.specs.declared.term.Term.TheVariants.{Constant, Cell, Equal, 
 use Rattle.bv_term.specs.WellFormed.{Table}
 use Rattle.c_graph.specs.declared.graph.NodeId.{NodeId}
 use Rattle.c_graph.specs.declared.graph.Node.{Node}
-use Rattle.c_graph.specs.declared.graph.Node.TheVariants.{Plain, Error, End}
+use Rattle.c_graph.specs.declared.graph.Node.TheVariants.{Plain, Error, End, Call}
 use Rattle.c_graph.specs.declared.graph.Operation.{Operation}
 use Rattle.c_graph.specs.declared.graph.Operation.TheVariants.{Assume, Set, Draw}
 use Rattle.c_graph.specs.declared.graph.Edge.{Edge}
@@ -18,8 +18,8 @@ use Rattle.c_graph.specs.Shape.{Flow}
 use Rattle.c_graph.specs.Steps.{IsWhole}
 use Rattle.reach_tree.specs.Trees.{vertex_at}
 use Rattle.reach_tree.specs.declared.vertex.VertexId.{VertexId}
-use Rattle.cover_engine.specs.Unwindings.{Unwound}
-use Rattle.cover_engine.specs.Units.{Legal, Meets}
+use Rattle.cover_engine.specs.Unwindings.{Unwound, is_open_leaf}
+use Rattle.cover_engine.specs.Units.{Legal, Meets, after_refine, after_part}
 use Rattle.unwinding_speed.specs.declared.formula.Formula.{Formula}
 use Rattle.unwinding_speed.specs.declared.formula.Formula.TheVariants.{Always, IsZero, Never}
 
@@ -103,3 +103,24 @@ pub record Parts (u : Unwound) (store : List ℕ) (v w : ℕ) : Type 0 where
   pub whole : IsWhole u.terms.cells store
   pub meets : Meets u.terms store (vertex_at u.vertices v).label
   pub misses : Meets u.terms store (vertex_at u.vertices w).label → ⊥
+
+-- what a Refine makes that may come to nothing
+abbrev pub IsRefined : Bool → Unwound → VertexId → Unwound → Type 0
+IsRefined true before v after = (fs : List TermId) × (after ≡ after_refine before v fs)
+IsRefined false before v after = after ≡ before
+
+-- what a CoverNo makes that may come to nothing
+abbrev pub IsParted : Bool → Unwound → VertexId → VertexId → Unwound → Type 0
+IsParted true before v w after = (store : List ℕ) × (after ≡ after_part before v w store)
+IsParted false before v w after = after ≡ before
+
+abbrev pub is_plain : Option Node → Bool
+is_plain (Some Plain) = true
+is_plain (Some (Error _ _)) = false
+is_plain (Some End) = false
+is_plain (Some (Call _ _)) = false
+is_plain None = false
+
+-- the vertex is there, at a plain node, and an open leaf
+abbrev pub is_expandable : Flow → Unwound → VertexId → Bool
+is_expandable g u v = nat_lt v.0 (length u.vertices) && (is_plain (slice_get g.nodes (vertex_at u.vertices v.0).node.0) && is_open_leaf g u v)

@@ -4,7 +4,7 @@ ghost use Rattle.c_graph.specs.declared.graph.Node.TheVariants.{Plain};
 ghost use Rattle.reach_tree.specs.Trees.{vertex_at};
 ghost use Rattle.c_graph.specs.Shape.{widths_of};
 ghost use Rattle.cover_engine.specs.Units.{after_cover, after_expand, start};
-ghost use Rattle.unwinding_speed.specs.Loop.{IsErrorNode, Parts, Travels, loop_flow, vertex};
+ghost use Rattle.unwinding_speed.specs.Loop.{IsErrorNode, IsParted, IsRefined, Parts, Travels, is_expandable, is_plain, label_table, loop_flow, vertex};
 
 use crate::chain::chain_up;
 use crate::loop_graph::loop_graph;
@@ -37,7 +37,8 @@ impl Journey {
     /// The unwinding of one vertex over the loop's graph, which goes on at node `last` where the drawn value is 0. There
     /// is none where `last` is no node of it.
     pub fn new(alloc: Global, last: u32) -> Result<Option<Journey>, Memory>
-        ensures { IfOk result (λ r. IfSome r (λ j. j.flow ≡ loop_flow last)) }
+        ensures flow { IfOk result (λ r. IfSome r (λ j. j.flow ≡ loop_flow last)) }
+        ensures start { IfOk result (λ r. IfSome r (λ j. j.unwound ≡ start (loop_flow last) label_table)) }
     {
         let Some(graph) = loop_graph(alloc, last)? else {
             return Ok(None);
@@ -64,6 +65,7 @@ impl Journey {
     /// Expands the vertex where that is legal, and answers whether it was.
     pub fn expand(&mut self, alloc: Global, v: u32) -> Result<bool, Memory>
         ensures flow { self.new.flow ≡ self.old.flow }
+        ensures legal { IfOk result (λ d. d ≡ is_expandable self.old.flow self.old.unwound (vertex v)) }
         ensures done { IfOk result (λ d. self.new.unwound ≡ if d then after_expand self.old.flow self.old.unwound (vertex v) else self.old.unwound) }
     {
         if v as usize >= self.unwinding.vertices().len() {
@@ -101,7 +103,8 @@ impl Journey {
     /// Strengthens the path of an error leaf by a chain that has x = 0 above the leaf as long as at most `spare` edges that
     /// ask for it are passed, where that is legal, and answers whether it did.
     pub fn refine(&mut self, alloc: Global, v: u32, spare: u32) -> Result<bool, Memory>
-        ensures { self.new.flow ≡ self.old.flow }
+        ensures flow { self.new.flow ≡ self.old.flow }
+        ensures done { IfOk result (λ d. IsRefined d self.old.unwound (vertex v) self.new.unwound) }
     {
         if v as usize >= self.unwinding.vertices().len() {
             return Ok(false);
@@ -121,7 +124,8 @@ impl Journey {
     /// Keeps the pair apart by the store that has the value in its first cell, where that is legal, and answers whether it
     /// did.
     pub fn part(&mut self, alloc: Global, v: u32, w: u32, value: u128) -> Result<bool, Memory>
-        ensures { self.new.flow ≡ self.old.flow }
+        ensures flow { self.new.flow ≡ self.old.flow }
+        ensures done { IfOk result (λ d. IsParted d self.old.unwound (vertex v) (vertex w) self.new.unwound) }
     {
         let count = self.unwinding.vertices().len();
         if v as usize >= count || w as usize >= count {
@@ -219,7 +223,8 @@ fn put_terms(graph: &Graph, unwinding: &mut Unwinding) -> Result<(), Memory>
     requires start { unwinding.old ≡ start graph.now unwinding.old.terms }
     requires cells { unwinding.old.terms.cells ≡ widths_of graph.now.cells }
     requires empty { unwinding.old.terms.terms ≡ [] }
-    ensures { OnOk result (Travels graph.now unwinding.new) }
+    ensures travels { OnOk result (Travels graph.now unwinding.new) }
+    ensures start { OnOk result (unwinding.new ≡ start graph.now label_table) }
 {
     let _ = graph.entry();
     unwinding.put(Term::Constant(32, 0))?;
@@ -233,7 +238,8 @@ fn put_terms(graph: &Graph, unwinding: &mut Unwinding) -> Result<(), Memory>
 /// Whether the vertex is at a plain node.
 fn is_plain_at(nodes: &[Node], vertices: &[Vertex], v: u32) -> bool
     requires { v < length vertices.now }
-    ensures { IsTrue result → slice_get nodes.now (vertex_at vertices.now v).node.0 ≡ Some Plain }
+    ensures value { result ≡ is_plain (slice_get nodes.now (vertex_at vertices.now v).node.0) }
+    ensures node { IsTrue result → slice_get nodes.now (vertex_at vertices.now v).node.0 ≡ Some Plain }
 {
     let number = vertices[v as usize].node.0 as usize;
     if number >= nodes.len() {
