@@ -10,10 +10,10 @@ use Rattle.c_tree.specs.Shape.{ShapedOption, ShapedInitial, ShapedForm, ShapedDe
 use Rattle.c_meaning.specs.Tokens.{count_parts, close_of, end_of}
 use Rattle.c_meaning.specs.Scope as s
 use Rattle.c_meaning.specs.Rules as rules
-use Rattle.offset_laws.proofs.Logic.{nil_left, nil_right, and_left}
+use Rattle.offset_laws.proofs.Logic.{nil_left, nil_right, line_holds, and_left}
 use Rattle.offset_laws.proofs.Standing.{In, InOption, itself}
 use Rattle.offset_laws.proofs.Statements.{InForm, InInitial, InDeclarators, InDeclaration, InStart, InStatement, InStatements, ordered_declarators}
-use Rattle.offset_laws.proofs.Lying.{Known, Room, nowhere, within, Allows, Sized, NameLies, ObjectLies, Placed, wider, stretch, join, empty, one, late, lift, alike, inner_room}
+use Rattle.offset_laws.proofs.Lying.{Known, Room, nowhere, within, Allows, Sized, Begun, NameLies, ObjectLies, Placed, wider, stretch, join, empty, one, late, lift, alike, inner_room}
 use Rattle.offset_laws.proofs.Placing.{placed, placed_parts, placed_words, placed_option, placed_prototype, close_in}
 
 -- ---- What a declarator declares
@@ -37,6 +37,28 @@ module _ (scope : s.Scope) (owner : Option ℕ) where
   as_sized c false at from ws (t.fArray a e b) i h = h
   as_sized c false at from ws (t.fFunction ps) i h = tt
 
+  as_begun : (c : Known) (b : Bool) (ws : t.Words) (f : t.Form) (i : t.Initial) → Begun c (s.anObject ws f i) → Begun c (s.declared_as scope owner b ws f i)
+  as_begun c true ws f i h = tt
+  as_begun c false ws t.fPlain i h = h
+  as_begun c false ws (t.fArray a e b) i h = h
+  as_begun c false ws (t.fFunction ps) i h = tt
+
+  function_begun : (c : Known) (b : Bool) (ws : t.Words) (ps : t.Parameters) (i : t.Initial) → Begun c (s.declared_as scope owner b ws (t.fFunction ps) i)
+  function_begun c true ws ps i = tt
+  function_begun c false ws ps i = tt
+
+plain_begun : (c : Known) (place : Site) (k : Told) (ws : t.Words) (i : t.Initial) → may_declare place k t.fPlain i ≡ true → Begun c (s.anObject ws t.fPlain i)
+plain_begun c place k ws t.iNothing m = tt
+plain_begun c place k ws (t.iValue at e) m = tt
+plain_begun c place k ws (t.iList at a es x b) m = cc
+
+array_begun : (c : Known) (static : Bool) (place : Site) (k : Told) (a b : ℕ) (e : Option t.Ex) (ws : t.Words) (i : t.Initial) → may_declare place k (t.fArray a e b) i ≡ true →
+    rules.faults_of_initial c.env c.model c.bodies static (t.fArray a e b) i ≡ [] → Begun c (s.anObject ws (t.fArray a e b) i)
+array_begun c static place k a b e ws t.iNothing m l = tt
+array_begun c static place k a b None ws (t.iValue at v) m l = cc
+array_begun c static place k a b (Some e) ws (t.iValue at v) m l = cc
+array_begun c static place k a b e ws (t.iList at q es x y) m l = line_holds _ _ _ (nil_left _ _ l)
+
 some_parts : (es : t.Parts) → are_no_parts es ≡ false → suc 0 ≤ count_parts es
 some_parts t.no_parts h = cc
 some_parts (t.parts_and es c e) h = omega arith
@@ -54,10 +76,10 @@ function_in_file place k ps (t.iValue x e) h = cc
 function_in_file place k ps (t.iList x y es z v) h = cc
 
 module _ (c : Known) (scope : s.Scope) (owner : Option ℕ) where
-  placed_declarator : (names : List (List ℕ)) (place : Site) (k : Told) (p : Room) (ws : t.Words) (n : List ℕ) (at : ℕ) (f : t.Form) (i : t.Initial) (hi : ℕ) →
+  placed_declarator : (names : List (List ℕ)) (place : Site) (k : Told) (static : Bool) (p : Room) (ws : t.Words) (n : List ℕ) (at : ℕ) (f : t.Form) (i : t.Initial) (hi : ℕ) →
       may_declare place k f i ≡ true → ShapedForm names f → ShapedInitial names i → InForm (suc at) f hi → rules.faults_of_form c.env c.model c.bodies f ≡ [] →
-      (sh.is_file place ≡ true → Allows (within (suc at) hi) p) → Placed c p true at hi (s.in_declarator scope owner ws n at f i)
-  placed_declarator names place k p ws n at t.fPlain i hi m v w h l r =
+      rules.faults_of_initial c.env c.model c.bodies static f i ≡ [] → (sh.is_file place ≡ true → Allows (within (suc at) hi) p) → Placed c p true at hi (s.in_declarator scope owner ws n at f i)
+  placed_declarator names place k static p ws n at t.fPlain i hi m v w h l z r =
       one (record {
         low = itself at;
         high = h;
@@ -66,8 +88,9 @@ module _ (c : Known) (scope : s.Scope) (owner : Option ℕ) where
         name = as_named scope owner (s.has_typedef ws) p ws t.fPlain i;
         object = as_object scope owner (s.has_typedef ws) ws t.fPlain i;
         sized = as_sized scope owner c (s.has_typedef ws) at (suc at) ws t.fPlain i tt;
+        begun = as_begun scope owner c (s.has_typedef ws) ws t.fPlain i (plain_begun c place k ws i m);
       })
-  placed_declarator names place k p ws n at (t.fArray a e b) i hi m v w h l r =
+  placed_declarator names place k static p ws n at (t.fArray a e b) i hi m v w h l z r =
       let o = placed_option c scope owner names 2 e (suc a) b v h.1 in
       let q = o.ordered in
       late (lift o) (omega (arith, h.0)) (omega (arith, h.2))
@@ -79,9 +102,10 @@ module _ (c : Known) (scope : s.Scope) (owner : Option ℕ) where
         name = as_named scope owner (s.has_typedef ws) p ws (t.fArray a e b) i;
         object = as_object scope owner (s.has_typedef ws) ws (t.fArray a e b) i;
         sized = as_sized scope owner c (s.has_typedef ws) at (suc b) ws (t.fArray a e b) i (array_sized c names place k at a b e ws i m w h.0 h.1 l);
+        begun = as_begun scope owner c (s.has_typedef ws) ws (t.fArray a e b) i (array_begun c static place k a b e ws i m z);
       })
       (omega (arith, h.0))
-  placed_declarator names place k p ws n at (t.fFunction ps) i hi m v w h l r =
+  placed_declarator names place k static p ws n at (t.fFunction ps) i hi m v w h l z r =
       let o = placed_prototype c names ps (suc at) hi v h in
       let q = close_in ps (suc at) hi h in
       late (wider o (r (function_in_file place k ps i m)) (alike false) (itself (suc at)) (itself hi)) (omega arith) (itself hi)
@@ -93,6 +117,7 @@ module _ (c : Known) (scope : s.Scope) (owner : Option ℕ) where
         name = as_named scope owner (s.has_typedef ws) p ws (t.fFunction ps) i;
         object = as_object scope owner (s.has_typedef ws) ws (t.fFunction ps) i;
         sized = as_sized scope owner c (s.has_typedef ws) at (suc (close_of ps)) ws (t.fFunction ps) i tt;
+        begun = function_begun scope owner c (s.has_typedef ws) ws ps i;
       })
       (itself (suc at))
 
@@ -110,7 +135,8 @@ module _ (c : Known) (scope : s.Scope) (owner : Option ℕ) where
       let last = placed_initial (declared k ds names) i h.2 hi w.6 h.7 in
       let ll = last.ordered in
       let lm = ordered_declarators ds lo h.0 h.3 in
-      let own = placed_declarator (declared k ds names) place k p ws n at f i h.1 w.2 w.4 w.6 h.5 (nil_right (rules.faults_of_declarators c.env c.model c.bodies static ds) _ front)
+      let own = placed_declarator (declared k ds names) place k static p ws n at f i h.1 w.2 w.4 w.6 h.5 (nil_right (rules.faults_of_declarators c.env c.model c.bodies static ds) _ front)
+      (nil_right (rules.faults_of_declarators c.env c.model c.bodies static ds ++ rules.faults_of_form c.env c.model c.bodies f) _ l)
       (λ q. inner_room p lo hi (suc at) h.1 (omega (arith, lm, h.4)) (omega (arith, h.6, ll)) (r q)) in
       let lk = own.ordered in
       join (join (placed_declarators names place k static p ws ds lo h.0 w.0 h.3 (nil_left (rules.faults_of_declarators c.env c.model c.bodies static ds) _ front)

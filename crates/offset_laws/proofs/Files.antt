@@ -27,7 +27,7 @@ module _ (c : Known) (names : List (List ℕ)) where
       let scope = s.block (open_of ps) z in
       let d = s.declared s.file None n at (close_of ps) (s.aFunction ws ps true) in
       let q = close_in ps (suc at) k p in
-      let own : Lies c nowhere true at k d = record { low = itself at; high = omega (arith, q.0, q.1); own = omega (arith, q.0); stop = q.1; name = tt; object = tt; sized = tt } in
+      let own : Lies c nowhere true at k d = record { low = itself at; high = omega (arith, q.0, q.1); own = omega (arith, q.0); stop = q.1; name = tt; object = tt; sized = tt; begun = tt } in
       let head = late (placed_parameters c scope (Some number) names ps (suc at) k w.parameters p) (omega arith) (itself k) own (itself (suc at)) in
       let front = subst (Placed c nowhere true lo k) (sym (append_assoc (s.in_words s.file None ws) (s.in_parameters scope (Some number) ps) (d ∷ [])))
       (join (lift (placed_words c s.file None names ws lo m w.words h)) head x) in
@@ -40,7 +40,7 @@ module _ (c : Known) (names : List (List ℕ)) where
       let d = s.declared s.file None n at (close_of ps) (s.aFunction ws ps true) in
       let q = close_in ps (suc at) k p in
       let o = ordered_words ws lo m h in
-      let own : Lies c (within lo hi) true at hi d = record { low = itself at; high = omega (arith, q.0, q.1, y, b); own = omega (arith, q.0); stop = omega (arith, q.1, y, b); name = tt; object = tt; sized = tt } in
+      let own : Lies c (within lo hi) true at hi d = record { low = itself at; high = omega (arith, q.0, q.1, y, b); own = omega (arith, q.0); stop = omega (arith, q.1, y, b); name = tt; object = tt; sized = tt; begun = tt } in
       let head = late (wider (placed_prototype c names ps (suc at) k w.parameters p) (omega (arith, o, x), omega (arith, y, b)) (alike false) (itself (suc at)) (itself k)) (omega arith) (omega (arith, y, b)) own (itself (suc at)) in
       subst (Placed c (within lo hi) true lo hi) (sym (append_assoc (s.in_words s.file None ws) (s.in_prototype ps) (d ∷ [])))
       (join (lift (placed_words c s.file None names ws lo m w.words h)) head x)

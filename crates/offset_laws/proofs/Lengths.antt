@@ -85,7 +85,7 @@ constant_there true true n h l = l
 constant_there false k n h l = cc
 constant_there true false n h l = cc
 
-length_positive : (f : Known) (e : t.Ex) → rules.faults_of_length f.env f.model f.bodies e ≡ [] → 0 < c.length_from (c.constant_of f.env f.model e)
+pub length_positive : (f : Known) (e : t.Ex) → rules.faults_of_length f.env f.model f.bodies e ≡ [] → 0 < c.length_from (c.constant_of f.env f.model e)
 length_positive f e h =
     let lines = unless_lines (rules.faults f.env f.model f.bodies e) _ h in
     let front = nil_left (rules.constant_lines f.env f.model f.bodies e) _ lines in
@@ -95,15 +95,15 @@ length_positive f e h =
 
 -- ---- All objects
 
-abbrev AllBehind : s.What → ℕ → List s.Declared → Type 0
+abbrev pub AllBehind : s.What → ℕ → List s.Declared → Type 0
 AllBehind w from [] = Unit {0}
 AllBehind w from (e ∷ es) = Behind w from e.at e.from × AllBehind w from es
 
-behind_of : (d : s.Declared) (es : List s.Declared) → AllApart d es → AllBehind d.what d.from es
+pub behind_of : (d : s.Declared) (es : List s.Declared) → AllApart d es → AllBehind d.what d.from es
 behind_of d [] h = tt
 behind_of d (e ∷ es) h = (h.0.behind, behind_of d es h.1)
 
-beyond_of : (ws : t.Words) (f : t.Form) (i : t.Initial) (low high from : ℕ) (es : List s.Declared) → high ≤ from → AllBehind (s.anObject ws f i) from es → AllBeyond low high es
+pub beyond_of : (ws : t.Words) (f : t.Form) (i : t.Initial) (low high from : ℕ) (es : List s.Declared) → high ≤ from → AllBehind (s.anObject ws f i) from es → AllBeyond low high es
 beyond_of ws f i low high from [] l h = tt
 beyond_of ws f i low high from (e ∷ es) l h =
     let p = h.0 in

@@ -13,3 +13,7 @@ mod Finding
 mod Holding
 mod Whole
 mod Sources
+mod Owning
+mod Keeping
+mod Ranges
+mod Objects

@@ -4,7 +4,8 @@ use Rattle.lv_base.specs.declared.kind.Model.{Model}
 use Rattle.c_tree.specs.Tree as t
 use Rattle.c_meaning.specs.Scope as s
 use Rattle.c_meaning.specs.Bindings.{Env}
-use Rattle.c_meaning.specs.Constants.{listed}
+use Rattle.c_meaning.specs.Tokens.{count_parts}
+use Rattle.c_meaning.specs.Constants.{listed, object_length}
 use Rattle.c_meaning.specs.Rules as rules
 use Rattle.offset_laws.proofs.Standing.{In}
 
@@ -19,6 +20,14 @@ abbrev pub Sized : Known → ℕ → ℕ → s.What → Type 0
 Sized c at from (s.anObject ws (t.fArray a (Some e) b) i) = (rules.faults_of_length c.env c.model c.bodies e ≡ []) × In (suc a) e b × (suc at ≤ a) × (suc b ≤ from)
 Sized c at from (s.anObject ws (t.fArray a None b) i) = suc 0 ≤ listed i
 Sized c at from w = Unit {0}
+
+-- a value without a list begins a scalar, and a list an array that has no fewer elements
+abbrev pub Begun : Known → s.What → Type 0
+Begun c (s.anObject ws t.fPlain (t.iList at a es x b)) = ⊥
+Begun c (s.anObject ws (t.fArray y e z) (t.iValue at v)) = ⊥
+Begun c (s.anObject ws (t.fArray y e z) (t.iList at a es x b)) = rules.is_too_many c.env c.model c.bodies (object_length c.env c.model (t.fArray y e z) (t.iList at a es x b)) (count_parts es) ≡ false
+Begun c (s.anObject ws (t.fFunction ps) i) = ⊥
+Begun c w = Unit {0}
 
 -- where the scopes of prototypes may lie
 pub data Room : Type 0 where
@@ -53,6 +62,7 @@ pub record Lies (c : Known) (p : Room) (q : Bool) (lo hi : ℕ) (d : s.Declared)
   pub name : NameLies p d.what d.scope
   pub object : ObjectLies q d.what
   pub sized : Sized c d.at d.from d.what
+  pub begun : Begun c d.what
 
 -- behind an object's declarator
 abbrev pub Behind : s.What → ℕ → ℕ → ℕ → Type 0
@@ -125,6 +135,7 @@ lies_wider c p p1 q q1 lo hi low high d f g x y h =
       name = name_wider d.what d.scope p p1 f h.name;
       object = object_wider d.what q q1 g h.object;
       sized = h.sized;
+      begun = h.begun;
     }
 
 all_wider : (c : Known) (p p1 : Room) (q q1 : Bool) (lo hi low high : ℕ) (ds : List s.Declared) → Allows p p1 → (q ≡ true → q1 ≡ true) → low ≤ lo → hi ≤ high → AllLie c p q lo hi ds → AllLie c p1 q1 low high ds

@@ -82,18 +82,18 @@ module _ (c : Known) (scope : s.Scope) (owner : Option ℕ) (names : List (List 
     placed_word (t.wTagEnum at n y a es x b) lo hi w h =
         let o = ordered_enumerators es (suc a) h.0 h.4 in
         late (placed_enumerators es (suc a) h.0 w.2 h.4) (omega (arith, h.2, h.3)) (omega (arith, h.5, h.6))
-        (record { low = h.2; high = omega (arith, h.3, o, h.5, h.6); own = omega (arith, h.3, o, h.5); stop = h.6; name = tt; object = tt; sized = tt })
+        (record { low = h.2; high = omega (arith, h.3, o, h.5, h.6); own = omega (arith, h.3, o, h.5); stop = h.6; name = tt; object = tt; sized = tt; begun = tt })
         (omega (arith, h.3))
 
     placed_enumerators : (es : t.Ens) (lo hi : ℕ) → ShapedEnumerators names es → InEnumerators lo es hi → Placed c nowhere false lo hi (s.in_enumerators scope owner es)
     placed_enumerators t.no_enumerators lo hi w h = empty h
     placed_enumerators (t.plain_and es x n at) lo hi w h =
-        join (placed_enumerators es lo h.0 w.2 h.1) (one (record { low = itself at; high = h.3; own = itself (suc at); stop = h.3; name = tt; object = tt; sized = tt })) h.2
+        join (placed_enumerators es lo h.0 w.2 h.1) (one (record { low = itself at; high = h.3; own = itself (suc at); stop = h.3; name = tt; object = tt; sized = tt; begun = tt })) h.2
     placed_enumerators (t.valued_and es x n at a e) lo hi w h =
         let r = tight names e (suc a) hi w.4 h.4 in
         let o = ordered e (suc a) (suc (last_of e)) r.0 in
         let d = s.declared scope owner n at (last_of e) (s.anEnumerator (t.valued_and es x n at a e)) in
-        let own : Lies c nowhere false at hi d = record { low = itself at; high = omega (arith, h.3, o, r.1); own = omega (arith, h.3, o); stop = r.1; name = tt; object = tt; sized = tt } in
+        let own : Lies c nowhere false at hi d = record { low = itself at; high = omega (arith, h.3, o, r.1); own = omega (arith, h.3, o); stop = r.1; name = tt; object = tt; sized = tt; begun = tt } in
         subst (Placed c nowhere false lo hi) (sym (append_assoc (s.in_enumerators scope owner es) (s.in_expression scope owner e) (d ∷ [])))
         (join (placed_enumerators es lo h.0 w.3 h.1) (late (placed e (suc a) (suc (last_of e)) w.4 r.0) (omega (arith, h.3)) r.1 own (omega (arith, h.3))) h.2)
 
@@ -137,12 +137,12 @@ module _ (c : Known) (scope : s.Scope) (owner : Option ℕ) (names : List (List 
       let r = words_from ws h.1 h.2 (not_empty ws w.1) w.2 h.5 in
       let o = r.1.ordered in
       let d = s.declared scope owner [] (first_of_words ws) (first_of_words ws) (s.aParameter ws) in
-      let own : Lies c nowhere false h.1 hi d = record { low = r.0; high = omega (arith, o, h.6); own = itself (suc (first_of_words ws)); stop = omega (arith, o, h.6); name = tt; object = tt; sized = tt } in
+      let own : Lies c nowhere false h.1 hi d = record { low = r.0; high = omega (arith, o, h.6); own = itself (suc (first_of_words ws)); stop = omega (arith, o, h.6); name = tt; object = tt; sized = tt; begun = tt } in
       subst (Placed c nowhere false lo hi) (sym (append_assoc (s.in_params scope owner ps) (s.in_words scope owner ws) (d ∷ [])))
       (join (placed_params ps lo h.0 w.4 h.3) (late r.1 (omega (arith, r.0)) h.6 own (itself (suc (first_of_words ws)))) h.4)
   placed_params (t.params_and ps x ws (Some (t.named n at))) lo hi w h =
       join (join (placed_params ps lo h.0 w.4 h.3) (placed_words c scope owner names ws h.1 h.2 w.2 h.5) h.4)
-      (one (record { low = itself at; high = h.6.1; own = itself (suc at); stop = h.6.1; name = tt; object = tt; sized = tt })) h.6.0
+      (one (record { low = itself at; high = h.6.1; own = itself (suc at); stop = h.6.1; name = tt; object = tt; sized = tt; begun = tt })) h.6.0
 
   pub placed_parameters : (ps : t.Parameters) (lo hi : ℕ) → ShapedParameters names ps → InParameters lo ps hi → Placed c nowhere false lo hi (s.in_parameters scope owner ps)
   placed_parameters (t.pUnknown a b) lo hi w h = empty (omega (arith, h.0, h.1, h.2))
@@ -161,7 +161,7 @@ module _ (c : Known) (names : List (List ℕ)) (first last low high : ℕ) (x : 
       stretch lo hi (join (placed_named ps lo h.0 w.4 h.3) (lift (placed_words c (s.block first last) None names ws h.1 h.2 w.2 h.5)) h.4) (itself lo) h.6
   placed_named (t.params_and ps z ws (Some (t.named n at))) lo hi w h =
       join (join (placed_named ps lo h.0 w.4 h.3) (lift (placed_words c (s.block first last) None names ws h.1 h.2 w.2 h.5)) h.4)
-      (one (record { low = itself at; high = h.6.1; own = itself (suc at); stop = h.6.1; name = (x, y); object = tt; sized = tt })) h.6.0
+      (one (record { low = itself at; high = h.6.1; own = itself (suc at); stop = h.6.1; name = (x, y); object = tt; sized = tt; begun = tt })) h.6.0
 
 pub placed_prototype : (c : Known) (names : List (List ℕ)) (ps : t.Parameters) (lo hi : ℕ) → ShapedParameters names ps → InParameters lo ps hi → Placed c (within lo hi) false lo hi (s.in_prototype ps)
 placed_prototype c names (t.pUnknown a b) lo hi w h = empty (omega (arith, h.0, h.1, h.2))

@@ -29,7 +29,7 @@ use Rattle.offset_laws.proofs.Finding.{AllFound, found_left, found_right, all_fo
 use Rattle.offset_laws.proofs.Holding.{statements_hold}
 
 -- some offset is behind all
-up_to : (signs : List Sign) (lo : ℕ) → Rises lo signs → (top : ℕ) × RisesTo top lo signs
+pub up_to : (signs : List Sign) (lo : ℕ) → Rises lo signs → (top : ℕ) × RisesTo top lo signs
 up_to [] lo h = (lo, itself lo)
 up_to (x ∷ signs) lo h = let r = up_to signs (suc x.at) h.1 in (r.0, (h.0, r.1))
 

@@ -1,13 +1,15 @@
 -- What the order of tokens leaves to the rules of names, and the typed trees of sources that break no rule.
-use Rattle.std.specs.Prelude.{◌≡◌, ℕ, List, [], map, ℤ}
+use Rattle.std.specs.Prelude.{◌≡◌, ℕ, ◌<◌, true, List, [], ◌∷◌, length, map, All, ℤ}
 use Rattle.lv_base.specs.declared.kind.Model.{Model}
 use Rattle.c_tree.specs.declared.symbol.Sign.{Sign}
 use Rattle.c_tree.specs.Tree.{Items}
 use Rattle.c_tree.specs.Denotes.{IsSpelled}
+use Rattle.c_meaning.specs.Scope.{Declared, is_file, in_items}
 use Rattle.c_meaning.specs.Good.{Good}
 use Rattle.c_meaning.specs.Jumps.{control_faults}
 use Rattle.c_meaning.specs.Program.{functions_of, env_of, run}
 use Rattle.c_meaning.specs.Rules.{typing_faults}
+use Rattle.c_typed.specs.Facts.{ObjectFits}
 use Rattle.c_typed.specs.Rules.{broken}
 use Rattle.c_typed.specs.Run as typed
 use Rattle.c_types.specs.Elaborated.{elaborated}
@@ -35,3 +37,15 @@ SourcesBreak = (tokens : List Sign) (items : Items) → (model : Model) → IsSp
 abbrev pub GoodSources : Type 0
 GoodSources = (tokens : List Sign) (items : Items) → (model : Model) → IsSpelled tokens items → Rises 0 tokens → Good items model →
     (broken (elaborated items model) ≡ []) × ((turns : ℕ) → (inputs : List ℤ) → typed.run turns (elaborated items model) inputs ≡ run turns items model inputs)
+
+-- ---- The facts of the typed tree
+
+-- each name that is declared in the file has a letter, as each name has that the lexer reads
+abbrev pub AreNamed : List Declared → Type 0
+AreNamed [] = Unit {0}
+AreNamed (d ∷ ds) = (is_file d.scope ≡ true → 0 < length d.name) × AreNamed ds
+
+-- its typed tree's objects keep their facts
+abbrev pub ObjectsTyped : Type 0
+ObjectsTyped = (tokens : List Sign) (items : Items) → (model : Model) → IsSpelled tokens items → Rises 0 tokens → AreNamed (in_items items) → IsRight items model →
+    All (ObjectFits model (elaborated items model).objects (elaborated items model).functions) (elaborated items model).objects

@@ -1,4 +1,4 @@
-use crate::{good_sources, sources_break, sources_hold, sources_run};
+use crate::{good_sources, objects_typed, sources_break, sources_hold, sources_run};
 
 #[test]
 fn the_laws_are_there() {
@@ -6,4 +6,5 @@ fn the_laws_are_there() {
     sources_run();
     sources_break();
     good_sources();
+    objects_typed();
 }
