@@ -1,4 +1,4 @@
-ghost use Rattle.std.specs.Prelude.{◌≡◌, ℕ, ◌+◌, ◌≤◌, ◌<◌, length, map, take, drop, slice_index, All, List, [], ◌∷◌, ◌++◌, IfOk, OnErr, MatchResult, true, nat_lt, if◌then◌else◌};
+ghost use Rattle.std.specs.Prelude.{◌≡◌, ℕ, ◌+◌, ◌≤◌, ◌<◌, length, map, take, drop, slice_index, All, List, [], ◌∷◌, ◌++◌, IfOk, IfErr, OnErr, MatchResult, true, nat_lt, if◌then◌else◌};
 ghost use Rattle.bit_gates.specs.Cut.{Cut, Emitted, Grew};
 ghost use Rattle.bit_gates.specs.Net.{net_clauses};
 ghost use Rattle.bit_words.specs.Elements.{AllLong};
@@ -179,6 +179,7 @@ impl Bits {
         requires { All IsWidth cells.now }
         ensures clauses { clauses.new ≡ clauses.old }
         ensures held { IfOk result (λ b. b ≡ new_of clauses.old cells.now) }
+        ensures cause { IfErr result (λ e. e ≡ BlastFail.Memory) }
         ensures over { IfOk result (λ b. (table : Table) → table.cells ≡ cells.now → IsOver table b) }
     {
         let free = above_clauses(clauses);
@@ -251,6 +252,7 @@ impl Bits {
         requires width { length to.items ≡ length (cell_at self.old.cells cell) }
         ensures clauses { clauses.new ≡ clauses.old }
         ensures held { IfOk result (λ _. self.new ≡ rebind_of cell to.items self.old) }
+        ensures whole { OnErr result ⊥ }
         ensures over { IfOk result (λ _. (table : Table) → IsOver table self.old → IsOver table self.new) }
     {
         place(&mut self.cells, cell as usize, to);
@@ -264,6 +266,7 @@ impl Bits {
     pub fn renew(&mut self, clauses: &mut Clauses) -> Result<(), BlastFail>
         ensures clauses { clauses.new ≡ clauses.old }
         ensures held { IfOk result (λ _. self.new ≡ renew_of self.old) }
+        ensures whole { OnErr result ⊥ }
         ensures over { IfOk result (λ _. (table : Table) → IsOver table self.old → IsOver table self.new) }
     {
         self.one = None;
