@@ -17,3 +17,4 @@ mod Owning
 mod Keeping
 mod Ranges
 mod Objects
+mod Parameters

@@ -1,5 +1,5 @@
 -- What the order of tokens leaves to the rules of names, and the typed trees of sources that break no rule.
-use Rattle.std.specs.Prelude.{◌≡◌, ℕ, ◌<◌, true, List, [], ◌∷◌, length, map, All, ℤ}
+use Rattle.std.specs.Prelude.{◌≡◌, ℕ, ◌+◌, ◌<◌, true, List, [], ◌∷◌, length, map, All, ℤ}
 use Rattle.lv_base.specs.declared.kind.Model.{Model}
 use Rattle.c_tree.specs.declared.symbol.Sign.{Sign}
 use Rattle.c_tree.specs.Tree.{Items}
@@ -9,9 +9,10 @@ use Rattle.c_meaning.specs.Good.{Good}
 use Rattle.c_meaning.specs.Jumps.{control_faults}
 use Rattle.c_meaning.specs.Program.{functions_of, env_of, run}
 use Rattle.c_meaning.specs.Rules.{typing_faults}
-use Rattle.c_typed.specs.Facts.{ObjectFits}
+use Rattle.c_typed.specs.Facts.{ObjectFits, IsParameter}
 use Rattle.c_typed.specs.Rules.{broken}
 use Rattle.c_typed.specs.Run as typed
+use Rattle.c_typed.specs.Tree.{Object, Function}
 use Rattle.c_types.specs.Elaborated.{elaborated}
 use Rattle.fit_laws.specs.Whole.{SourceHolds}
 use Rattle.offset_laws.specs.Rising.{Rises}
@@ -49,3 +50,12 @@ AreNamed (d ∷ ds) = (is_file d.scope ≡ true → 0 < length d.name) × AreNam
 abbrev pub ObjectsTyped : Type 0
 ObjectsTyped = (tokens : List Sign) (items : Items) → (model : Model) → IsSpelled tokens items → Rises 0 tokens → AreNamed (in_items items) → IsRight items model →
     All (ObjectFits model (elaborated items model).objects (elaborated items model).functions) (elaborated items model).objects
+
+-- the parameters of functions, of which the first has this number
+abbrev pub ParametersFit : Model → List Object → List Function → ℕ → List Function → Type 0
+ParametersFit model objects functions number [] = Unit {0}
+ParametersFit model objects functions number (f ∷ fs) = All (IsParameter model objects functions number) f.parameters × ParametersFit model objects functions (number + 1) fs
+
+abbrev pub ParametersTyped : Type 0
+ParametersTyped = (tokens : List Sign) (items : Items) → (model : Model) → IsSpelled tokens items → Rises 0 tokens → IsRight items model →
+    ParametersFit model (elaborated items model).objects (elaborated items model).functions 0 (elaborated items model).functions

@@ -1,7 +1,7 @@
 //! What the order of a source's tokens leaves to its typed tree.
 #![tactic(auto)]
 
-ghost use Rattle.offset_laws.specs.Laws.{GoodSources, ObjectsTyped, SourcesBreak, SourcesHold, SourcesRun};
+ghost use Rattle.offset_laws.specs.Laws.{GoodSources, ObjectsTyped, ParametersTyped, SourcesBreak, SourcesHold, SourcesRun};
 
 use c_types::same_run;
 use fit_laws::{known_hold, sources_fit};
@@ -51,6 +51,11 @@ pub fn objects_typed()
 {
     sources_hold();
 }
+
+/// The parameters of each function of such a typed tree are there, scalars of the function's own.
+pub fn parameters_typed()
+    ensures { ParametersTyped }
+{}
 
 #[cfg(test)]
 mod tests;
