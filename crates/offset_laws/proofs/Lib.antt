@@ -18,3 +18,4 @@ mod Keeping
 mod Ranges
 mod Objects
 mod Parameters
+mod Naming

@@ -1,10 +1,11 @@
 -- What the order of tokens leaves to the rules of names, and the typed trees of sources that break no rule.
-use Rattle.std.specs.Prelude.{◌≡◌, ℕ, ◌+◌, ◌<◌, true, List, [], ◌∷◌, length, map, All, ℤ}
+use Rattle.std.specs.Prelude.{◌≡◌, ℕ, ◌+◌, ◌<◌, List, [], ◌∷◌, length, map, All, ℤ}
 use Rattle.lv_base.specs.declared.kind.Model.{Model}
+use Rattle.c_tree.specs.declared.symbol.Symbol.{Symbol}
+use Rattle.c_tree.specs.declared.symbol.Symbol.TheVariants as sy
 use Rattle.c_tree.specs.declared.symbol.Sign.{Sign}
 use Rattle.c_tree.specs.Tree.{Items}
 use Rattle.c_tree.specs.Denotes.{IsSpelled}
-use Rattle.c_meaning.specs.Scope.{Declared, is_file, in_items}
 use Rattle.c_meaning.specs.Good.{Good}
 use Rattle.c_meaning.specs.Jumps.{control_faults}
 use Rattle.c_meaning.specs.Program.{functions_of, env_of, run}
@@ -41,14 +42,18 @@ GoodSources = (tokens : List Sign) (items : Items) → (model : Model) → IsSpe
 
 -- ---- The facts of the typed tree
 
--- each name that is declared in the file has a letter, as each name has that the lexer reads
-abbrev pub AreNamed : List Declared → Type 0
-AreNamed [] = Unit {0}
-AreNamed (d ∷ ds) = (is_file d.scope ≡ true → 0 < length d.name) × AreNamed ds
+-- each name among the tokens has a letter
+abbrev pub HasLetter : Symbol → Type 0
+HasLetter (sy.Name n) = 0 < length n
+HasLetter symbol = Unit {0}
+
+abbrev pub HaveLetters : List Sign → Type 0
+HaveLetters [] = Unit {0}
+HaveLetters (s ∷ signs) = HasLetter s.symbol × HaveLetters signs
 
 -- its typed tree's objects keep their facts
 abbrev pub ObjectsTyped : Type 0
-ObjectsTyped = (tokens : List Sign) (items : Items) → (model : Model) → IsSpelled tokens items → Rises 0 tokens → AreNamed (in_items items) → IsRight items model →
+ObjectsTyped = (tokens : List Sign) (items : Items) → (model : Model) → IsSpelled tokens items → Rises 0 tokens → HaveLetters tokens → IsRight items model →
     All (ObjectFits model (elaborated items model).objects (elaborated items model).functions) (elaborated items model).objects
 
 -- the parameters of functions, of which the first has this number

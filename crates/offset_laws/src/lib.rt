@@ -45,7 +45,7 @@ pub fn good_sources()
 
 /// The objects of the typed tree of such a source keep their facts: one that lives as long as the program has as many values at
 /// the start as elements, each in the range of its kind, however often and with however many lengths it was declared; one of a
-/// function begins with none, and the function is there. Each name that the file declares is to have a letter.
+/// function begins with none, and the function is there. Each name among the tokens is to have a letter.
 pub fn objects_typed()
     ensures { ObjectsTyped }
 {
