@@ -11,7 +11,7 @@ use Rattle.c_meaning.specs.Bindings.{Env, Entry, Object, Entity, anObjectOf, aFu
 use Rattle.c_meaning.specs.Constants as c
 use Rattle.c_meaning.specs.Rules as rules
 use Rattle.c_types.specs.Fit.{LengthFits}
-use Rattle.offset_laws.specs.Laws.{AreNamed}
+use Rattle.offset_laws.proofs.Naming.{is_object, AreNamed}
 use Rattle.offset_laws.proofs.Logic.{nil_left, nil_right, line_holds, and_left, and_right}
 use Rattle.offset_laws.proofs.Lying.{Known, Sized, Begun, Distinct, AllLie, Room}
 use Rattle.offset_laws.proofs.Growing.{AllNumbered, step_of, next_numbered, Grown, grown, fetched_next, if_false}
@@ -205,14 +205,14 @@ module _ (f : Known) where
     object_kept o (aNameOf x y) h l = placed_new o l
     object_kept o nothingOf h l = placed_new o l
 
-    module _ (named : s.is_file d.scope ≡ true → 0 < length d.name) (z : Sized f d.at d.from d.what) (b : Begun f d.what) (behind : AllBehind d.what d.from ds) where
+    module _ (named : is_object d.what ≡ true → s.is_file d.scope ≡ true → 0 < length d.name) (z : Sized f d.at d.from d.what) (b : Begun f d.what) (behind : AllBehind d.what d.from ds) where
       found_kept : (ws : t.Words) (h : t.Form) (i : t.Initial) → d.what ≡ s.anObject ws h i →
           (o : Option Entry) → FoundIn (λ e. s.is_file e.declared.scope && (not (s.is_tag e.declared.what) && bytes_eq e.declared.name d.name)) env.entries o →
           (n : ℕ) → entity_of_entry o ≡ anObjectOf n → s.is_file d.scope ≡ true → Kept env.objects d.what (anObjectOf n)
       found_kept ws h i e None m n q file = cc
       found_kept ws h i e (Some y) m n q file =
           let clear = clear_by g.new g.declares g.entries y m.there in
-          let agree = agreed _ (s.is_file d.scope) _ (meet d y (ap s.is_tag e) file (named file) m.passes) clear in
+          let agree = agreed _ (s.is_file d.scope) _ (meet d y (ap s.is_tag e) file (named (ap is_object e) file) m.passes) clear in
           subst (λ w. Kept env.objects w (anObjectOf n)) (sym e)
           (same_by env.objects y.declared.what y.entity n ws h i q (kept_among env.objects y env.entries m.there kept) (subst (λ w. rules.agrees f.env f.model f.bodies y.declared.what w ≡ true) e agree)
           (positive_last d.at d.from ws h i (subst (Sized f d.at d.from) e z)) (subst (Begun f) e b))

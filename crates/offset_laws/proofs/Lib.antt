@@ -17,3 +17,5 @@ mod Owning
 mod Keeping
 mod Ranges
 mod Objects
+mod Parameters
+mod Naming

@@ -23,10 +23,11 @@ use Rattle.c_typed.specs.Facts.{FirstFits, ObjectFits}
 use Rattle.c_types.specs.Fit.{LengthFits, ObjectsFit}
 use Rattle.c_types.specs.Elaborated.{length_of, owner_of, first_of, objects_from, function_of}
 use Rattle.offset_laws.specs.Rising.{Rises}
-use Rattle.offset_laws.specs.Laws.{SourcesHold, ObjectsTyped}
+use Rattle.offset_laws.specs.Laws.{HaveLetters, SourcesHold, ObjectsTyped}
 use Rattle.offset_laws.proofs.Logic.{nil_left, nil_right}
 use Rattle.offset_laws.proofs.Statements.{read_items}
 use Rattle.offset_laws.proofs.Lying.{Known, within, Begun}
+use Rattle.offset_laws.proofs.Naming.{named_items}
 use Rattle.offset_laws.proofs.Files.{placed_items}
 use Rattle.offset_laws.proofs.Growing.{if_false}
 use Rattle.offset_laws.proofs.Whole.{up_to}
@@ -168,7 +169,7 @@ module _ (f : Known) (kept : AllKept f f.env.objects f.env.entries) (functions :
       (all_fit (suc number) os (λ n. at (suc n) ∙ ap (slice_get f.env.objects) (omega arith)) h.1 k.1)
 
 pub objects_typed_are : SourcesHold → ObjectsTyped
-objects_typed_are holds tokens items model spelled rises named h =
+objects_typed_are holds tokens items model spelled rises letters h =
     let env = env_of items model in
     let fs = functions_of env items in
     let names = map (λ g. g.name) fs in
@@ -176,9 +177,10 @@ objects_typed_are holds tokens items model spelled rises named h =
     let end = spelled.end in
     let up = up_to (spelling items end) 0 (subst (Rises 0) (sym spelled.spelled) rises) in
     let read = read_items up.0 items (sign sy.End end ∷ []) 0 up.1 in
+    let named = named_items items (sign sy.End end ∷ []) (subst HaveLetters (sym spelled.spelled) letters) in
     let front = nil_left (rules.faults_of_items env model names items ++ rules.redeclared env model names [] env.entries) _ h in
     let p = placed_items f items 0 end spelled.shaped read.0 (nil_left (rules.faults_of_items env model names items) _ front) in
-    let kept = all_kept f (nil_right (rules.faults_of_items env model names items) _ front) (within 0 end) true 0 end c.no_names (s.in_items items) refl tt tt named p.lie p.apart in
+    let kept = all_kept f (nil_right (rules.faults_of_items env model names items) _ front) (within 0 end) true 0 end c.no_names (s.in_items items) refl tt tt named.0 p.lie p.apart in
     let count : length (map (function_of env model names) fs) ≡ s.count_bodies items = length-map fs (function_of env model names) ∙ bodies_counted env items in
     all_fit f kept (map (function_of env model names) fs) 0 env.objects (λ n. ap (slice_get env.objects) (omega arith)) (holds tokens items model spelled rises h).objects
     (subst (λ m. AllOwned m env.objects) (sym count) (all_owned (s.count_bodies items) model c.no_names (s.in_items items) tt tt (below_items items)))

@@ -1,17 +1,19 @@
 -- What the order of tokens leaves to the rules of names, and the typed trees of sources that break no rule.
-use Rattle.std.specs.Prelude.{◌≡◌, ℕ, ◌<◌, true, List, [], ◌∷◌, length, map, All, ℤ}
+use Rattle.std.specs.Prelude.{◌≡◌, ℕ, ◌+◌, ◌<◌, List, [], ◌∷◌, length, map, All, ℤ}
 use Rattle.lv_base.specs.declared.kind.Model.{Model}
+use Rattle.c_tree.specs.declared.symbol.Symbol.{Symbol}
+use Rattle.c_tree.specs.declared.symbol.Symbol.TheVariants as sy
 use Rattle.c_tree.specs.declared.symbol.Sign.{Sign}
 use Rattle.c_tree.specs.Tree.{Items}
 use Rattle.c_tree.specs.Denotes.{IsSpelled}
-use Rattle.c_meaning.specs.Scope.{Declared, is_file, in_items}
 use Rattle.c_meaning.specs.Good.{Good}
 use Rattle.c_meaning.specs.Jumps.{control_faults}
 use Rattle.c_meaning.specs.Program.{functions_of, env_of, run}
 use Rattle.c_meaning.specs.Rules.{typing_faults}
-use Rattle.c_typed.specs.Facts.{ObjectFits}
+use Rattle.c_typed.specs.Facts.{ObjectFits, IsParameter}
 use Rattle.c_typed.specs.Rules.{broken}
 use Rattle.c_typed.specs.Run as typed
+use Rattle.c_typed.specs.Tree.{Object, Function}
 use Rattle.c_types.specs.Elaborated.{elaborated}
 use Rattle.fit_laws.specs.Whole.{SourceHolds}
 use Rattle.offset_laws.specs.Rising.{Rises}
@@ -40,12 +42,25 @@ GoodSources = (tokens : List Sign) (items : Items) → (model : Model) → IsSpe
 
 -- ---- The facts of the typed tree
 
--- each name that is declared in the file has a letter, as each name has that the lexer reads
-abbrev pub AreNamed : List Declared → Type 0
-AreNamed [] = Unit {0}
-AreNamed (d ∷ ds) = (is_file d.scope ≡ true → 0 < length d.name) × AreNamed ds
+-- each name among the tokens has a letter
+abbrev pub HasLetter : Symbol → Type 0
+HasLetter (sy.Name n) = 0 < length n
+HasLetter symbol = Unit {0}
+
+abbrev pub HaveLetters : List Sign → Type 0
+HaveLetters [] = Unit {0}
+HaveLetters (s ∷ signs) = HasLetter s.symbol × HaveLetters signs
 
 -- its typed tree's objects keep their facts
 abbrev pub ObjectsTyped : Type 0
-ObjectsTyped = (tokens : List Sign) (items : Items) → (model : Model) → IsSpelled tokens items → Rises 0 tokens → AreNamed (in_items items) → IsRight items model →
+ObjectsTyped = (tokens : List Sign) (items : Items) → (model : Model) → IsSpelled tokens items → Rises 0 tokens → HaveLetters tokens → IsRight items model →
     All (ObjectFits model (elaborated items model).objects (elaborated items model).functions) (elaborated items model).objects
+
+-- the parameters of functions, of which the first has this number
+abbrev pub ParametersFit : Model → List Object → List Function → ℕ → List Function → Type 0
+ParametersFit model objects functions number [] = Unit {0}
+ParametersFit model objects functions number (f ∷ fs) = All (IsParameter model objects functions number) f.parameters × ParametersFit model objects functions (number + 1) fs
+
+abbrev pub ParametersTyped : Type 0
+ParametersTyped = (tokens : List Sign) (items : Items) → (model : Model) → IsSpelled tokens items → Rises 0 tokens → IsRight items model →
+    ParametersFit model (elaborated items model).objects (elaborated items model).functions 0 (elaborated items model).functions

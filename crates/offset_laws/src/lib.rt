@@ -1,7 +1,7 @@
 //! What the order of a source's tokens leaves to its typed tree.
 #![tactic(auto)]
 
-ghost use Rattle.offset_laws.specs.Laws.{GoodSources, ObjectsTyped, SourcesBreak, SourcesHold, SourcesRun};
+ghost use Rattle.offset_laws.specs.Laws.{GoodSources, ObjectsTyped, ParametersTyped, SourcesBreak, SourcesHold, SourcesRun};
 
 use c_types::same_run;
 use fit_laws::{known_hold, sources_fit};
@@ -45,12 +45,17 @@ pub fn good_sources()
 
 /// The objects of the typed tree of such a source keep their facts: one that lives as long as the program has as many values at
 /// the start as elements, each in the range of its kind, however often and with however many lengths it was declared; one of a
-/// function begins with none, and the function is there. Each name that the file declares is to have a letter.
+/// function begins with none, and the function is there. Each name among the tokens is to have a letter.
 pub fn objects_typed()
     ensures { ObjectsTyped }
 {
     sources_hold();
 }
+
+/// The parameters of each function of such a typed tree are there, scalars of the function's own.
+pub fn parameters_typed()
+    ensures { ParametersTyped }
+{}
 
 #[cfg(test)]
 mod tests;

@@ -1,4 +1,6 @@
-use crate::{good_sources, objects_typed, sources_break, sources_hold, sources_run};
+use crate::{
+    good_sources, objects_typed, parameters_typed, sources_break, sources_hold, sources_run,
+};
 
 #[test]
 fn the_laws_are_there() {
@@ -7,4 +9,5 @@ fn the_laws_are_there() {
     sources_break();
     good_sources();
     objects_typed();
+    parameters_typed();
 }

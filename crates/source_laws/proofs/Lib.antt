@@ -1,2 +1,3 @@
 mod Offsets
 mod Programs
+mod Letters

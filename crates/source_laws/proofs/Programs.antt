@@ -8,8 +8,9 @@ use Rattle.c_tree.specs.Symbols.{signs_of}
 use Rattle.c_meaning.specs.Good.{or_control}
 use Rattle.c_meaning.specs.Program.{Function, functions_of, env_of}
 use Rattle.fit_laws.specs.Whole.{SourcesFit}
-use Rattle.offset_laws.specs.Laws.{SourcesHold, GoodSources}
-use Rattle.source_laws.specs.Laws.{TokensRise, GoodPrograms, CallsFound}
+use Rattle.offset_laws.specs.Laws.{SourcesHold, GoodSources, ObjectsTyped, ParametersTyped}
+use Rattle.source_laws.specs.Laws.{TokensRise, GoodPrograms, CallsFound, ObjectsKept}
+use Rattle.source_laws.proofs.Letters.{letters_of}
 
 pub good_programs_are : TokensRise → GoodSources → GoodPrograms
 good_programs_are rise goods source list tree model tokens denotes good = goods (signs_of list) (tree_of tree) model denotes (rise source list tokens) good
@@ -30,3 +31,9 @@ calls_found_are rise holds fits source list tree model tokens denotes good =
     let right = or_left _ _ good in
     let fit = fits items model (holds (signs_of list) items model denotes (rise source list tokens) right) right in
     (fit.0.bodies, (λ name number h. there_at (functions_of env items) number (position-Some (λ m. bytes_eq m name) (map (λ f. f.name) (functions_of env items)) number [] h).0))
+
+pub objects_kept_are : TokensRise → ObjectsTyped → ParametersTyped → ObjectsKept
+objects_kept_are rise objects parameters source list tree model tokens denotes good =
+    let rises = rise source list tokens in
+    let right = or_left _ _ good in
+    (objects (signs_of list) (tree_of tree) model denotes rises (letters_of source list tokens) right, parameters (signs_of list) (tree_of tree) model denotes rises right)

@@ -1,10 +1,10 @@
 //! Sources from their bytes on: what the laws of tokens, trees and rules say together.
 #![tactic(auto)]
 
-ghost use Rattle.source_laws.specs.Laws.{CallsFound, GoodPrograms, TokensRise};
+ghost use Rattle.source_laws.specs.Laws.{CallsFound, GoodPrograms, ObjectsKept, TokensRise};
 
 use fit_laws::sources_fit;
-use offset_laws::{good_sources, sources_hold};
+use offset_laws::{good_sources, objects_typed, parameters_typed, sources_hold};
 
 /// The tokens of a source stand one behind the other, each at a greater offset than the one before.
 pub fn tokens_rise()
@@ -27,6 +27,17 @@ pub fn calls_found()
     tokens_rise();
     sources_hold();
     sources_fit();
+}
+
+/// The objects of the typed tree of a source that breaks no rule keep their facts: their owners are there, and what lives as
+/// long as the program has as many values at the start as elements, each in the range of its kind. The parameters of each
+/// function are scalars of its own.
+pub fn objects_kept()
+    ensures { ObjectsKept }
+{
+    tokens_rise();
+    objects_typed();
+    parameters_typed();
 }
 
 #[cfg(test)]
