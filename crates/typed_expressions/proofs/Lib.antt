@@ -1,0 +1,4 @@
+mod Matching
+mod Calling
+mod Rows
+mod Arms
