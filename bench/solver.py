@@ -18,6 +18,10 @@ import shutil
 import sys
 import tempfile
 
+# (the folder keeps its sources alone)
+sys.dont_write_bytecode = True
+from sat_sets import pigeonhole, random_3sat
+
 ROOT = pathlib.Path(__file__).resolve().parent.parent
 PROGRAM = os.environ.get("DIMACS", str(ROOT / "crates" / "dimacs" / "out" / "dimacs"))
 MINISAT = shutil.which("minisat")
@@ -132,23 +136,6 @@ class Net:
     def ask(self, literal):
         self.rows.append([literal])
         return self.rows
-
-
-def random_3sat(seed, variables):
-    chance = random.Random(seed)
-    rows = []
-    for _ in range(round(variables * 4.26)):
-        picked = chance.sample(range(1, variables + 1), 3)
-        rows.append([v if chance.random() < 0.5 else -v for v in picked])
-    return rows
-
-
-def pigeonhole(pigeons, holes):
-    at = lambda p, h: p * holes + h + 1
-    rows = [[at(p, h) for h in range(holes)] for p in range(pigeons)]
-    for h in range(holes):
-        rows += [[-at(p, h), -at(q, h)] for p, q in itertools.combinations(range(pigeons), 2)]
-    return rows
 
 
 def parity(seed, variables):
@@ -270,7 +257,7 @@ def scaled(width, factor):
 # The name of a set, whether it is of bits of words, and what makes its clauses. They are made one at a time, in a process of
 # their own, so that the memory of this one stays small: what a program has is counted from its parent's on.
 SETS = (
-    [(f"random 3-SAT {n}, {s}", False, random_3sat, (s, n)) for n, s in ((100, 1), (150, 2), (150, 3), (175, 4))]
+    [(f"random 3-SAT {n}, {s}", False, random_3sat, (s, n, round(n * 4.26))) for n, s in ((100, 1), (150, 2), (150, 3), (175, 4))]
     + [(f"pigeons {n + 1} in {n}", False, pigeonhole, (n + 1, n)) for n in (5, 6, 7)]
     + [(f"parity {n}", False, parity, (n, n)) for n in (10, 14, 18)]
     + [(f"adders {w}", True, adders, (w,)) for w in (6, 8, 9)]
