@@ -9,12 +9,12 @@ use Rattle.parse_stack.specs.declared.fail.StepFail.TheVariants as fail
 use Rattle.parse_machine.specs.Contexts as m
 use Rattle.parse_machine.specs.Declarations as d
 use Rattle.parse_stack.specs.View as v
-use Rattle.parse_steps.specs.declared.modes.Fork.{Fork}
-use Rattle.parse_steps.specs.declared.modes.Fork.TheVariants as fo
-use Rattle.parse_steps.specs.declared.modes.Waiting.{Waiting}
-use Rattle.parse_steps.specs.declared.modes.Waiting.TheVariants as wa
-use Rattle.parse_steps.specs.declared.modes.Mode.{Mode}
-use Rattle.parse_steps.specs.declared.modes.Mode.TheVariants as mo
+use Rattle.parse_values.specs.declared.modes.Fork.{Fork}
+use Rattle.parse_values.specs.declared.modes.Fork.TheVariants as fo
+use Rattle.parse_values.specs.declared.modes.Waiting.{Waiting}
+use Rattle.parse_values.specs.declared.modes.Waiting.TheVariants as wa
+use Rattle.parse_values.specs.declared.modes.Mode.{Mode}
+use Rattle.parse_values.specs.declared.modes.Mode.TheVariants as mo
 
 abbrev pub fork : Fork → m.Fork
 fork (fo.Cast a k) = m.forkCast a (v.inner k)

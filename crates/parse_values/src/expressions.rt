@@ -6,7 +6,7 @@ ghost use Rattle.parse_machine.specs.Contexts as m;
 ghost use Rattle.parse_machine.specs.Making as mk;
 ghost use Rattle.parse_machine.specs.Expressions as ex;
 ghost use Rattle.parse_stack.specs.View as v;
-ghost use Rattle.parse_steps.specs.ModeView.{Gives};
+ghost use Rattle.parse_values.specs.ModeView.{Gives};
 
 use crate::modes::{Fork, Mode};
 use crate::values::step_folded;

@@ -3,9 +3,9 @@ use Rattle.c_tree.specs.declared.symbol.Symbol.{Symbol}
 use Rattle.parse_machine.specs.Contexts as m
 use Rattle.parse_machine.specs.Expressions as ex
 use Rattle.parse_stack.specs.View as v
-use Rattle.parse_steps.specs.ModeView.{Gives}
-use Rattle.parse_steps.proofs.ElseLemmas.{maybe_else}
-use Rattle.parse_steps.proofs.values.step_maybe.Goals as goal
+use Rattle.parse_values.specs.ModeView.{Gives}
+use Rattle.parse_values.proofs.ElseLemmas.{maybe_else}
+use Rattle.parse_values.proofs.values.step_maybe.Goals as goal
 
 pub returns-in-Close : goal.returns-in-Close
 returns-in-Close c =

@@ -7,10 +7,10 @@ ghost use Rattle.parse_machine.specs.Contexts as m;
 ghost use Rattle.parse_machine.specs.Making as mk;
 ghost use Rattle.parse_machine.specs.Expressions as ex;
 ghost use Rattle.parse_stack.specs.View as v;
-ghost use Rattle.parse_steps.specs.ModeView.{Gives};
+ghost use Rattle.parse_values.specs.ModeView.{Gives};
 
-use crate::declarations::{array_of, end_declaration, listed, with_value};
-use crate::enumerations::{nested, valued_close, valued_comma};
+use crate::constants::{nested, valued_close, valued_comma};
+use crate::declared::{array_of, end_declaration, listed, with_value};
 use crate::expressions::{assign, binary, question, sequence, step_operand};
 use crate::modes::{Mode, Waiting};
 use c_tree::{Bracket, Expr, ForHead, ForStart, Head, Statement, Symbol};
