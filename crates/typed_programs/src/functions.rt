@@ -38,11 +38,7 @@ fn add_number(env: &Env<'_>, numbers: &mut Vec<u32>, at: u32) -> Result<(), Memo
 }
 
 #[tactic(auto, using(crate::proofs::Rows::numbers_more, std::proofs::lemmas::List::take_all))]
-fn numbers_of(
-    alloc: Global,
-    env: &Env<'_>,
-    parameters: &[Parameter],
-) -> Result<Vec<u32>, Memory>
+fn numbers_of(alloc: Global, env: &Env<'_>, parameters: &[Parameter]) -> Result<Vec<u32>, Memory>
     ensures { IfOk result (λ r. r.items ≡ program.params_numbers (seen.env_of env.now) (v.params_of parameters.now)) }
 {
     let mut numbers = Vec::new(alloc);
@@ -94,10 +90,7 @@ fn typed_function(
 }
 
 #[tactic(auto, using(crate::proofs::Rows::functions_push))]
-fn push_function(
-    functions: &mut Vec<TypedFunction>,
-    function: TypedFunction,
-) -> Result<(), Memory>
+fn push_function(functions: &mut Vec<TypedFunction>, function: TypedFunction) -> Result<(), Memory>
     ensures { IfOk result (λ _. map tv.function_of functions.new.items ≡ map tv.function_of functions.old.items ++ tv.function_of function ∷ []) }
 {
     functions.push(function)?;

@@ -82,7 +82,14 @@ fn static_values(
     ensures { IfOk result (λ r. r.items ≡ program.initial_values (seen.env_of env.now) model object.now.kind (b.size_of_object (Some (seen.object_of object.now))) (program.initial_of number (seen.env_of env.now).entries)) }
 {
     let count = count_of(object)?;
-    values_from(alloc, env, model, object.kind, count, initial_of(env, number))
+    values_from(
+        alloc,
+        env,
+        model,
+        object.kind,
+        count,
+        initial_of(env, number),
+    )
 }
 
 // The values of an object that lives as long as the program, and none of any other.
@@ -127,11 +134,7 @@ fn typed_object(
 ///
 /// Fails with `Memory`, also where an array has 2^32 elements or more.
 #[tactic(auto, using(crate::proofs::Rows::objects_more))]
-pub fn typed_objects(
-    alloc: Global,
-    env: &Env<'_>,
-    model: Model,
-) -> Result<Vec<TypedObject>, Memory>
+pub fn typed_objects(alloc: Global, env: &Env<'_>, model: Model) -> Result<Vec<TypedObject>, Memory>
     ensures { IfOk result (λ r. map tv.object_of r.items ≡ el.objects_from (seen.env_of env.now) model 0 (seen.env_of env.now).objects) }
 {
     let mut objects = Vec::new(alloc);

@@ -197,7 +197,14 @@ pub fn show_value(out: &mut String, value: &Value) -> Result<(), AllocError> {
         Value::Cond(kind, test, a, b) => show_choice(out, *kind, test, a, b),
         Value::Assign(kind, _, target, v) => show_set(out, target, "", "", kind_text(*kind), v),
         Value::Update(op, kind, left, _, target, v) => {
-            show_set(out, target, kind_text(*kind), sign_text(*op), kind_text(*left), v)
+            show_set(
+                out,
+                target,
+                kind_text(*kind),
+                sign_text(*op),
+                kind_text(*left),
+                v,
+            )
         }
         Value::Change(before, by, kind, _, target) => show_change(out, *before, *by, *kind, target),
         Value::Call(kind, _, _, function, values) => {

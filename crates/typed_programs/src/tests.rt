@@ -1,20 +1,20 @@
 use crate::shown::{show_functions, show_objects, show_value};
-use crate::{Program, elaborated, initial_of, initial_values, names_of, parameter_numbers};
-use crate::{typed_functions, typed_objects, typed_program};
+use crate::{elaborated, names_of};
 use c_lexer::lex;
 use c_parser::parse;
-use c_tree::{Body, Expr, Initial, Item, Parameters, Statement, Unit};
-use lv_base::{Kind, Memory, Model, Text};
+use c_tree::{Body, Expr, Item, Statement, Unit};
+use c_typed::Value;
+use lv_base::{Memory, Model};
 use source_bindings::bind_all;
 use std::alloc::Global;
 use std::process::Abort;
 use std::test::Fail;
-use type_scopes::Env;
 use typed_expressions::typed_value;
 
 /// Scalars 0 to 5 but for the array 3, a constant, functions 0 and 1, of which the parameters of the first are 6 and 7, and
 /// functions without a body.
-const NAMES: &str = "int i; unsigned u; char c; short a[3]; long l; _Bool b; enum { E = 7 }; long f(char x, unsigned y) { } \
+const NAMES: &str =
+    "int i; unsigned u; char c; short a[3]; long l; _Bool b; enum { E = 7 }; long f(char x, unsigned y) { } \
     void reach_error(void); void abort(void); long __VERIFIER_nondet_uint(void); int main() { ";
 
 /// Expressions over these names, and their values where a long has 32 bits, and where it has 64.
@@ -100,7 +100,11 @@ const EXPRESSIONS: [(&str, &str, &str); 18] = [
         "($0 =int int(97:int))",
         "($0 =int int(97:int))",
     ),
-    ("a, f, (i)", "($3, nothing, $0:int)", "($3, nothing, $0:int)"),
+    (
+        "a, f, (i)",
+        "($3, nothing, $0:int)",
+        "($3, nothing, $0:int)",
+    ),
 ];
 
 /// Sources with their objects and their functions, where a long has 32 bits.

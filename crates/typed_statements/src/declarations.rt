@@ -134,7 +134,15 @@ fn add_declarator(
     ensures { IfOk result (λ _. tv.steps_of steps.new.items ≡ el.beginning (seen.env_of env.now) model bodies.now (tv.steps_of steps.old.items) (v.initial_of declarator.now.initial) (b.object_number (b.declared_at (seen.env_of env.now) declarator.now.name.at))) }
 {
     let object = object_number(declared_entity(env, declarator.name.at));
-    add_object(alloc, env, model, bodies, steps, &declarator.initial, object)
+    add_object(
+        alloc,
+        env,
+        model,
+        bodies,
+        steps,
+        &declarator.initial,
+        object,
+    )
 }
 
 #[tactic(auto, using(crate::proofs::Rows::declaring_more, std::proofs::lemmas::List::take_all))]

@@ -118,12 +118,7 @@ pub fn for_node(
 }
 
 /// `case`, of this keyword and value.
-pub fn case_node(
-    alloc: Global,
-    at: u32,
-    value: i128,
-    body: Box<Step>,
-) -> Result<Box<Step>, Memory>
+pub fn case_node(alloc: Global, at: u32, value: i128, body: Box<Step>) -> Result<Box<Step>, Memory>
     ensures { IfOk result (λ r. tv.step r.value ≡ t.pCase at value (tv.step body.value)) }
 {
     Ok(Box::new(alloc, Step::Case(at, value, body))?)
@@ -137,12 +132,7 @@ pub fn default_node(alloc: Global, at: u32, body: Box<Step>) -> Result<Box<Step>
 }
 
 /// A labelled statement.
-pub fn label_node(
-    alloc: Global,
-    name: &[u8],
-    at: u32,
-    body: Box<Step>,
-) -> Result<Box<Step>, Memory>
+pub fn label_node(alloc: Global, name: &[u8], at: u32, body: Box<Step>) -> Result<Box<Step>, Memory>
     ensures { IfOk result (λ r. tv.step r.value ≡ t.pLabel name.now at (tv.step body.value)) }
 {
     let name = Text::copy_of(alloc, name)?;
@@ -172,11 +162,7 @@ pub fn continue_node(alloc: Global, at: u32) -> Result<Box<Step>, Memory>
 }
 
 /// `return`, of this keyword.
-pub fn return_node(
-    alloc: Global,
-    at: u32,
-    value: Option<Box<Value>>,
-) -> Result<Box<Step>, Memory>
+pub fn return_node(alloc: Global, at: u32, value: Option<Box<Value>>) -> Result<Box<Step>, Memory>
     ensures { IfOk result (λ r. tv.step r.value ≡ t.pReturn at (tv.option_value value)) }
 {
     Ok(Box::new(alloc, Step::Return(at, value))?)

@@ -113,9 +113,7 @@ pub fn typed_statement(
         }
         Statement::Break(at, _) => break_node(alloc, *at),
         Statement::Continue(at, _) => continue_node(alloc, *at),
-        Statement::Return(at, e, _) => {
-            return_of(alloc, env, model, bodies, result_kind, *at, e)
-        }
+        Statement::Return(at, e, _) => { return_of(alloc, env, model, bodies, result_kind, *at, e) }
     }
 }
 
@@ -159,7 +157,15 @@ pub fn typed_statements(
 {
     let mut steps = Vec::new(alloc);
     for statement in statements {
-        add_statement(alloc, env, model, bodies, result_kind, &mut steps, statement)?;
+        add_statement(
+            alloc,
+            env,
+            model,
+            bodies,
+            result_kind,
+            &mut steps,
+            statement,
+        )?;
     }
     Ok(steps)
 }
