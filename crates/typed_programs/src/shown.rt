@@ -65,12 +65,18 @@ fn name_text(name: &Text) -> &str {
     }
 }
 
-// `(a + b)`, with what stands between.
+// `(a +int b)`
 #[cycle(show)]
-fn show_two(out: &mut String, a: &Value, between: &str, b: &Value) -> Result<(), AllocError> {
+fn show_two(
+    out: &mut String,
+    a: &Value,
+    sign: &str,
+    kind: &str,
+    b: &Value,
+) -> Result<(), AllocError> {
     out.push_str("(")?;
     show_value(out, a)?;
-    out.push_str(between)?;
+    write!(out, " {sign}{kind} ")?;
     show_value(out, b)?;
     out.push_str(")")
 }
@@ -147,6 +153,20 @@ fn show_change(
     write!(out, " {sign}{kind})")
 }
 
+// `fN(v, v):kind`
+#[cycle(show)]
+fn show_call(
+    out: &mut String,
+    kind: Option<Kind>,
+    function: u32,
+    values: &[Value],
+) -> Result<(), AllocError> {
+    let kind = result_text(kind);
+    write!(out, "f{function}(")?;
+    show_list(out, values)?;
+    write!(out, "):{kind}")
+}
+
 // `(c ?kind a : b)`
 #[cycle(show)]
 fn show_choice(
@@ -183,17 +203,9 @@ pub fn show_value(out: &mut String, value: &Value) -> Result<(), AllocError> {
         Value::Negate(kind, _, v) => show_one(out, "-", kind_text(*kind), v),
         Value::Complement(kind, _, v) => show_one(out, "~", kind_text(*kind), v),
         Value::Not(v) => show_one(out, "!", "", v),
-        Value::Binary(op, kind, _, a, b) => {
-            let sign = sign_text(*op);
-            let kind = kind_text(*kind);
-            out.push_str("(")?;
-            show_value(out, a)?;
-            write!(out, " {sign}{kind} ")?;
-            show_value(out, b)?;
-            out.push_str(")")
-        }
-        Value::Both(a, b) => show_two(out, a, " && ", b),
-        Value::Either(a, b) => show_two(out, a, " || ", b),
+        Value::Binary(op, kind, _, a, b) => show_two(out, a, sign_text(*op), kind_text(*kind), b),
+        Value::Both(a, b) => show_two(out, a, "&&", "", b),
+        Value::Either(a, b) => show_two(out, a, "||", "", b),
         Value::Cond(kind, test, a, b) => show_choice(out, *kind, test, a, b),
         Value::Assign(kind, _, target, v) => show_set(out, target, "", "", kind_text(*kind), v),
         Value::Update(op, kind, left, _, target, v) => {
@@ -207,12 +219,7 @@ pub fn show_value(out: &mut String, value: &Value) -> Result<(), AllocError> {
             )
         }
         Value::Change(before, by, kind, _, target) => show_change(out, *before, *by, *kind, target),
-        Value::Call(kind, _, _, function, values) => {
-            write!(out, "f{function}(")?;
-            show_list(out, values)?;
-            out.push_str("):")?;
-            out.push_str(result_text(*kind))
-        }
+        Value::Call(kind, _, _, function, values) => show_call(out, *kind, *function, values),
         Value::Reach(_) => out.push_str("reach"),
         Value::Abort => out.push_str("abort"),
         Value::Draw(kind) => show_draw(out, *kind),
@@ -293,53 +300,14 @@ fn show_for(
     show_step(out, body)
 }
 
-#[cycle(steps)]
-fn show_step(out: &mut String, step: &Step) -> Result<(), AllocError> {
+// A statement without statements in it.
+fn show_leaf(out: &mut String, step: &Step) -> Result<(), AllocError> {
     match step {
         Step::Draw(object) => write!(out, "draw ${object}; "),
         Step::Begin(object, values) => show_begin(out, *object, values),
-        Step::Block(steps) => show_steps(out, steps),
-        Step::Empty => out.push_str("; "),
         Step::Effect(value) => {
             show_value(out, value)?;
             out.push_str("; ")
-        }
-        Step::If(test, s) => {
-            show_guard(out, "if", "", test)?;
-            show_step(out, s)
-        }
-        Step::IfElse(test, a, b) => {
-            show_guard(out, "if", "", test)?;
-            show_step(out, a)?;
-            out.push_str("else ")?;
-            show_step(out, b)
-        }
-        Step::While(_, test, s) => {
-            show_guard(out, "while", "", test)?;
-            show_step(out, s)
-        }
-        Step::Switch(_, kind, value, s) => {
-            show_guard(out, "switch ", kind_text(*kind), value)?;
-            show_step(out, s)
-        }
-        Step::Do(_, s, test) => {
-            out.push_str("do ")?;
-            show_step(out, s)?;
-            show_guard(out, "while", "", test)
-        }
-        Step::For(_, start, test, third, s) => show_for(out, start, test, third, s),
-        Step::Case(_, n, s) => {
-            write!(out, "case {n}: ")?;
-            show_step(out, s)
-        }
-        Step::Default(_, s) => {
-            out.push_str("default: ")?;
-            show_step(out, s)
-        }
-        Step::Label(name, _, s) => {
-            let name = name_text(name);
-            write!(out, "{name}: ")?;
-            show_step(out, s)
         }
         Step::Goto(_, name, _) => {
             let name = name_text(name);
@@ -352,6 +320,53 @@ fn show_step(out: &mut String, step: &Step) -> Result<(), AllocError> {
             show_some(out, value)?;
             out.push_str("; ")
         }
+        _ => out.push_str("; "),
+    }
+}
+
+#[cycle(steps)]
+fn show_labelled(out: &mut String, label: &str, step: &Step) -> Result<(), AllocError> {
+    write!(out, "{label}: ")?;
+    show_step(out, step)
+}
+
+#[cycle(steps)]
+fn show_guarded(
+    out: &mut String,
+    word: &str,
+    kind: &str,
+    value: &Value,
+    step: &Step,
+) -> Result<(), AllocError> {
+    show_guard(out, word, kind, value)?;
+    show_step(out, step)
+}
+
+#[cycle(steps)]
+fn show_step(out: &mut String, step: &Step) -> Result<(), AllocError> {
+    match step {
+        Step::Block(steps) => show_steps(out, steps),
+        Step::If(test, s) => show_guarded(out, "if", "", test, s),
+        Step::IfElse(test, a, b) => {
+            show_guarded(out, "if", "", test, a)?;
+            out.push_str("else ")?;
+            show_step(out, b)
+        }
+        Step::While(_, test, s) => show_guarded(out, "while", "", test, s),
+        Step::Switch(_, kind, v, s) => show_guarded(out, "switch ", kind_text(*kind), v, s),
+        Step::Do(_, s, test) => {
+            out.push_str("do ")?;
+            show_step(out, s)?;
+            show_guard(out, "while", "", test)
+        }
+        Step::For(_, start, test, third, s) => show_for(out, start, test, third, s),
+        Step::Case(_, n, s) => {
+            write!(out, "case {n}: ")?;
+            show_step(out, s)
+        }
+        Step::Default(_, s) => show_labelled(out, "default", s),
+        Step::Label(name, _, s) => show_labelled(out, name_text(name), s),
+        _ => show_leaf(out, step),
     }
 }
 
