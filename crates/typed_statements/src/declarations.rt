@@ -145,7 +145,7 @@ fn add_declarator(
     )
 }
 
-#[tactic(auto, using(crate::proofs::Rows::declaring_more, std::proofs::lemmas::List::take_all))]
+#[tactic(auto, using(std::proofs::lemmas::List::take_all))]
 fn add_declarators(
     alloc: Global,
     env: &Env<'_>,

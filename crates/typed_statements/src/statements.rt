@@ -117,34 +117,11 @@ pub fn typed_statement(
     }
 }
 
-// A statement of a block, whose declarations are steps of the block itself.
-#[cycle(typed)]
-#[tactic(auto, using(crate::proofs::Rows::other_step, crate::proofs::Rows::declared_step))]
-fn add_statement(
-    alloc: Global,
-    env: &Env<'_>,
-    model: Model,
-    bodies: &[Text],
-    result_kind: Option<Kind>,
-    steps: &mut Vec<Step>,
-    statement: &Statement,
-) -> Result<(), Memory>
-    ensures { IfOk result (λ _. tv.steps_of steps.new.items ≡ step.added (seen.env_of env.now) model bodies.now result_kind (tv.steps_of steps.old.items) (v.statement statement.now)) }
-{
-    match declaration_in(statement) {
-        Some(declaration) => add_declaration(alloc, env, model, bodies, steps, declaration),
-        None => {
-            let step = typed_statement(alloc, env, model, bodies, result_kind, statement)?;
-            push_step(steps, Box::into_inner(step))
-        }
-    }
-}
-
 /// The steps of the statements of a block, in a function with this result.
 ///
 /// Fails with `Memory`.
 #[cycle(typed)]
-#[tactic(auto, using(crate::proofs::Rows::steps_more, std::proofs::lemmas::List::take_all))]
+#[tactic(auto, using(std::proofs::lemmas::List::take_all))]
 pub fn typed_statements(
     alloc: Global,
     env: &Env<'_>,
@@ -157,15 +134,15 @@ pub fn typed_statements(
 {
     let mut steps = Vec::new(alloc);
     for statement in statements {
-        add_statement(
-            alloc,
-            env,
-            model,
-            bodies,
-            result_kind,
-            &mut steps,
-            statement,
-        )?;
+        match declaration_in(statement) {
+            Some(declaration) => {
+                add_declaration(alloc, env, model, bodies, &mut steps, declaration)?;
+            }
+            None => {
+                let step = typed_statement(alloc, env, model, bodies, result_kind, statement)?;
+                push_step(&mut steps, Box::into_inner(step))?;
+            }
+        }
     }
     Ok(steps)
 }
