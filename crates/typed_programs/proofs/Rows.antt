@@ -1,5 +1,5 @@
 -- Lists in a tree and in an environment, one element more or less at a time.
-use Rattle.std.proofs.Common.{◌≡◌, ℕ, ◌<◌, ◌+◌, suc, Bool, true, false, if◌then◌else◌, List, [], ◌∷◌, ◌++◌, length, take, drop, drop-cons, get_or, map, Option, None, Some, refl, ap, ◌∙◌, sym, arith, append_assoc}
+use Rattle.std.proofs.Common.{◌≡◌, ℕ, ◌<◌, ◌+◌, suc, Bool, true, false, if◌then◌else◌, List, [], ◌∷◌, ◌++◌, length, take, drop, drop-cons, get_or, map, Option, None, Some, refl, ap, ◌∙◌, sym, arith, ℤ}
 use Rattle.std.proofs.Math.Seq.{take-suc}
 use Rattle.std.proofs.lemmas.List.{append-nil, map-append}
 use Rattle.lv_base.specs.declared.kind.Kind.{Kind}
@@ -14,7 +14,9 @@ use Rattle.c_tree.proofs.Views.{parts_push, params_push}
 use Rattle.c_meaning.specs.Bindings as b
 use Rattle.c_meaning.specs.Constants.{constant_of, or_zero}
 use Rattle.c_meaning.specs.Program as program
+use Rattle.c_typed.specs.declared.tree.Object as typed_object
 use Rattle.c_typed.specs.declared.tree.Function.{Function}
+use Rattle.c_typed.specs.Tree as t
 use Rattle.c_typed.specs.View as tv
 use Rattle.c_types.specs.Elaborated as el
 use Rattle.type_scopes.specs.declared.entries.Entry.{Entry}
@@ -112,3 +114,32 @@ pub objects_more : (env : b.Env) (model : Model) (xs : List Object) (i : ℕ) (d
 objects_more env model xs i d b =
     ap (el.objects_from env model i) (map_more object_of xs i d b)
     ∙ (let e : i + 1 ≡ suc i = omega arith in ap (λ (n : ℕ). part.object_from env model i (object_of (get_or xs i d)) ∷ el.objects_from env model n (map object_of (drop (i + 1) xs))) (sym e))
+
+-- ---- Loops and the whole
+
+pub numbers_step : (env : b.Env) (old new : List ℕ) (xs : List Parameter) (i : ℕ) (x : Parameter) (at : ℕ) → i < length xs → x ≡ get_or xs i x → at ≡ part.parameter_at (words_of x.specs) (option_name x.name) →
+    old ≡ program.params_numbers env (params_of (take i xs)) → new ≡ old ++ program.number_at env at → new ≡ program.params_numbers env (params_of (take (i + 1) xs))
+numbers_step env old new xs i x at b e p h n =
+    n ∙ ap (λ z. z ++ program.number_at env at) h ∙ ap (λ (z : ℕ). program.params_numbers env (params_of (take i xs)) ++ program.number_at env z) p
+    ∙ ap (λ (z : Parameter). program.params_numbers env (params_of (take i xs)) ++ program.number_at env (part.parameter_at (words_of z.specs) (option_name z.name))) e
+    ∙ sym (numbers_more env xs i x b)
+
+pub constants_step : (env : b.Env) (model : Model) (k : Kind) (old new : List ℤ) (xs : List Listed) (i : ℕ) (x : Listed) (v w : ℤ) → i < length xs → x ≡ get_or xs i x →
+    v ≡ converted k model (or_zero (constant_of env model (expr x.value.value))) → old ≡ program.constants env model k (parts_of (take i xs)) → w ≡ v → new ≡ old ++ w ∷ [] →
+    new ≡ program.constants env model k (parts_of (take (i + 1) xs))
+constants_step env model k old new xs i x v w b e p h q n =
+    n ∙ ap (λ z. z ++ w ∷ []) h ∙ ap (λ (z : ℤ). program.constants env model k (parts_of (take i xs)) ++ z ∷ []) (q ∙ p)
+    ∙ ap (λ (z : Listed). program.constants env model k (parts_of (take i xs)) ++ converted k model (or_zero (constant_of env model (expr z.value.value))) ∷ []) e
+    ∙ sym (constants_more env model k xs i x b)
+
+abbrev of_parts : Model → List t.Object → List t.Function → t.Program
+of_parts model objects functions = record { model = model; objects = objects; functions = functions }
+
+pub program_is : (env : b.Env) (model : Model) (objects : List typed_object.Object) (functions : List Function) (bodies names : List (List ℕ)) (xs ys all : List Item) → xs ≡ all → ys ≡ all →
+    names ≡ part.names_of (items_of xs) → bodies ≡ names → map tv.function_of functions ≡ map (el.function_of env model bodies) (program.functions_of env (items_of ys)) →
+    map tv.object_of objects ≡ el.objects_from env model 0 env.objects → tv.program_of model objects functions ≡ el.program_of env model (program.functions_of env (items_of all))
+program_is env model objects functions bodies names xs ys all p r n q f o =
+    ap (λ z. of_parts model z (map tv.function_of functions)) o
+    ∙ ap (of_parts model (el.objects_from env model 0 env.objects))
+    (f ∙ ap (λ z. map (el.function_of env model z) (program.functions_of env (items_of ys))) (q ∙ n ∙ ap (λ z. part.names_of (items_of z)) p ∙ names_are env (items_of all))
+    ∙ ap (λ z. map (el.function_of env model (map (λ (g : program.Function). g.name) (program.functions_of env (items_of all)))) (program.functions_of env (items_of z))) r)

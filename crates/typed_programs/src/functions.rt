@@ -37,7 +37,7 @@ fn add_number(env: &Env<'_>, numbers: &mut Vec<u32>, at: u32) -> Result<(), Memo
     }
 }
 
-#[tactic(auto, using(crate::proofs::Rows::numbers_more, std::proofs::lemmas::List::take_all))]
+#[tactic(auto, using(std::proofs::lemmas::List::take_all))]
 fn numbers_of(alloc: Global, env: &Env<'_>, parameters: &[Parameter]) -> Result<Vec<u32>, Memory>
     ensures { IfOk result (λ r. r.items ≡ program.params_numbers (seen.env_of env.now) (v.params_of parameters.now)) }
 {

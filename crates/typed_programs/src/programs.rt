@@ -28,7 +28,6 @@ pub struct Program {
 /// The typed tree of a source whose names stand for this.
 ///
 /// Fails with `Memory`, also where an array has 2^32 elements or more.
-#[tactic(auto, using(crate::proofs::Rows::names_are))]
 pub fn typed_program(
     alloc: Global,
     env: &Env<'_>,

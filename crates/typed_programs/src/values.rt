@@ -30,7 +30,7 @@ fn constant_as(env: &Env<'_>, model: Model, kind: Kind, e: &Box<Expr>) -> i128
     convert(or_zero(constant(env, model, e)), kind, model)
 }
 
-#[tactic(auto, using(crate::proofs::Rows::constants_more, std::proofs::lemmas::List::take_all))]
+#[tactic(auto, using(std::proofs::lemmas::List::take_all))]
 fn constants(
     alloc: Global,
     env: &Env<'_>,
