@@ -1,6 +1,5 @@
 -- The parts of a typed program, one at a time.
-use Rattle.std.specs.Prelude.{ℕ, List, [], ◌∷◌, ◌++◌, Option, None, Some, if◌then◌else◌, ℤ}
-use Rattle.lv_base.specs.declared.kind.Kind.{Kind}
+use Rattle.std.specs.Prelude.{ℕ, List, [], ◌∷◌, ◌++◌, Option, None, Some, if◌then◌else◌}
 use Rattle.lv_base.specs.declared.kind.Model.{Model}
 use Rattle.c_tree.specs.Tree.{Words, Name, named, Parameters, Initial, iNothing, Sts, Body, bBlock, bSkipped, Item, tFunction, Items, no_items, items_and}
 use Rattle.c_meaning.specs.Tokens.{first_of_words}
