@@ -5,10 +5,6 @@ mod functions;
 mod names;
 mod objects;
 mod programs;
-#[cfg(test)]
-mod shown;
-#[cfg(test)]
-mod tests;
 mod values;
 
 pub use functions::{parameter_numbers, typed_functions};

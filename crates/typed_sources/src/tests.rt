@@ -1,5 +1,4 @@
 use crate::shown::{show_functions, show_objects, show_value};
-use crate::{elaborated, names_of};
 use c_lexer::lex;
 use c_parser::parse;
 use c_tree::{Body, Expr, Item, Statement, Unit};
@@ -10,6 +9,7 @@ use std::alloc::Global;
 use std::process::Abort;
 use std::test::Fail;
 use typed_expressions::typed_value;
+use typed_programs::{elaborated, names_of};
 
 /// Scalars 0 to 5 but for the array 3, a constant, functions 0 and 1, of which the parameters of the first are 6 and 7, and
 /// functions without a body.
