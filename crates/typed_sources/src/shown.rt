@@ -101,17 +101,26 @@ fn show_list(out: &mut String, values: &[Value]) -> Result<(), AllocError> {
 }
 
 #[cycle(show)]
-fn show_element(out: &mut String, array: u32, index: &Value) -> Result<(), AllocError> {
+fn show_element(
+    out: &mut String,
+    array: u32,
+    index: &Value,
+    kind: Option<Kind>,
+) -> Result<(), AllocError> {
     write!(out, "${array}[")?;
     show_value(out, index)?;
-    out.push_str("]")
+    out.push_str("]")?;
+    match kind {
+        None => Ok(()),
+        Some(kind) => show_kind(out, kind),
+    }
 }
 
 #[cycle(show)]
 fn show_target(out: &mut String, target: &Target) -> Result<(), AllocError> {
     match target {
         Target::Object(object) => write!(out, "${object}"),
-        Target::Element(_, array, index) => show_element(out, *array, index),
+        Target::Element(_, array, index) => show_element(out, *array, index, None),
     }
 }
 
@@ -186,16 +195,13 @@ fn show_choice(
     out.push_str(")")
 }
 
-// A constant, a name, a call or a comma, and every other value by its parts.
+/// Writes a value.
 #[cycle(show)]
 pub fn show_value(out: &mut String, value: &Value) -> Result<(), AllocError> {
     match value {
         Value::Constant(kind, n) => show_constant(out, *kind, *n),
         Value::Read(kind, object) => show_read(out, *kind, *object),
-        Value::Element(kind, _, array, index) => {
-            show_element(out, *array, index)?;
-            show_kind(out, *kind)
-        }
+        Value::Element(kind, _, array, index) => show_element(out, *array, index, Some(*kind)),
         Value::Whole(object) => write!(out, "${object}"),
         Value::Nothing => out.push_str("nothing"),
         Value::Convert(kind, v) => show_one(out, "", kind_text(*kind), v),
@@ -274,6 +280,7 @@ fn show_guard(out: &mut String, word: &str, kind: &str, value: &Value) -> Result
     out.push_str(" ")
 }
 
+/// Writes steps between curly brackets.
 #[cycle(steps)]
 pub fn show_steps(out: &mut String, steps: &[Step]) -> Result<(), AllocError> {
     out.push_str("{ ")?;
@@ -387,6 +394,7 @@ fn show_object(out: &mut String, object: &Object) -> Result<(), AllocError> {
     out.push_str("; ")
 }
 
+/// Writes objects.
 pub fn show_objects(out: &mut String, objects: &[Object]) -> Result<(), AllocError> {
     for object in objects {
         show_object(out, object)?;
@@ -407,6 +415,7 @@ fn show_function(out: &mut String, function: &Function) -> Result<(), AllocError
     show_steps(out, &function.body)
 }
 
+/// Writes functions.
 pub fn show_functions(out: &mut String, functions: &[Function]) -> Result<(), AllocError> {
     for function in functions {
         show_function(out, function)?;
