@@ -1,2 +1,5 @@
 mod Agreeing
 mod Values
+mod Bodies
+mod Numbers
+mod Tokens
