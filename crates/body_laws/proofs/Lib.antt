@@ -3,3 +3,4 @@ mod Values
 mod Bodies
 mod Numbers
 mod Tokens
+mod Entries
