@@ -4,3 +4,4 @@ mod Bodies
 mod Numbers
 mod Tokens
 mod Entries
+mod Plain

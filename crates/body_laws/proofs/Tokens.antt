@@ -26,17 +26,17 @@ use Rattle.body_laws.specs.Held.{HeldSymbol, HeldSigns}
 
 -- ---- Numbers
 
-module _ (model : Model) (n : ℕ) where
-  in_range : (least greatest : ℤ) → int_le least (pos n) && int_le (pos n) greatest ≡ true → (least ≤ℤ pos n) × (pos n ≤ℤ greatest)
-  in_range least greatest h = both (int_le least (pos n)) (int_le (pos n) greatest) refl refl h
-    where
-      both : (p q : Bool) → p ≡ int_le least (pos n) → q ≡ int_le (pos n) greatest → p && q ≡ true → (least ≤ℤ pos n) × (pos n ≤ℤ greatest)
-      both true true e f h = (grind (arith, ints, e), grind (arith, ints, f))
-      both true false e f h = cc
-      both false q e f h = cc
+pub in_range : (least greatest z : ℤ) → int_le least z && int_le z greatest ≡ true → (least ≤ℤ z) × (z ≤ℤ greatest)
+in_range least greatest z h = both (int_le least z) (int_le z greatest) refl refl h
+  where
+    both : (p q : Bool) → p ≡ int_le least z → q ≡ int_le z greatest → p && q ≡ true → (least ≤ℤ z) × (z ≤ℤ greatest)
+    both true true e f h = (grind (arith, ints, e), grind (arith, ints, f))
+    both true false e f h = cc
+    both false q e f h = cc
 
+module _ (model : Model) (n : ℕ) where
   first_by : (b : Bool) (k l : Kind) → is_in_range k model (pos n) ≡ b → InRange l model (pos n) → InRange (if b then k else l) model (pos n)
-  first_by true k l e h = in_range (least_of k model) (greatest_of k model) e
+  first_by true k l e h = in_range (least_of k model) (greatest_of k model) (pos n) e
   first_by false k l e h = h
 
   first_in : (ks : List Kind) (last : Kind) → InRange last model (pos n) → InRange (first_holding model n ks last) model (pos n)
