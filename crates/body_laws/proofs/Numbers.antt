@@ -1,5 +1,5 @@
 -- The numbers and character constants of a tree are tokens of it, so that each is in the range of its kind.
-use Rattle.std.proofs.Common.{◌≡◌, ℕ, List, [], ◌∷◌, ◌++◌, Option, None, Some, refl, pos}
+use Rattle.std.proofs.Common.{ℕ, ◌<◌, List, [], ◌∷◌, ◌++◌, length, Option, None, Some}
 use Rattle.lv_base.specs.declared.kind.Kind.TheVariants as kind
 use Rattle.lv_base.specs.declared.kind.Model.{Model}
 use Rattle.lv_base.specs.Integers.{InRange}
@@ -20,6 +20,33 @@ use Rattle.c_meaning.specs.Jumps.{all_parts, all_option, all_initial, all_declar
 use Rattle.c_meaning.specs.Kinds.{number_kind}
 use Rattle.c_meaning.specs.Program.{Function, functions_of}
 use Rattle.body_laws.specs.Held.{Held, AllHeld, HeldIn, BodiesHeld, HeldSigns}
+
+-- ---- Names have letters
+
+abbrev pub LetteredWord : t.Word → Type 0
+LetteredWord (t.wTypedef n at) = 0 < length n
+LetteredWord (t.wTag at n b) = 0 < length n
+LetteredWord w = Unit {0}
+
+abbrev pub Lettered : t.Words → Type 0
+Lettered t.no_words = Unit {0}
+Lettered (t.words_and ws w) = Lettered ws × LetteredWord w
+
+abbrev pub LetteredParams : t.Params → Type 0
+LetteredParams t.no_params = Unit {0}
+LetteredParams (t.params_and ps c ws n) = LetteredParams ps × Lettered ws
+
+abbrev pub LetteredParameters : t.Parameters → Type 0
+LetteredParameters (t.pSome a ps b) = LetteredParams ps
+LetteredParameters ps = Unit {0}
+
+-- those of functions with a body, and of their parameters' types
+abbrev pub ItemsLettered : t.Items → Type 0
+ItemsLettered t.no_items = Unit {0}
+ItemsLettered (t.items_and is (t.tFunction ws (t.named n at) ps ats (t.bBlock a ss z))) = ItemsLettered is × (0 < length n) × LetteredParameters ps
+ItemsLettered (t.items_and is i) = ItemsLettered is
+
+-- ---- Lists of expressions
 
 held_both : (model : Model) (xs ys : List t.Ex) → HeldIn model xs → HeldIn model ys → HeldIn model (xs ++ ys)
 held_both model [] ys h k = k
@@ -70,8 +97,8 @@ module _ (model : Model) where
         ((p.0, q.0), q.1.1)
     held (t.ePostfix e c at) rest h = let r = held e (sign (sy.Crement c) at ∷ rest) h in (r.0, r.1.1)
     held (t.ePrefix o at e) rest h = held e rest h.1
-    held (t.eSizeof at a ws b) rest h = (tt, (past_words ws (closing br.Round b ∷ rest) h.1.1).1)
-    held (t.eCast a ws b e) rest h = held e rest (past_words ws (closing br.Round b ∷ sp.spell e rest) h.1).1
+    held (t.eSizeof at a ws b) rest h = (tt, (past_words ws (closing br.Round b ∷ rest) h.1.1).1.1)
+    held (t.eCast a ws b e) rest h = held e rest (past_words ws (closing br.Round b ∷ sp.spell e rest) h.1).1.1
     held (t.eBinary a o at b) rest h =
         let p = held a (sign (sy.Binary o) at ∷ sp.spell b rest) h in
         let q = held b rest p.1.1 in
@@ -94,20 +121,23 @@ module _ (model : Model) where
         let q = held e rest (past_comma c (sp.spell e rest) p.1) in
         ((p.0, q.0), q.1)
 
-    past_words : (ws : t.Words) (rest : List Sign) → H (sp.spell_words ws rest) → H rest
-    past_words t.no_words rest h = h
-    past_words (t.words_and ws w) rest h = past_word w rest (past_words ws (sp.spell_word w rest) h)
+    past_words : (ws : t.Words) (rest : List Sign) → H (sp.spell_words ws rest) → Lettered ws × H rest
+    past_words t.no_words rest h = (tt, h)
+    past_words (t.words_and ws w) rest h =
+        let p = past_words ws (sp.spell_word w rest) h in
+        let q = past_word w rest p.1 in
+        ((p.0, q.0), q.1)
 
-    past_word : (w : t.Word) (rest : List Sign) → H (sp.spell_word w rest) → H rest
-    past_word (t.wType w at) rest h = h.1
-    past_word (t.wStorage w at) rest h = h.1
-    past_word (t.wConst w at) rest h = h.1
-    past_word (t.wExtension at) rest h = h.1
-    past_word (t.wAttribute a) rest h = past_attribute a rest h
-    past_word (t.wTypedef n at) rest h = h.1
-    past_word (t.wTag at n b) rest h = h.1.1
-    past_word (t.wEnum at a es c b) rest h = (past_comma c (closing br.Curly b ∷ rest) (past_enumerators es (comma c (closing br.Curly b ∷ rest)) h.1.1)).1
-    past_word (t.wTagEnum at n x a es c b) rest h = (past_comma c (closing br.Curly b ∷ rest) (past_enumerators es (comma c (closing br.Curly b ∷ rest)) h.1.1.1)).1
+    past_word : (w : t.Word) (rest : List Sign) → H (sp.spell_word w rest) → LetteredWord w × H rest
+    past_word (t.wType w at) rest h = (tt, h.1)
+    past_word (t.wStorage w at) rest h = (tt, h.1)
+    past_word (t.wConst w at) rest h = (tt, h.1)
+    past_word (t.wExtension at) rest h = (tt, h.1)
+    past_word (t.wAttribute a) rest h = (tt, past_attribute a rest h)
+    past_word (t.wTypedef n at) rest h = (h.0, h.1)
+    past_word (t.wTag at n b) rest h = (h.1.0, h.1.1)
+    past_word (t.wEnum at a es c b) rest h = (tt, (past_comma c (closing br.Curly b ∷ rest) (past_enumerators es (comma c (closing br.Curly b ∷ rest)) h.1.1)).1)
+    past_word (t.wTagEnum at n x a es c b) rest h = (tt, (past_comma c (closing br.Curly b ∷ rest) (past_enumerators es (comma c (closing br.Curly b ∷ rest)) h.1.1.1)).1)
 
     past_enumerators : (es : t.Ens) (rest : List Sign) → H (sp.spell_enumerators es rest) → H rest
     past_enumerators t.no_enumerators rest h = h
@@ -131,21 +161,23 @@ module _ (model : Model) where
   past_option_name None rest h = h
   past_option_name (Some (t.named n at)) rest h = h.1
 
-  past_params : (ps : t.Params) (rest : List Sign) → H (sp.spell_params ps rest) → H rest
-  past_params t.no_params rest h = h
+  past_params : (ps : t.Params) (rest : List Sign) → H (sp.spell_params ps rest) → LetteredParams ps × H rest
+  past_params t.no_params rest h = (tt, h)
   past_params (t.params_and ps c ws n) rest h =
       let tail = sp.spell_words ws (sp.spell_option_name n rest) in
-      past_option_name n rest (past_words ws (sp.spell_option_name n rest) (past_comma c tail (past_params ps (comma c tail) h)))
+      let p = past_params ps (comma c tail) h in
+      let q = past_words ws (sp.spell_option_name n rest) (past_comma c tail p.1) in
+      ((p.0, q.0), past_option_name n rest q.1)
 
-  past_parameters : (ps : t.Parameters) (rest : List Sign) → H (sp.spell_parameters ps rest) → H rest
-  past_parameters (t.pUnknown a b) rest h = h.1.1
-  past_parameters (t.pVoid a at b) rest h = h.1.1.1
-  past_parameters (t.pSome a ps b) rest h = (past_params ps (closing br.Round b ∷ rest) h.1).1
+  past_parameters : (ps : t.Parameters) (rest : List Sign) → H (sp.spell_parameters ps rest) → LetteredParameters ps × H rest
+  past_parameters (t.pUnknown a b) rest h = (tt, h.1.1)
+  past_parameters (t.pVoid a at b) rest h = (tt, h.1.1.1)
+  past_parameters (t.pSome a ps b) rest h = let p = past_params ps (closing br.Round b ∷ rest) h.1 in (p.0, p.1.1)
 
   past_form : (f : t.Form) (rest : List Sign) → H (sp.spell_form f rest) → H rest
   past_form t.fPlain rest h = h
   past_form (t.fArray a e b) rest h = (past_option e (closing br.Square b ∷ rest) h.1).1
-  past_form (t.fFunction ps) rest h = past_parameters ps rest h
+  past_form (t.fFunction ps) rest h = (past_parameters ps rest h).1
 
   held_initial : (i : t.Initial) (rest : List Sign) → H (sp.spell_initial i rest) → HeldIn model (all_initial i) × H rest
   held_initial t.iNothing rest h = (tt, h)
@@ -167,7 +199,7 @@ module _ (model : Model) where
 
   held_declaration : (d : t.Declaration) (rest : List Sign) → H (sp.spell_declaration d rest) → HeldIn model (all_declaration d) × H rest
   held_declaration (t.declares ws ds b) rest h =
-      let r = held_declarators ds (sign sy.Semicolon b ∷ rest) (past_words ws (sp.spell_declarators ds (sign sy.Semicolon b ∷ rest)) h) in
+      let r = held_declarators ds (sign sy.Semicolon b ∷ rest) (past_words ws (sp.spell_declarators ds (sign sy.Semicolon b ∷ rest)) h).1 in
       (r.0, r.1.1)
 
   held_start : (g : t.ForStart) (rest : List Sign) → H (sp.spell_for_start g rest) → HeldIn model (all_start g) × H rest
@@ -236,31 +268,33 @@ module _ (model : Model) where
   past_extension (Some at) rest h = h.1
 
   -- what stands before a function's body
-  past_front : (ws : t.Words) (n : List ℕ) (at : ℕ) (ps : t.Parameters) (ats : t.Ats) (b : t.Body) (rest : List Sign) → H (sp.spell_item (t.tFunction ws (t.named n at) ps ats b) rest) → H (sp.spell_body b rest)
+  past_front : (ws : t.Words) (n : List ℕ) (at : ℕ) (ps : t.Parameters) (ats : t.Ats) (b : t.Body) (rest : List Sign) → H (sp.spell_item (t.tFunction ws (t.named n at) ps ats b) rest) → (0 < length n) × LetteredParameters ps × H (sp.spell_body b rest)
   past_front ws n at ps ats b rest h =
       let last = sp.spell_body b rest in
       let mid = sp.spell_attributes ats last in
-      past_attributes ats last (past_parameters ps mid (past_words ws (sign (sy.Name n) at ∷ sp.spell_parameters ps mid) h).1)
+      let p = past_words ws (sign (sy.Name n) at ∷ sp.spell_parameters ps mid) h in
+      let q = past_parameters ps mid p.1.1 in
+      (p.1.0, q.0, past_attributes ats last q.1)
 
-  pub held_items : (env : Env) (is : t.Items) (rest : List Sign) → H (sp.spell_items is rest) → BodiesHeld model (functions_of env is) × H rest
-  held_items env t.no_items rest h = (tt, h)
+  pub held_items : (env : Env) (is : t.Items) (rest : List Sign) → H (sp.spell_items is rest) → BodiesHeld model (functions_of env is) × ItemsLettered is × H rest
+  held_items env t.no_items rest h = (tt, tt, h)
   held_items env (t.items_and is (t.tSkipped x at r b)) rest h =
       let last = sign sy.Semicolon b ∷ rest in
       let mid = sign (sy.Storage storage.Extern) at ∷ sp.spell_raw r last in
       let front = held_items env is (extension x mid) h in
-      (front.0, (past_raw r last (past_extension x mid front.1).1).1)
+      (front.0, front.1, (past_raw r last (past_extension x mid front.2).1).1)
   held_items env (t.items_and is (t.tEmpty at)) rest h =
       let front = held_items env is (sign sy.Semicolon at ∷ rest) h in
-      (front.0, front.1.1)
+      (front.0, front.1, front.2.1)
   held_items env (t.items_and is (t.tDeclaration d)) rest h =
       let front = held_items env is (sp.spell_declaration d rest) h in
-      (front.0, (held_declaration d rest front.1).1)
+      (front.0, front.1, (held_declaration d rest front.2).1)
   held_items env (t.items_and is (t.tFunction ws (t.named n at) ps ats (t.bSkipped a r z))) rest h =
       let front = held_items env is (sp.spell_item (t.tFunction ws (t.named n at) ps ats (t.bSkipped a r z)) rest) h in
-      let own = past_front ws n at ps ats (t.bSkipped a r z) rest front.1 in
-      (front.0, (past_raw r (closing br.Curly z ∷ rest) own.1).1)
+      let own = past_front ws n at ps ats (t.bSkipped a r z) rest front.2 in
+      (front.0, front.1, (past_raw r (closing br.Curly z ∷ rest) own.2.1).1)
   held_items env (t.items_and is (t.tFunction ws (t.named n at) ps ats (t.bBlock a ss z))) rest h =
       let front = held_items env is (sp.spell_item (t.tFunction ws (t.named n at) ps ats (t.bBlock a ss z)) rest) h in
-      let own = past_front ws n at ps ats (t.bBlock a ss z) rest front.1 in
-      let r = held_statements ss (closing br.Curly z ∷ rest) own.1 in
-      (bodies_more model (functions_of env is) _ front.0 r.0, r.1.1)
+      let own = past_front ws n at ps ats (t.bBlock a ss z) rest front.2 in
+      let r = held_statements ss (closing br.Curly z ∷ rest) own.2.1 in
+      (bodies_more model (functions_of env is) _ front.0 r.0, (front.1, own.0, own.1), r.1.1)

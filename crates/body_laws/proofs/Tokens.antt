@@ -17,7 +17,7 @@ use Rattle.c_lexer.specs.declared.token.TokenKind.{TokenKind}
 use Rattle.c_lexer.specs.declared.token.TokenKind.TheVariants as token
 use Rattle.c_tokens.specs.Constants.{IsConstant, IsCharacter}
 use Rattle.c_tokens.specs.Divisions.{Piece, Gap, Lexed, Divided, Tokens, tokens_in, end_token}
-use Rattle.c_tokens.specs.Forms.{IsForm}
+use Rattle.c_tokens.specs.Forms.{IsForm, IsWord}
 use Rattle.c_tree.specs.declared.symbol.Keyword.{Keyword}
 use Rattle.c_tree.specs.declared.symbol.Keyword.TheVariants as key
 use Rattle.c_tree.specs.Symbols.{word_symbol, mark_symbol, symbol_of, keyword_of, signs_of}
@@ -86,18 +86,22 @@ module _ (model : Model) where
 
   -- ---- Tokens
 
-  word_held : (text : List ℕ) (k : Option Keyword) → HeldSymbol model (word_symbol text k)
-  word_held text None = tt
-  word_held text (Some (key.Type w)) = tt
-  word_held text (Some (key.Storage w)) = tt
-  word_held text (Some (key.Const w)) = tt
-  word_held text (Some (key.Attribute w)) = tt
-  word_held text (Some (key.Statement w)) = tt
-  word_held text (Some key.Enum) = tt
-  word_held text (Some key.Extension) = tt
-  word_held text (Some key.Sizeof) = tt
-  word_held text (Some key.Listed) = tt
-  word_held text (Some key.Foreign) = tt
+  word_long : (text : List ℕ) → IsWord text → 0 < length text
+  word_long [] h = absurd h
+  word_long (x ∷ text) h = omega arith
+
+  word_held : (text : List ℕ) (k : Option Keyword) → 0 < length text → HeldSymbol model (word_symbol text k)
+  word_held text None h = h
+  word_held text (Some (key.Type w)) h = tt
+  word_held text (Some (key.Storage w)) h = tt
+  word_held text (Some (key.Const w)) h = tt
+  word_held text (Some (key.Attribute w)) h = tt
+  word_held text (Some (key.Statement w)) h = tt
+  word_held text (Some key.Enum) h = tt
+  word_held text (Some key.Extension) h = tt
+  word_held text (Some key.Sizeof) h = tt
+  word_held text (Some key.Listed) h = tt
+  word_held text (Some key.Foreign) h = tt
 
   mark_held : (m : Mark) → HeldSymbol model (mark_symbol m)
   mark_held mark.BracketOpen = tt
@@ -148,7 +152,7 @@ module _ (model : Model) where
   mark_held mark.Comma = tt
 
   token_held : (k : TokenKind) (text : List ℕ) → IsForm k text → HeldSymbol model (symbol_of k)
-  token_held (token.Word bytes) text h = word_held bytes (keyword_of bytes)
+  token_held (token.Word bytes) text h = word_held bytes (keyword_of bytes) (subst (λ x. 0 < length x) (sym h.1) (word_long text h.0))
   token_held (token.Number value form) text h = kind_in_range model value form.decimal form.unsigned_suffix form.longs h.1.fits h.1.signed
   token_held (token.Letter value) text h = character_in value text h
   token_held token.Str text h = tt

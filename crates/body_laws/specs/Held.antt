@@ -1,5 +1,5 @@
 -- Numbers and character constants that are values of their kinds.
-use Rattle.std.specs.Prelude.{ℕ, List, [], ◌∷◌, pos}
+use Rattle.std.specs.Prelude.{ℕ, ◌<◌, List, [], ◌∷◌, length, pos}
 use Rattle.lv_base.specs.declared.kind.Kind.TheVariants as kind
 use Rattle.lv_base.specs.declared.kind.Model.{Model}
 use Rattle.lv_base.specs.Integers.{InRange}
@@ -43,10 +43,11 @@ module _ (model : Model) where
   BodiesHeld [] = Unit {0}
   BodiesHeld (f ∷ fs) = HeldIn (all_of_all f.body) × BodiesHeld fs
 
-  -- each of some tokens
+  -- each of some tokens, whose names have letters
   abbrev pub HeldSymbol : Symbol → Type 0
   HeldSymbol (sy.Number v f) = InRange (number_kind model v f) model (pos v)
   HeldSymbol (sy.Letter v) = InRange kind.Int model v
+  HeldSymbol (sy.Name n) = 0 < length n
   HeldSymbol symbol = Unit {0}
 
   abbrev pub HeldSigns : List Sign → Type 0
