@@ -5,3 +5,4 @@ mod Numbers
 mod Tokens
 mod Entries
 mod Plain
+mod Words
