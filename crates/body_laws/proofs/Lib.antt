@@ -6,3 +6,4 @@ mod Tokens
 mod Entries
 mod Plain
 mod Words
+mod Spans
