@@ -7,3 +7,5 @@ mod Entries
 mod Plain
 mod Words
 mod Spans
+mod Rights
+mod Calls
