@@ -100,13 +100,13 @@ middle_among y [] back = inl refl
 middle_among y (x ∷ front) back = inr (middle_among y front back)
 
 module _ (f : Known) (right : rules.redeclared f.env f.model f.bodies [] f.env.entries ≡ []) where
-  abbrev Clear : Entry → Entry → Type 0
+  abbrev pub Clear : Entry → Entry → Type 0
   Clear d y = rules.clashes f.env f.model f.bodies d.declared y ≡ false
 
   clear_in : (front : List Entry) (e : Entry) (back : List Entry) → f.env.entries ≡ front ++ e ∷ back → (y : Entry) → Among y front → Clear e y
   clear_in front e back q y m = clear_of f [] front e back (subst (λ es. rules.redeclared f.env f.model f.bodies [] es ≡ []) q right) y (inl m)
 
-  pair : (y z : Entry) → Among y f.env.entries → Among z f.env.entries → (y ≡ z) ⊎ (Clear y z ⊎ Clear z y)
+  pub pair : (y z : Entry) → Among y f.env.entries → Among z f.env.entries → (y ≡ z) ⊎ (Clear y z ⊎ Clear z y)
   pair y z m n = by_place sp.0 sp.1 sp.2 (where_among z y sp.0 sp.1 (subst (Among z) sp.2 n))
     where
       sp : (front : List Entry) × (back : List Entry) × (f.env.entries ≡ front ++ y ∷ back)
@@ -124,7 +124,7 @@ module _ (f : Known) (right : rules.redeclared f.env f.model f.bodies [] f.env.e
 
   -- ---- Two declarations of one function
 
-  abbrev result_of : t.Words → Option Kind
+  abbrev pub result_of : t.Words → Option Kind
   result_of ws = kind_in (words_type f.env ws)
 
   results_same : (k l : Option Kind) → rules.same_result f.env f.model f.bodies k l ≡ true → k ≡ l
@@ -141,12 +141,12 @@ module _ (f : Known) (right : rules.redeclared f.env f.model f.bodies [] f.env.e
       ap (λ x. x ∷ ks) (kind_same k l (and_left (rules.is_same_kind k l) _ h)) ∙ ap (λ xs. l ∷ xs) (kinds_same ks ls (and_right (rules.is_same_kind k l) _ h))
 
   -- an entry that declares a function in the file
-  record Declares (e : Entry) (name : List ℕ) (ws : t.Words) (ps : t.Parameters) : Type 0 where
-    has_body : Bool
-    what : e.declared.what ≡ s.aFunction ws ps has_body
-    file : s.is_file e.declared.scope ≡ true
-    named : e.declared.name ≡ name
-    there : Among e f.env.entries
+  pub record Declares (e : Entry) (name : List ℕ) (ws : t.Words) (ps : t.Parameters) : Type 0 where
+    pub has_body : Bool
+    pub what : e.declared.what ≡ s.aFunction ws ps has_body
+    pub file : s.is_file e.declared.scope ≡ true
+    pub named : e.declared.name ≡ name
+    pub there : Among e f.env.entries
 
   meeting : (name : List ℕ) (d e : Entry) (ws vs : t.Words) (ps qs : t.Parameters) → 0 < length name → Declares d name ws ps → Declares e name vs qs → rules.meets f.env f.model f.bodies d.declared e.declared ≡ true
   meeting name d e ws vs ps qs l h k =
@@ -162,7 +162,7 @@ module _ (f : Known) (right : rules.redeclared f.env f.model f.bodies [] f.env.e
       let b = subst (λ w. rules.agrees f.env f.model f.bodies w (s.aFunction ws ps h.has_body) ≡ true) k.what (subst (λ w. rules.agrees f.env f.model f.bodies e.declared.what w ≡ true) h.what a) in
       (results_same (result_of vs) (result_of ws) (and_left _ _ b), kinds_same (parameter_kinds f.env qs) (parameter_kinds f.env ps) (and_left _ _ (and_right (rules.same_result f.env f.model f.bodies (result_of vs) (result_of ws)) _ b)))
 
-  one_function : (y z : Entry) (name : List ℕ) (ws vs : t.Words) (ps qs : t.Parameters) → 0 < length name → Declares y name ws ps → Declares z name vs qs → (y ≡ z) ⊎ (Clear y z ⊎ Clear z y) →
+  pub one_function : (y z : Entry) (name : List ℕ) (ws vs : t.Words) (ps qs : t.Parameters) → 0 < length name → Declares y name ws ps → Declares z name vs qs → (y ≡ z) ⊎ (Clear y z ⊎ Clear z y) →
       (result_of vs ≡ result_of ws) × (parameter_kinds f.env qs ≡ parameter_kinds f.env ps)
   one_function y z name ws vs ps qs l h k (inl e) = same_what (sym k.what ∙ sym (ap (λ x. x.declared.what) e) ∙ h.what)
     where

@@ -9,3 +9,5 @@ mod Words
 mod Spans
 mod Rights
 mod Calls
+mod Owned
+mod Whole
