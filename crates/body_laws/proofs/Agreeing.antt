@@ -1,5 +1,5 @@
 -- The kind of each value is that of its expression's type.
-use Rattle.std.proofs.Common.{◌≡◌, ℕ, Bool, true, false, ◌&&◌, ◌||◌, not, if◌then◌else◌, List, [], ◌∷◌, ◌++◌, length, Option, None, Some, bytes_eq, refl, ap, sym, ◌∙◌, subst}
+use Rattle.std.proofs.Common.{◌≡◌, ℕ, Bool, true, false, if◌then◌else◌, List, [], ◌++◌, Option, None, Some, bytes_eq, refl, ap, sym, ◌∙◌}
 use Rattle.std.specs.Prelude.{position, slice_get, nat_le, nat_lt}
 use Rattle.lv_base.specs.declared.kind.Kind.{Kind}
 use Rattle.lv_base.specs.declared.kind.Kind.TheVariants as kind
@@ -10,17 +10,16 @@ use Rattle.c_tree.specs.declared.symbol.BinaryOp.TheVariants as op
 use Rattle.c_tree.specs.declared.symbol.AssignOp.TheVariants as to
 use Rattle.c_tree.specs.declared.tree.PrefixOp.TheVariants as pre
 use Rattle.c_tree.specs.Tree as t
-use Rattle.c_run.specs.Operators.{assigned_op}
-use Rattle.c_meaning.specs.Kinds.{CType, tKind, tVoid, tArray, tFunction, tNone, is_kind, is_array, is_void, result_type, kind_of, promoted, unsigned_of, greater, mixed, common_promoted, common, rank, operation_kind, right_kind, result_kind, is_shift}
+use Rattle.c_meaning.specs.Kinds.{CType, tKind, tVoid, tArray, tFunction, tNone, is_kind, is_array, is_void, result_type, kind_of, promoted, unsigned_of, mixed, common_promoted, common, rank, operation_kind, right_kind, result_kind, is_shift}
 use Rattle.c_meaning.specs.Bindings.{Env, Entity, anObjectOf, aFunctionOf, aConstantOf, aTypeOf, aTagOf, aNameOf, nothingOf, Object, entity_of, entity_type, object_type, words_type}
 use Rattle.c_meaning.specs.Known.{Known, reaches, aborts, draws, known_of}
-use Rattle.c_meaning.specs.Types.{type_of, type_of_last, called_type, element_type, binary_type, arms_type, promoted_type}
+use Rattle.c_meaning.specs.Types.{type_of, called_type, element_type, binary_type, arms_type, promoted_type}
 use Rattle.c_meaning.specs.Rules as rules
 use Rattle.c_typed.specs.Tree as v
 use Rattle.c_typed.specs.Facts as facts
 use Rattle.c_types.specs.Elaborated as el
 use Rattle.c_types.specs.Fit.{IsThere, NumberFits, EntityFits, NameFits}
-use Rattle.fit_laws.specs.Laws.{IsNoName, Unnamed, AllUnnamed, KnownTakeNone}
+use Rattle.fit_laws.specs.Laws.{IsNoName, Unnamed, KnownTakeNone}
 use Rattle.body_laws.specs.Told.{KnownRight}
 use Rattle.fit_laws.proofs.Fitting.{nil_left, nil_right, line_holds, not_false, and_right, unless_parts, unless_lines, fits, is_target_of}
 

@@ -1,5 +1,5 @@
 -- Each step of a typed body that breaks no rule keeps its facts.
-use Rattle.std.proofs.Common.{◌≡◌, ℕ, zero, suc, ◌<◌, ◌≤◌, ◌+◌, Bool, true, false, if◌then◌else◌, List, [], ◌∷◌, ◌++◌, Option, None, Some, refl, ap, sym, ◌∙◌, subst, arith}
+use Rattle.std.proofs.Common.{◌≡◌, ℕ, zero, suc, ◌<◌, ◌≤◌, ◌+◌, Bool, true, false, if◌then◌else◌, List, [], ◌∷◌, ◌++◌, Option, None, Some, refl, ap, sym, subst, arith}
 use Rattle.std.specs.Prelude.{slice_get, nat_eq}
 use Rattle.std.proofs.lemmas.Bool.{ne_eqb}
 use Rattle.lv_base.specs.declared.kind.Kind.{Kind}
@@ -10,7 +10,7 @@ use Rattle.c_tree.specs.declared.known.Site.TheVariants as site
 use Rattle.c_tree.specs.declared.known.Known.{Known as Words}
 use Rattle.c_tree.specs.Shape as sh
 use Rattle.c_tree.specs.Shape.{ShapedInitial, ShapedDeclarators, ShapedDeclaration, ShapedForStart, ShapedStatement, ShapedStatements, are_no_parts}
-use Rattle.c_meaning.specs.Jumps.{all_parts, all_option, all_initial, all_declarators, all_declaration, all_start, all_for, all_expressions, all_of_all}
+use Rattle.c_meaning.specs.Jumps.{all_parts, all_option, all_initial, all_declarators, all_declaration, all_start, all_expressions, all_of_all}
 use Rattle.c_meaning.specs.Kinds.{kind_of}
 use Rattle.c_meaning.specs.Tokens.{count_parts, end_of}
 use Rattle.c_meaning.specs.Types.{type_of}

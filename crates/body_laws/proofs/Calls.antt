@@ -1,34 +1,19 @@
 -- A called name has the result and the parameters of the function that is called.
-use Rattle.std.proofs.Common.{◌≡◌, ◌⊎◌, inl, inr, ℕ, zero, suc, ◌<◌, Bool, true, false, ◌&&◌, not, if◌then◌else◌, List, [], ◌∷◌, ◌++◌, length, map, append_assoc, Option, None, Some, bytes_eq, refl, ap, sym, ◌∙◌, subst, arith}
-use Rattle.std.specs.Prelude.{slice_get, slice_index_or, position, nat_eq, nat_lt}
+use Rattle.std.proofs.Common.{◌≡◌, ◌⊎◌, inl, inr, ℕ, zero, suc, ◌<◌, Bool, true, false, ◌&&◌, not, if◌then◌else◌, List, [], ◌∷◌, ◌++◌, length, append_assoc, Option, None, Some, bytes_eq, refl, ap, sym, ◌∙◌, subst}
+use Rattle.std.specs.Prelude.{nat_eq}
 use Rattle.std.proofs.lemmas.Bool.{eqb-true, lt-ltb}
-use Rattle.std.proofs.lemmas.List.{map-append}
-use Rattle.std.proofs.lemmas.List.Quantifiers.{position-Some}
 use Rattle.lv_base.specs.declared.kind.Kind.{Kind}
 use Rattle.lv_base.specs.declared.kind.Kind.TheVariants as kind
-use Rattle.lv_base.specs.declared.kind.Model.{Model}
 use Rattle.lv_base.specs.Integers.{is_signed}
 use Rattle.c_tree.specs.Tree as t
 use Rattle.c_meaning.specs.Kinds.{rank}
-use Rattle.c_meaning.specs.Tokens.{first_of_words, open_of, close_of}
 use Rattle.c_meaning.specs.Scope as s
-use Rattle.c_meaning.specs.Bindings.{Env, Entry, Object, Entity, anObjectOf, aFunctionOf, entity_of, declared_at, object_number, words_type, kind_in, kind_or_int, params_kinds, parameter_kinds}
-use Rattle.c_meaning.specs.Known.{Known as Means, known_of}
-use Rattle.c_meaning.specs.Program.{Function, functions_of, number_at, params_numbers, parameter_numbers}
+use Rattle.c_meaning.specs.Bindings.{Entry, words_type, kind_in, parameter_kinds}
 use Rattle.c_meaning.specs.Rules as rules
-use Rattle.c_typed.specs.Tree as v
-use Rattle.c_typed.specs.Facts as facts
-use Rattle.c_types.specs.Elaborated as el
-use Rattle.fit_laws.proofs.Fitting.{line_holds, not_false, and_left, and_right}
-use Rattle.fit_laws.proofs.Knowing.{same_name, own_name, AllRight, right_of}
+use Rattle.fit_laws.proofs.Fitting.{and_left, and_right}
+use Rattle.fit_laws.proofs.Knowing.{own_name}
 use Rattle.offset_laws.proofs.Lying.{Known}
-use Rattle.offset_laws.proofs.Growing.{if_false}
-use Rattle.offset_laws.proofs.Parameters.{typed_of, typed_there}
 use Rattle.offset_laws.proofs.Keeping.{Among, clear_of}
-use Rattle.body_laws.specs.Told.{KnownRight, CallsTold}
-use Rattle.body_laws.proofs.Entries.{Found, found, AllAt, at_among, split_entry, IsFunction, AllFor, for_among}
-use Rattle.body_laws.proofs.Numbers.{ItemsLettered}
-use Rattle.body_laws.proofs.Rights.{Rightly, AllRightly, rightly_left, rightly_right, rightly_among}
 
 -- ---- Kinds that are one
 

@@ -1,13 +1,13 @@
 -- What names and offsets find among the declarations of a source.
-use Rattle.std.proofs.Common.{◌≡◌, ◌⊎◌, inl, inr, ℕ, Bool, true, false, ◌&&◌, not, if◌then◌else◌, List, [], ◌∷◌, ◌++◌, map, append-nil, append_assoc, Option, None, Some, bytes_eq, refl, ap, sym, ◌∙◌, subst}
-use Rattle.std.specs.Prelude.{slice_get, nat_eq, nat_le, find, cond}
+use Rattle.std.proofs.Common.{◌≡◌, inl, inr, ℕ, Bool, true, false, ◌&&◌, not, if◌then◌else◌, List, [], ◌∷◌, ◌++◌, map, append_assoc, Option, None, Some, bytes_eq, refl, ap, sym, ◌∙◌, subst}
+use Rattle.std.specs.Prelude.{slice_get, nat_eq, nat_le, find}
 use Rattle.lv_base.specs.declared.kind.Model.{Model}
 use Rattle.c_tree.specs.Tree as t
 use Rattle.c_meaning.specs.Scope as s
 use Rattle.c_meaning.specs.Bindings.{Env, Entry, Object, Entity, anObjectOf, aFunctionOf, aConstantOf, aTypeOf, aTagOf, aNameOf, nothingOf, entity_of, entity_of_entry, object_number, visible, visible_in, is_visible, inner, declared_at, kind_in, kind_or_int, words_type, has_const, enum_kind, parameter_kinds}
 use Rattle.c_meaning.specs.Constants as c
 use Rattle.fit_laws.proofs.Knowing.{same_name}
-use Rattle.offset_laws.proofs.Lying.{Known, AllApart, Distinct}
+use Rattle.offset_laws.proofs.Lying.{Known, Distinct}
 use Rattle.offset_laws.proofs.Logic.{and_left, and_right}
 use Rattle.offset_laws.proofs.Growing.{found_here}
 use Rattle.offset_laws.proofs.Finding.{AllBefore, before_fail, before_next, own_test, FoundAt, FoundAs, AllFound}

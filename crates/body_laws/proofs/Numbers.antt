@@ -1,14 +1,10 @@
 -- The numbers and character constants of a tree are tokens of it, so that each is in the range of its kind.
 use Rattle.std.proofs.Common.{ℕ, ◌<◌, List, [], ◌∷◌, ◌++◌, length, Option, None, Some}
-use Rattle.lv_base.specs.declared.kind.Kind.TheVariants as kind
 use Rattle.lv_base.specs.declared.kind.Model.{Model}
-use Rattle.lv_base.specs.Integers.{InRange}
 use Rattle.c_tree.specs.declared.symbol.Bracket.TheVariants as br
 use Rattle.c_tree.specs.declared.symbol.AssignOp.TheVariants as to
-use Rattle.c_tree.specs.declared.symbol.StatementWord.{StatementWord}
 use Rattle.c_tree.specs.declared.symbol.StatementWord.TheVariants as key
 use Rattle.c_tree.specs.declared.symbol.StorageWord.TheVariants as storage
-use Rattle.c_tree.specs.declared.symbol.Symbol.{Symbol}
 use Rattle.c_tree.specs.declared.symbol.Symbol.TheVariants as sy
 use Rattle.c_tree.specs.declared.symbol.Sign.{Sign}
 use Rattle.c_tree.specs.Symbols.{sign}
@@ -17,7 +13,6 @@ use Rattle.c_tree.specs.Spelling as sp
 use Rattle.c_tree.specs.Spelling.{opening, closing, comma, word, extension}
 use Rattle.c_meaning.specs.Bindings.{Env}
 use Rattle.c_meaning.specs.Jumps.{all_parts, all_option, all_initial, all_declarators, all_declaration, all_start, all_for, all_expressions, all_of_all}
-use Rattle.c_meaning.specs.Kinds.{number_kind}
 use Rattle.c_meaning.specs.Program.{Function, functions_of}
 use Rattle.body_laws.specs.Held.{Held, AllHeld, HeldIn, BodiesHeld, HeldSigns}
 

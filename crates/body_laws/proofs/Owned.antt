@@ -1,17 +1,16 @@
 -- What scopes, offsets and the rules of declarations leave to the kinds of values.
-use Rattle.std.proofs.Common.{◌≡◌, inl, inr, ℕ, zero, suc, ◌<◌, ◌≤◌, ◌+◌, Bool, true, false, List, [], ◌∷◌, ◌++◌, length, map, append_assoc, Option, None, Some, bytes_eq, ℤ, refl, ap, sym, ◌∙◌, subst, arith}
-use Rattle.std.specs.Prelude.{slice_get, get_or, position}
+use Rattle.std.proofs.Common.{◌≡◌, inl, inr, ℕ, zero, suc, ◌<◌, Bool, true, List, [], ◌∷◌, ◌++◌, length, map, append_assoc, Option, None, Some, bytes_eq, refl, ap, sym, ◌∙◌, subst, arith}
+use Rattle.std.specs.Prelude.{slice_get, get_or}
 use Rattle.std.proofs.lemmas.List.{map-append}
 use Rattle.std.proofs.lemmas.List.Quantifiers.{position-Some}
 use Rattle.lv_base.specs.declared.kind.Kind.{Kind}
 use Rattle.lv_base.specs.declared.kind.Kind.TheVariants as kind
-use Rattle.lv_base.specs.declared.kind.Model.{Model}
 use Rattle.lv_base.specs.Integers.{InRange}
 use Rattle.c_tree.specs.Tree as t
 use Rattle.c_meaning.specs.Tokens.{first_of_words, open_of, close_of}
 use Rattle.c_meaning.specs.Scope as s
-use Rattle.c_meaning.specs.Bindings.{Env, Entry, Object, Entity, anObjectOf, aFunctionOf, aConstantOf, aTypeOf, aTagOf, aNameOf, nothingOf, entity_of, declared_at, object_number, constant_value, words_type, kind_in, kind_or_int, params_kinds, parameter_kinds}
-use Rattle.c_meaning.specs.Known.{Known as Meant, known_of}
+use Rattle.c_meaning.specs.Bindings.{Env, Entry, Object, anObjectOf, aFunctionOf, aConstantOf, entity_of, declared_at, object_number, constant_value, words_type, kind_in, kind_or_int, params_kinds, parameter_kinds}
+use Rattle.c_meaning.specs.Known.{known_of}
 use Rattle.c_meaning.specs.Program.{Function, functions_of, number_at, params_numbers, parameter_numbers}
 use Rattle.c_meaning.specs.Rules as rules
 use Rattle.c_typed.specs.Tree as v
@@ -22,10 +21,10 @@ use Rattle.fit_laws.proofs.Fitting.{line_holds, not_false, and_left}
 use Rattle.fit_laws.proofs.Knowing.{same_name, AllRight}
 use Rattle.offset_laws.proofs.Lying.{Known}
 use Rattle.offset_laws.proofs.Growing.{Numbered, AllNumbered}
-use Rattle.offset_laws.proofs.Parameters.{typed_of, typed_there}
+use Rattle.offset_laws.proofs.Parameters.{typed_there}
 use Rattle.offset_laws.proofs.Keeping.{Among}
 use Rattle.body_laws.specs.Told.{KnownRight, ObjectsThere, ConstantsFit, CallsTold}
-use Rattle.body_laws.proofs.Entries.{Found, found, Means, IsFunction, IsEnumerator, AllAt, at_among, split_entry, AllFor, for_among}
+use Rattle.body_laws.proofs.Entries.{found, Means, IsFunction, IsEnumerator, AllAt, at_among, split_entry, AllFor, for_among}
 use Rattle.body_laws.proofs.Numbers.{ItemsLettered}
 use Rattle.body_laws.proofs.Rights.{Rightly, AllRightly, rightly_left, rightly_right, rightly_among}
 use Rattle.body_laws.proofs.Calls.{Declares, pair, one_function}

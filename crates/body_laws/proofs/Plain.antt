@@ -1,6 +1,6 @@
 -- Declarations of expressions and statements: no function and no parameter is among them, and each constant of an enumeration
 -- is a value of `int`.
-use Rattle.std.proofs.Common.{◌≡◌, ℕ, suc, Bool, true, false, ◌&&◌, List, [], ◌∷◌, ◌++◌, Option, None, Some, ℤ, refl}
+use Rattle.std.proofs.Common.{◌≡◌, ℕ, suc, Bool, true, false, List, [], ◌∷◌, ◌++◌, Option, None, Some, ℤ}
 use Rattle.lv_base.specs.declared.kind.Kind.{Kind}
 use Rattle.lv_base.specs.declared.kind.Kind.TheVariants as kind
 use Rattle.lv_base.specs.Integers.{InRange, least_of, greatest_of}
@@ -12,9 +12,9 @@ use Rattle.c_tree.specs.Shape.{ShapedDeclarators, ShapedDeclaration, ShapedForSt
 use Rattle.c_tree.specs.Shape as sh
 use Rattle.c_meaning.specs.Tokens.{open_of, close_of, end_of}
 use Rattle.c_meaning.specs.Scope as s
-use Rattle.c_meaning.specs.Bindings.{Env, declared_at, constant_value}
+use Rattle.c_meaning.specs.Bindings.{declared_at, constant_value}
 use Rattle.c_meaning.specs.Rules as rules
-use Rattle.fit_laws.proofs.Fitting.{nil_left, nil_right, line_holds, not_false, and_left, unless_parts, unless_lines}
+use Rattle.fit_laws.proofs.Fitting.{nil_left, nil_right, line_holds, not_false, unless_parts, unless_lines}
 use Rattle.offset_laws.proofs.Lying.{Known}
 use Rattle.body_laws.proofs.Tokens.{in_range}
 

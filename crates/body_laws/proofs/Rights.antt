@@ -1,14 +1,13 @@
 -- Each function and each parameter stands for what its words mean over the whole source.
-use Rattle.std.proofs.Common.{◌≡◌, inl, inr, ℕ, suc, ◌<◌, Bool, true, false, List, [], ◌∷◌, ◌++◌, length, map, append-nil, append_assoc, Option, None, Some, refl, ap, sym, ◌∙◌, subst, arith}
+use Rattle.std.proofs.Common.{◌≡◌, inl, inr, ℕ, suc, Bool, true, List, [], ◌∷◌, ◌++◌, length, map, append-nil, append_assoc, None, Some, refl, ap, sym, ◌∙◌, subst, arith}
 use Rattle.std.specs.Prelude.{slice_get}
 use Rattle.std.proofs.lemmas.List.{length-append}
-use Rattle.lv_base.specs.declared.kind.Kind.{Kind}
 use Rattle.lv_base.specs.declared.kind.Kind.TheVariants as kind
 use Rattle.lv_base.specs.Integers.{InRange}
 use Rattle.c_tree.specs.Tree as t
 use Rattle.c_meaning.specs.Tokens.{first_of_words}
 use Rattle.c_meaning.specs.Scope as s
-use Rattle.c_meaning.specs.Bindings.{Env, Entry, Object, Entity, anObjectOf, aFunctionOf, declared_at, constant_value, words_type, kind_in, kind_or_int, has_const, parameter_kinds}
+use Rattle.c_meaning.specs.Bindings.{Env, Entry, Object, anObjectOf, aFunctionOf, declared_at, constant_value, words_type, kind_in, kind_or_int, has_const, parameter_kinds}
 use Rattle.c_meaning.specs.Constants as c
 use Rattle.offset_laws.proofs.Lying.{Known, Distinct}
 use Rattle.offset_laws.proofs.Growing.{AllNumbered, Step, step_of, next_numbered, Grown, grown, fetched_next}

@@ -13,15 +13,15 @@ use Rattle.c_meaning.specs.Bindings.{declared_at, constant_value, kind_in, words
 use Rattle.c_meaning.specs.Rules as rules
 use Rattle.offset_laws.proofs.Logic.{nil_left, nil_right}
 use Rattle.offset_laws.proofs.Standing.{InWords, InParams, InParameters, itself, ordered_words, ordered_params}
-use Rattle.offset_laws.proofs.Statements.{InForm, InBody, InDeclarators, InDeclaration, InItems, ordered_form, ordered_initial, ordered_declarators}
+use Rattle.offset_laws.proofs.Statements.{InForm, InBody, InDeclarators, InDeclaration, InItems, ordered_form, ordered_declarators}
 use Rattle.offset_laws.proofs.Lying.{Known, Room, within, AllLie, same_room}
 use Rattle.offset_laws.proofs.Placing.{placed_words, words_from, not_empty, close_in}
 use Rattle.offset_laws.proofs.Declaring.{placed_declarator, placed_initial, placed_declaration, placed_statements}
 use Rattle.offset_laws.proofs.Files.{body_shaped, placed_function, placed_skipped}
-use Rattle.offset_laws.proofs.Lengths.{Beyond, AllBeyond}
+use Rattle.offset_laws.proofs.Lengths.{AllBeyond}
 use Rattle.body_laws.proofs.Numbers.{Lettered, LetteredParams, LetteredParameters, ItemsLettered}
 use Rattle.body_laws.proofs.Plain.{IsPlain, AllPlain, plain_words, plain_prototype, plain_initial, plain_length, plain_statements}
-use Rattle.body_laws.proofs.Words.{tight_words, Aside, AllAside}
+use Rattle.body_laws.proofs.Words.{tight_words, AllAside}
 
 -- ---- Declarations behind an offset, or around a span
 

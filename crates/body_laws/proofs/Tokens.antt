@@ -1,5 +1,5 @@
 -- The numbers and character constants among the tokens of a source are in the range of their kinds.
-use Rattle.std.proofs.Common.{◌≡◌, inl, inr, ℕ, zero, suc, ◌<◌, ◌≤◌, ◌+◌, ◌^◌, Bool, true, false, ◌&&◌, ◌||◌, ◌==◌, not, if◌then◌else◌, List, [], ◌∷◌, ◌++◌, length, Option, None, Some, ℤ, pos, ◌≤ℤ◌, refl, ap, sym, ◌∙◌, subst, arith}
+use Rattle.std.proofs.Common.{◌≡◌, inl, inr, ℕ, zero, suc, ◌<◌, ◌+◌, ◌^◌, Bool, true, false, ◌&&◌, ◌||◌, ◌==◌, if◌then◌else◌, List, [], ◌∷◌, ◌++◌, length, Option, None, Some, ℤ, pos, ◌≤ℤ◌, refl, sym, subst, arith}
 use Rattle.std.specs.Prelude.{int_le}
 use Rattle.std.proofs.lemmas.Int.{ints}
 use Rattle.std.proofs.lemmas.Bool.Decides.{nat_tests}
@@ -11,17 +11,16 @@ use Rattle.c_lexer.specs.Bytes.{is_plain}
 use Rattle.c_lexer.specs.Constants.{escape_of}
 use Rattle.c_lexer.specs.declared.token.Mark.{Mark}
 use Rattle.c_lexer.specs.declared.token.Mark.TheVariants as mark
-use Rattle.c_lexer.specs.declared.token.NumberForm.{NumberForm}
 use Rattle.c_lexer.specs.declared.token.Token.{Token}
 use Rattle.c_lexer.specs.declared.token.TokenKind.{TokenKind}
 use Rattle.c_lexer.specs.declared.token.TokenKind.TheVariants as token
-use Rattle.c_tokens.specs.Constants.{IsConstant, IsCharacter}
+use Rattle.c_tokens.specs.Constants.{IsCharacter}
 use Rattle.c_tokens.specs.Divisions.{Piece, Gap, Lexed, Divided, Tokens, tokens_in, end_token}
 use Rattle.c_tokens.specs.Forms.{IsForm, IsWord}
 use Rattle.c_tree.specs.declared.symbol.Keyword.{Keyword}
 use Rattle.c_tree.specs.declared.symbol.Keyword.TheVariants as key
 use Rattle.c_tree.specs.Symbols.{word_symbol, mark_symbol, symbol_of, keyword_of, signs_of}
-use Rattle.c_meaning.specs.Kinds.{first_holding, number_kind_of, number_kind}
+use Rattle.c_meaning.specs.Kinds.{first_holding, number_kind_of}
 use Rattle.body_laws.specs.Held.{HeldSymbol, HeldSigns}
 
 -- ---- Numbers

@@ -1,6 +1,6 @@
 -- Each value of a typed expression that breaks no rule has the kind that its place asks for.
-use Rattle.std.proofs.Common.{◌≡◌, ℕ, zero, suc, ◌<◌, ◌≤◌, ◌+◌, ◌*◌, Bool, true, false, ◌&&◌, ◌||◌, not, if◌then◌else◌, List, [], ◌∷◌, ◌++◌, length, map, Option, None, Some, bytes_eq, ℤ, pos, refl, ap, sym, ◌∙◌, subst, arith}
-use Rattle.std.specs.Prelude.{position, slice_get, slice_index_or, reverse, nat_eq}
+use Rattle.std.proofs.Common.{◌≡◌, ℕ, zero, suc, ◌<◌, ◌≤◌, ◌+◌, ◌*◌, Bool, true, false, ◌&&◌, not, if◌then◌else◌, List, [], ◌∷◌, ◌++◌, length, map, Option, None, Some, bytes_eq, pos, refl, ap, sym, ◌∙◌, subst, arith}
+use Rattle.std.specs.Prelude.{position, slice_get, slice_index_or, reverse}
 use Rattle.std.proofs.lemmas.Bool.{eqb-true}
 use Rattle.std.proofs.lemmas.Int.{ints}
 use Rattle.std.proofs.lemmas.List.{reverse-append}
@@ -17,9 +17,9 @@ use Rattle.c_tree.specs.declared.symbol.AssignOp.{AssignOp}
 use Rattle.c_tree.specs.declared.symbol.AssignOp.TheVariants as to
 use Rattle.c_tree.specs.declared.tree.PrefixOp.TheVariants as pre
 use Rattle.c_tree.specs.Tree as t
-use Rattle.c_run.specs.Breaking.{Broken, line}
+use Rattle.c_run.specs.Breaking.{line}
 use Rattle.c_run.specs.Operators.{assigned_op, is_logical}
-use Rattle.c_meaning.specs.Kinds.{CType, tKind, tVoid, tArray, tFunction, tNone, is_kind, is_array, is_void, kind_of, promoted, operation_kind, right_kind, common, bytes_of, size_kind, size_of}
+use Rattle.c_meaning.specs.Kinds.{CType, tKind, tVoid, tArray, tFunction, tNone, is_kind, is_array, is_void, kind_of, bytes_of, size_kind, size_of}
 use Rattle.c_meaning.specs.Tokens.{count_parts}
 use Rattle.c_meaning.specs.Bindings.{Env, Entity, anObjectOf, aFunctionOf, aConstantOf, aTypeOf, aTagOf, aNameOf, nothingOf, Object, entity_of, entity_type, object_type, object_number, words_type, named_in, typing_of, typing_type, or_typing}
 use Rattle.c_meaning.specs.Known.{Known, reaches, aborts, draws, known_of}
@@ -31,11 +31,11 @@ use Rattle.c_typed.specs.Facts as facts
 use Rattle.c_types.specs.Elaborated as el
 use Rattle.c_types.specs.Fit.{IsThere, NumberFits, EntityFits, NameFits, LengthFits}
 use Rattle.fit_laws.specs.Laws.{IsNoName, Unnamed, AllUnnamed}
-use Rattle.fit_laws.proofs.Fitting.{nil_left, nil_right, line_holds, not_false, and_left, and_right, unless_parts, unless_lines, fits, is_target_of, void_no_array, result_no_array, called_no_array, element_no_array, promoted_no_array, words_no_array, binary_no_array, arms_no_array, target_no_array}
+use Rattle.fit_laws.proofs.Fitting.{nil_left, nil_right, line_holds, not_false, and_left, and_right, unless_parts, unless_lines, fits, is_target_of, void_no_array, called_no_array, element_no_array, promoted_no_array, words_no_array, binary_no_array, arms_no_array, target_no_array}
 use Rattle.offset_laws.proofs.Parameters.{typed_of, typed_there}
 use Rattle.body_laws.specs.Held.{Held, AllHeld}
 use Rattle.body_laws.specs.Told.{IsShort, Told}
-use Rattle.body_laws.proofs.Agreeing.{Agrees, agree_kind, agree_void, promoted_right, operation_right, right_fits, index_array, target_kind, assigned_kind, kinds}
+use Rattle.body_laws.proofs.Agreeing.{Agrees, agree_kind, promoted_right, operation_right, right_fits, index_array, kinds}
 
 -- ---- Sizes
 

@@ -1,5 +1,5 @@
 -- Numbers and character constants that are values of their kinds.
-use Rattle.std.specs.Prelude.{ℕ, ◌<◌, List, [], ◌∷◌, length, pos}
+use Rattle.std.specs.Prelude.{◌<◌, List, [], ◌∷◌, length, pos}
 use Rattle.lv_base.specs.declared.kind.Kind.TheVariants as kind
 use Rattle.lv_base.specs.declared.kind.Model.{Model}
 use Rattle.lv_base.specs.Integers.{InRange}

@@ -34,3 +34,6 @@ pub fn programs_typed()
     tokens_rise();
     sources_typed();
 }
+
+#[cfg(test)]
+mod tests;
