@@ -15,10 +15,10 @@ use Rattle.c_meaning.specs.Rules as rules
 use Rattle.rule_lines.specs.Found.{Summary, summary, both, unless_found, Joined, Tried}
 use Rattle.rule_steps.specs.Expressions.{Walked, WalkedParts, value_told, target_told, arms_told, prefix_told, cast_told, last_told, in_brackets, called, indexed, postfixed, prefixed, cast_as, binary_of, chosen, assigned, comma_of, type_in, own_in, one_more, leaf, constant_told, walk, walk_parts, walk_words, walk_word, walk_enumerators, told, last_of, told_parts}
 
-two : {A B C : Type 0} (f : A → B → C) (a a2 : A) (b b2 : B) → a ≡ a2 → b ≡ b2 → f a b ≡ f a2 b2
+pub two : {A B C : Type 0} (f : A → B → C) (a a2 : A) (b b2 : B) → a ≡ a2 → b ≡ b2 → f a b ≡ f a2 b2
 two f a a2 b b2 h k = ap (λ x. f x b) h ∙ ap (f a2) k
 
-three : {A B C D : Type 0} (f : A → B → C → D) (a a2 : A) (b b2 : B) (c c2 : C) → a ≡ a2 → b ≡ b2 → c ≡ c2 → f a b c ≡ f a2 b2 c2
+pub three : {A B C D : Type 0} (f : A → B → C → D) (a a2 : A) (b b2 : B) (c c2 : C) → a ≡ a2 → b ≡ b2 → c ≡ c2 → f a b c ≡ f a2 b2 c2
 three f a a2 b b2 c c2 h k l = ap (λ x. f x b c) h ∙ ap (λ x. f a2 x c) k ∙ ap (f a2 b2) l
 
 module _ (joined : Joined) (tried : Tried) where
@@ -29,7 +29,7 @@ module _ (joined : Joined) (tried : Tried) where
   pub tries : (parts lines : List Broken) → unless_found (summary parts) (summary lines) ≡ summary (rules.unless parts lines)
   tries parts lines = sym (tried parts lines)
 
-  tries_of : (p l : Summary) (parts lines : List Broken) → p ≡ summary parts → l ≡ summary lines → unless_found p l ≡ summary (rules.unless parts lines)
+  pub tries_of : (p l : Summary) (parts lines : List Broken) → p ≡ summary parts → l ≡ summary lines → unless_found p l ≡ summary (rules.unless parts lines)
   tries_of p l parts lines h k = two unless_found p (summary parts) l (summary lines) h k ∙ tries parts lines
 
   module _ (env : Env) (model : Model) (bodies : List (List ℕ)) where
