@@ -10,7 +10,7 @@ use Rattle.c_tree.specs.declared.symbol.BinaryOp.TheVariants as op
 use Rattle.c_tree.specs.declared.symbol.AssignOp.TheVariants as to
 use Rattle.c_tree.specs.declared.tree.PrefixOp.TheVariants as pre
 use Rattle.c_tree.specs.Tree as t
-use Rattle.c_meaning.specs.Kinds.{CType, tKind, tVoid, tArray, tFunction, tNone, is_kind, is_array, is_void, result_type, kind_of, promoted, unsigned_of, mixed, common_promoted, common, rank, operation_kind, right_kind, result_kind, is_shift}
+use Rattle.c_meaning.specs.Kinds.{CType, tKind, tVoid, tArray, tFunction, tNone, is_kind, is_array, result_type, kind_of, promoted, unsigned_of, mixed, common_promoted, common, rank, operation_kind, right_kind, result_kind, is_shift}
 use Rattle.c_meaning.specs.Bindings.{Env, Entity, anObjectOf, aFunctionOf, aConstantOf, aTypeOf, aTagOf, aNameOf, nothingOf, Object, entity_of, entity_type, object_type, words_type}
 use Rattle.c_meaning.specs.Known.{Known, reaches, aborts, draws, known_of}
 use Rattle.c_meaning.specs.Types.{type_of, called_type, element_type, binary_type, arms_type, promoted_type}
@@ -37,13 +37,6 @@ agree_kind tVoid o h a = cc
 agree_kind (tArray k n) o h a = cc
 agree_kind (tFunction r ps) o h a = cc
 agree_kind tNone o h a = cc
-
-pub agree_void : (c : CType) (o : Option Kind) → is_void c ≡ true → Agrees c o → o ≡ None
-agree_void (tKind k) o h a = cc
-agree_void tVoid o h a = a
-agree_void (tArray k n) o h a = cc
-agree_void (tFunction r ps) o h a = cc
-agree_void tNone o h a = cc
 
 -- a value of the kind of a type that has one
 of_kind : (c : CType) → is_kind c ≡ true → Agrees c (Some (kind_of c))

@@ -1,5 +1,5 @@
 -- The walk over an expression finds what the rules say.
-use Rattle.std.proofs.Common.{◌≡◌, ℕ, suc, Bool, true, false, ◌&&◌, ◌||◌, not, if◌then◌else◌, List, [], ◌++◌, Option, None, Some, refl, ap, sym, ◌∙◌}
+use Rattle.std.proofs.Common.{◌≡◌, ℕ, suc, Bool, true, false, ◌&&◌, ◌||◌, not, if◌then◌else◌, List, [], ◌++◌, Option, Some, refl, ap, sym, ◌∙◌}
 use Rattle.lv_base.specs.declared.kind.Model.{Model}
 use Rattle.lv_base.specs.declared.fault.SourceFault.TheVariants as fault
 use Rattle.c_tree.specs.declared.tree.PrefixOp.{PrefixOp}
@@ -7,13 +7,13 @@ use Rattle.c_tree.specs.declared.tree.PrefixOp.TheVariants as pre
 use Rattle.c_tree.specs.Tree as t
 use Rattle.c_run.specs.Breaking.{Broken, line}
 use Rattle.c_meaning.specs.Kinds.{CType, tKind, tVoid, tArray, tFunction, tNone, is_kind, is_array, is_void}
-use Rattle.c_meaning.specs.Tokens.{count_parts, first_of, first_of_parts, own_token, own_token_parts}
+use Rattle.c_meaning.specs.Tokens.{count_parts, first_of, first_of_parts, own_token}
 use Rattle.c_meaning.specs.Bindings.{Env, declared_at, constant_value, words_type}
 use Rattle.c_meaning.specs.Constants.{is_constant, constant_of}
-use Rattle.c_meaning.specs.Types.{type_of, type_of_last}
+use Rattle.c_meaning.specs.Types.{type_of}
 use Rattle.c_meaning.specs.Rules as rules
 use Rattle.rule_lines.specs.Found.{Summary, summary, both, unless_found, Joined, Tried}
-use Rattle.rule_steps.specs.Expressions.{Walked, WalkedParts, value_told, target_told, arms_told, prefix_told, cast_told, last_told, in_brackets, called, indexed, postfixed, prefixed, cast_as, binary_of, chosen, assigned, comma_of, type_in, own_in, one_more, leaf, constant_told, walk, walk_parts, walk_words, walk_word, walk_enumerators, told, last_of, told_parts}
+use Rattle.rule_steps.specs.Expressions.{Walked, target_told, prefix_told, cast_told, in_brackets, called, indexed, postfixed, prefixed, cast_as, binary_of, chosen, assigned, comma_of, type_in, own_in, one_more, leaf, constant_told, walk, walk_parts, walk_words, walk_word, walk_enumerators, told, last_of, told_parts}
 
 pub two : {A B C : Type 0} (f : A → B → C) (a a2 : A) (b b2 : B) → a ≡ a2 → b ≡ b2 → f a b ≡ f a2 b2
 two f a a2 b b2 h k = ap (λ x. f x b) h ∙ ap (f a2) k
@@ -73,9 +73,6 @@ module _ (joined : Joined) (tried : Tried) where
     constant_lines e = sum (rules.value_line env model bodies e) (line (not (is_constant env e) || (is_kind (type_of env model e) && rules.is_none (constant_of env model e))) fault.NotConstant (first_of e))
 
     -- ---- Each expression from its parts
-
-    with_found : (w : Walked) (s : Summary) → Walked
-    with_found w s = record { found = s; typed = w.typed; is_target = w.is_target; is_const = w.is_const; is_constant = w.is_constant; own = w.own; first = w.first }
 
     called_told : (f : t.Ex) (a : ℕ) (es : t.Parts) (b : ℕ) → called (summary (rules.call_line env model bodies f a (count_parts es))) (T f) (told_parts env model bodies es) ≡ T (t.eCall f a es b)
     called_told f a es b =
