@@ -4,3 +4,4 @@ pub mod ValueLinks
 pub mod StatementLinks
 pub mod Rows
 pub mod Wholes
+pub mod Bodies

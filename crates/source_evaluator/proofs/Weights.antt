@@ -589,7 +589,12 @@ body_below [] i b h e = absurd (omega arith)
 body_below (x ∷ xs) zero b h e = omega (arith, ap (λ y. beneaths (statements_of y.statements.now)) e)
 body_below (x ∷ xs) (suc i) b h e = omega (arith, body_below xs i b (omega arith) e)
 
--- a body that is entered with one call less
-pub enter_below : (bs : List Body) (cap w v : ℕ) → 0 < cap → w < heaviest bs → (cap - 1) * heaviest bs + w < cap * heaviest bs + v
-enter_below bs (suc cap) w v h b = let e : suc cap - 1 ≡ cap = omega arith in rw e (omega (arith, suc-mul cap (heaviest bs)))
-enter_below bs zero w v h b = absurd (omega arith)
+heaviest_some : (bs : List Body) → 0 < heaviest bs
+unfolding heaviest
+heaviest_some [] = omega arith
+heaviest_some (b ∷ bs) = omega arith
+
+-- a body is entered with one call less
+pub call_below : (bs : List Body) (cap : ℕ) → 0 < cap → (cap - 1) * heaviest bs + heaviest bs - 1 < cap * heaviest bs
+call_below bs zero h = absurd (omega arith)
+call_below bs (suc cap) h = let e : suc cap - 1 ≡ cap = omega arith in rw e (omega (arith, suc-mul cap (heaviest bs), heaviest_some bs))

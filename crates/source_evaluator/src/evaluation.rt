@@ -218,7 +218,10 @@ fn begin_objects(
                 match values(alloc, p, machine, cap, Usage::Used, None, parts) {
                     Err(halt) => return Err(halt),
                     Ok(list) => {
-                        begun(alloc, p, machine, object, &declarator.initial, given, &list)?
+                        match begun(alloc, p, machine, object, &declarator.initial, given, &list) {
+                            Err(halt) => return Err(halt),
+                            Ok(_) => {}
+                        }
                     }
                 }
             }

@@ -94,7 +94,7 @@ fn body_in<'a>(alloc: Global, env: &Env<'a>, item: &'a Item) -> Result<Option<Bo
 }
 
 fn push_body<'a>(made: &mut Vec<Body<'a>>, body: Option<Body<'a>>) -> Result<(), Memory>
-    ensures { IfOk result (λ _. map function_of made.new.items ≡ map function_of made.old.items ++ listed (some_function body)) }
+    ensures { IfOk result (λ _. map function_of made.new.items ≡ map function_of made.old.items ++ listed (some_function body.entry)) }
 {
     match body {
         None => Ok(()),

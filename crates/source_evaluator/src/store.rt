@@ -148,13 +148,13 @@ fn or_initial<'b>(initial: Option<&'b Initial>, other: Option<&'b Initial>) -> O
 fn initial_of<'b>(entries: &'b [Entry<'_>], number: usize) -> Option<&'b Initial>
     ensures { some_initial (option_copied result) ≡ program.initial_of number (map seen.entry_of entries.now) }
 {
-    let mut initial: Option<&'b Initial> = None;
+    let mut found: Option<&'b Initial> = None;
     let mut left = entries.len();
     'entries: while left > 0 {
         left -= 1;
-        initial = or_initial(own_initial(&entries[left], number), initial);
+        found = or_initial(own_initial(&entries[left], number), found);
     }
-    initial
+    found
 }
 
 fn size_of(object: &Object<'_>) -> u64

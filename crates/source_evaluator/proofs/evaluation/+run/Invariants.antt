@@ -73,8 +73,8 @@ decreases-body-entries l = l.left
 -- the turns that are left give what all give
 abbrev pub invariant-rounds-rounds : goal.invariant-rounds-rounds
 invariant-rounds-rounds l =
-    loop l.round.at l.cap (value_option (context_at l.p l.cap) (wanted_of l.round.test) (pos 1)) (exec (context_at l.p l.cap) l.result_kind l.cap (statement l.round.body.now) Start) (effect_option (context_at l.p l.cap) (wanted_of l.round.step)) (state_of l.fn.machine)
-    ≡ loop l.round.at l.left (value_option (context_at l.p l.cap) (wanted_of l.round.test) (pos 1)) (exec (context_at l.p l.cap) l.result_kind l.cap (statement l.round.body.now) Start) (effect_option (context_at l.p l.cap) (wanted_of l.round.step)) (state_of l.machine)
+    loop l.round.at l.cap (value_option (context_at l.p l.cap) (wanted_of l.round.test) (pos 1)) (exec (context_at l.p l.cap) l.result_kind l.cap (statement l.round.body.now) Start) (effect_option (context_at l.p l.cap) l.result_kind l.cap (wanted_of l.round.step)) (state_of l.fn.machine)
+    ≡ loop l.round.at l.left (value_option (context_at l.p l.cap) (wanted_of l.round.test) (pos 1)) (exec (context_at l.p l.cap) l.result_kind l.cap (statement l.round.body.now) Start) (effect_option (context_at l.p l.cap) l.result_kind l.cap (wanted_of l.round.step)) (state_of l.machine)
 
 abbrev pub decreases-rounds-rounds : goal.decreases-rounds-rounds
 decreases-rounds-rounds l = l.left
