@@ -148,7 +148,7 @@ fn jumps_leave_a_statement(rt: HostRuntime) -> Result<(), Fail> {
     let normal = Exit::Normal;
     let from = Entrance::Start;
     match leave(&p, &mut state, None, from, &goto, 0, normal, normal) {
-        Ok(Exit::Jumped(label)) => assert!(rt; label == b"L" && state.turns == 0),
+        Ok(Exit::Jumped(label)) => assert!(rt; label == b"L".as_slice() && state.turns == 0),
         _ => assert!(rt; false),
     }
     let spent = leave(&p, &mut state, None, from, &goto, 0, normal, normal);
