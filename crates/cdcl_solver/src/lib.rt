@@ -8,6 +8,7 @@
 mod board;
 mod choosing;
 mod engine;
+mod joining;
 mod learning;
 mod opening;
 mod pacing;
@@ -17,6 +18,7 @@ mod tests;
 pub use board::{Board, Settled, Stop, go_back, settle};
 pub use clause_learning::{Answer, MOST_PAIRS, QueryFail, SolveFail};
 pub use engine::{Ending, Solver, Turn, solve, solve_within};
+pub use joining::join_learned;
 pub use learning::{Highest, add_watch, what_to_watch};
 pub use opening::{Watches, set_units, watch_all};
 pub use pacing::Pace;
