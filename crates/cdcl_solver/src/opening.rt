@@ -47,10 +47,15 @@ pub fn watch_all(alloc: Global, rows: &Rows, codes: usize) -> Result<Watches, Al
         let row = rows.row(number);
         let first = row[0];
         let second = other_code(row, first);
+        let watch = Watch {
+            first,
+            second,
+            pair: row.len() == 2,
+        };
         add_watch(
             &mut watches,
             &mut lists,
-            Watch { first, second },
+            watch,
             number as u32,
         )?;
     }
