@@ -195,6 +195,28 @@ fn both_bodies(rt: HostRuntime) -> Result<(), Fail> {
     Ok(())
 }
 
+// Whether an answer is a log of one chain, from this clause by these pairs.
+fn is_chain(answer: &Result<Answer, SolveFail>, first: u32, pairs: &[(u32, u32)]) -> bool {
+    match answer {
+        Ok(Answer::Spent(log)) => {
+            let chains = log.chains();
+            chains.len() == 1 && chains[0].first == first && chains[0].pairs.as_slice() == pairs
+        }
+        _ => false,
+    }
+}
+
+// The first decision is that 1 is false, the second that 5 is, the last of the heap. Then 3 and 4 follow, and the last
+// clause is false. The clause without 4 is resolved once more, since 1 alone implies 2.
+#[test]
+fn implied_literal_goes(rt: HostRuntime) -> Result<(), Fail> {
+    let rows: &[&[i64]] = &[&[1, 2], &[5, 3], &[-3, -2, 1, 4], &[-3, -4]];
+    let clauses = clauses_of(&rt, rt.alloc(), rows)?;
+    let got = solve_within(rt.alloc(), &clauses, 1, 100);
+    assert!(rt; is_chain(&got, 3, &[(4, 2), (2, 0)]));
+    Ok(())
+}
+
 // The sequence by which the search starts over.
 #[test]
 fn paces(rt: HostRuntime) -> Result<(), Fail> {

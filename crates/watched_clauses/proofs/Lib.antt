@@ -1,3 +1,4 @@
+pub mod FindingRows
 pub mod ContentLaws
 pub mod JudgeLaws
 pub mod WatchLaws

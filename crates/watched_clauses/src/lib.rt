@@ -8,6 +8,8 @@
 
 mod lists;
 mod looking;
+#[cfg(test)]
+mod tests;
 mod visiting;
 
 pub use lists::WatchLists;
