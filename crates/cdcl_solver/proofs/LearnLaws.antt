@@ -29,6 +29,7 @@ use Rattle.watched_clauses.specs.Judge.{first_of, second_of}
 use Rattle.watched_clauses.specs.Watching.{lists_in, waits_in, Excused, Watched, Alone, Watching, Linked}
 use Rattle.watched_clauses.specs.Kept.{KeepsWatch, IsLinked}
 use Rattle.watched_clauses.proofs.WatchLaws.{excused_cases, excused_true, watched_by}
+use Rattle.watched_clauses.proofs.JudgeLaws.{pair_cases, pair_from}
 use Rattle.watched_clauses.proofs.QueueLaws.{linked_is, level_negation, watching_push}
 use Rattle.conflict_analysis.specs.Walk.{first_entries, AreAbove, IsTaught}
 use Rattle.cdcl_solver.specs.Stops.{trail_entries}
@@ -47,10 +48,10 @@ watching_add rows watches lists truth levels queue level r w lt lt2 all small in
   firsts = λ k h. elim (cases_lt k (length watches)) [ inl a ↦ subst (λ z. z < length truth) (sym (first_old watches w k a)) (s.firsts k a) | inr a ↦ subst (λ z. z < length truth) (sym (first_new watches w k (omega (arith, a, h, length-append watches (w ∷ []))))) (omega (arith, lt, all)) ];
   seconds = λ k h. elim (cases_lt k (length watches)) [ inl a ↦ subst (λ z. z < length truth) (sym (second_old watches w k a)) (s.seconds k a) | inr a ↦ subst (λ z. z < length truth) (sym (second_new watches w k (omega (arith, a, h, length-append watches (w ∷ []))))) (omega (arith, lt2, all)) ];
   numbers = λ x k h. elim (with_back lists w (length rows) lt lt2 x k h) [ inl a ↦ (let q = s.numbers x k a in omega (arith, q, length-append rows (r ∷ []))) | inr a ↦ omega (arith, a, length-append rows (r ∷ [])) ];
-  pairs = λ k x g t z h. elim (get_push rows r k x g) [
-    | inl p ↦ (let a : k < length watches = omega (arith, p.1, s.paired) in elim (s.pairs k x p.0 (sym (pair_old watches w k a) ∙ t) z h) [ inl q ↦ inl (q ∙ sym (first_old watches w k a)) | inr q ↦ inr (q ∙ sym (second_old watches w k a)) ])
+  pairs = λ k x g. pair_from (watches ++ (w ∷ [])) k x (λ t z h. elim (get_push rows r k x g) [
+    | inl p ↦ (let a : k < length watches = omega (arith, p.1, s.paired) in elim (pair_cases watches k x (s.pairs k x p.0) (sym (pair_old watches w k a) ∙ t) z h) [ inl q ↦ inl (q ∙ sym (first_old watches w k a)) | inr q ↦ inr (q ∙ sym (second_old watches w k a)) ])
     | inr p ↦ (let e : k ≡ length watches = omega (arith, p.0, s.paired) in elim (pair' (sym (pair_new watches w k e) ∙ t) z (subst (λ c. listed c z ≡ true) p.1 h)) [ inl q ↦ inl (q ∙ sym (first_new watches w k e)) | inr q ↦ inr (q ∙ sym (second_new watches w k e)) ])
-  ];
+  ]);
   two = λ k x g n. elim (get_push rows r k x g) [
     | inl p ↦ (let a : k < length watches = omega (arith, p.1, s.paired) in
         let n2 = subst (λ z. nat_eq (first_of watches k) z ≡ false) (second_old watches w k a) (subst (λ z. nat_eq z (second_of (watches ++ (w ∷ [])) k) ≡ false) (first_old watches w k a) n) in

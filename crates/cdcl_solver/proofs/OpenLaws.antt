@@ -31,6 +31,7 @@ use Rattle.watched_clauses.specs.Watching.{lists_in, waits_in, Excused, Watched,
 use Rattle.watched_clauses.specs.Kept.{KeepsWatch, IsLinked, IsFalse}
 use Rattle.watched_clauses.proofs.WatchLaws.{excused_waits}
 use Rattle.watched_clauses.proofs.PassLaws.{row_some}
+use Rattle.watched_clauses.proofs.JudgeLaws.{pair_cases, pair_from}
 use Rattle.watched_clauses.proofs.QueueLaws.{linked_implied, linked_set, row_has}
 use Rattle.conflict_analysis.specs.Walk.{RowsFit, IsTaught, first_entries}
 use Rattle.cdcl_solver.specs.Stops.{trail_entries}
@@ -97,10 +98,10 @@ module _ (rows : List (List ℕ)) (watches : List Watch) (lists : List (List ℕ
       | inl a ↦ subst (λ z. lists_in (with_watch lists w m) z k ≡ true) (sym (old_second k a)) (with_grow lists w m push_first push_second (second_of watches k) k (b.at_second k a (subst (λ z. nat_eq (first_of watches k) z ≡ false) (old_second k a) (subst (λ z. nat_eq z (second_of (watches ++ (w ∷ [])) k) ≡ false) (old_first k a) f))))
       | inr e ↦ subst (λ z. lists_in (with_watch lists w m) z k ≡ true) (sym (new_second k e)) (subst (λ z. lists_in (with_watch lists w m) w.second z ≡ true) (sym e) (with_second lists w m push_first push_second (subst (λ z. nat_eq w.first z ≡ false) (new_second k e) (subst (λ z. nat_eq z (second_of (watches ++ (w ∷ [])) k) ≡ false) (new_first k e) f))))
     ];
-    pairs = λ k x lt g t z h. elim (below_next k m lt) [
-      | inl a ↦ elim (b.pairs k x a g (sym (pair_old watches w k (omega (arith, a, b.paired))) ∙ t) z h) [ inl p ↦ inl (p ∙ sym (old_first k a)) | inr p ↦ inr (p ∙ sym (old_second k a)) ]
+    pairs = λ k x lt g. pair_from (watches ++ (w ∷ [])) k x (λ t z h. elim (below_next k m lt) [
+      | inl a ↦ elim (pair_cases watches k x (b.pairs k x a g) (sym (pair_old watches w k (omega (arith, a, b.paired))) ∙ t) z h) [ inl p ↦ inl (p ∙ sym (old_first k a)) | inr p ↦ inr (p ∙ sym (old_second k a)) ]
       | inr e ↦ elim (two' (sym (pair_new watches w k (omega (arith, e, b.paired))) ∙ t) z (subst (λ c. listed c z ≡ true) (sym (same_row k x e g)) h)) [ inl p ↦ inl (p ∙ sym (new_first k e)) | inr p ↦ inr (p ∙ sym (new_second k e)) ]
-    ];
+    ]);
     one = λ k x z lt g f h. elim (below_next k m lt) [
       | inl a ↦ b.one k x z a g (subst (λ y. nat_eq (first_of watches k) y ≡ true) (old_second k a) (subst (λ y. nat_eq y (second_of (watches ++ (w ∷ [])) k) ≡ true) (old_first k a) f)) h ∙ sym (old_first k a)
       | inr e ↦ only (subst (λ y. nat_eq w.first y ≡ true) (new_second k e) (subst (λ y. nat_eq y (second_of (watches ++ (w ∷ [])) k) ≡ true) (new_first k e) f)) z (subst (λ c. listed c z ≡ true) (sym (same_row k x e g)) h) ∙ sym (new_first k e)

@@ -5,7 +5,8 @@ use Rattle.prop.specs.Trues.{listed}
 use Rattle.resolution_log.specs.Codes.{AllBelow}
 use Rattle.resolution_log.proofs.MarkLaws.{all_below_from}
 use Rattle.watched_clauses.specs.declared.looking.Watch.{Watch}
-use Rattle.watched_clauses.specs.Judge.{first_of, second_of, pair_of, IsPair}
+use Rattle.watched_clauses.specs.Judge.{IsPair}
+use Rattle.watched_clauses.proofs.JudgeLaws.{pair_from}
 
 abbrev pub two_rows : List (List ℕ)
 two_rows = (0 ∷ 2 ∷ 4 ∷ []) ∷ (1 ∷ 4 ∷ []) ∷ []
@@ -24,7 +25,7 @@ rows_pair rows watches e f n r g = subst (λ w. IsPair w n r) (sym f) (go n r (s
   where
     go : (n : ℕ) (r : List ℕ) → slice_get two_rows n ≡ Some r → IsPair two_watches n r
     go zero r g = λ t. absurd (both_ways false refl t)
-    go (suc zero) r g = let is : (1 ∷ 4 ∷ []) ≡ r = cc in λ t z h. either 1 4 z (subst (λ w. listed w z ≡ true) (sym is) h)
+    go (suc zero) r g = let is : (1 ∷ 4 ∷ []) ≡ r = cc in pair_from two_watches 1 r (λ t z h. either 1 4 z (subst (λ w. listed w z ≡ true) (sym is) h))
     go (suc (suc n)) r g = absurd cc
 
 pub rows_below : (rows : List (List ℕ)) (count : ℕ) → rows ≡ two_rows → 6 ≤ count → (n : ℕ) (r : List ℕ) → slice_get rows n ≡ Some r → AllBelow count r

@@ -3,9 +3,10 @@ use Rattle.std.proofs.Common.{◌≡◌, ℕ, Bool, true, false, ◌||◌, cond,
 use Rattle.std.proofs.lemmas.Bool.{both_ways, or_cases, or_left, or_right, or_parts, eqb-true, eq-eqb, cases_eq}
 use Rattle.prop.specs.Trues.{listed}
 use Rattle.dense_trail.specs.Dense.{negation, is_true}
+use Rattle.watched_clauses.specs.declared.looking.Watch.{Watch}
 use Rattle.watched_clauses.specs.declared.looking.Finding.{Finding}
 use Rattle.watched_clauses.specs.declared.looking.Finding.TheVariants.{Lone, Clash}
-use Rattle.watched_clauses.specs.Judge.{first_open, last_finding, AreWatched, IsFinding}
+use Rattle.watched_clauses.specs.Judge.{first_open, last_finding, first_of, second_of, pair_of, AreWatched, IsFinding, IsPair}
 
 pub open_none : (truth : List Bool) (other : ℕ) (r : List ℕ) → first_open truth other r ≡ None → (k : ℕ) → listed r k ≡ true → (k ≡ other → ⊥) → is_true truth (negation k) ≡ true
 open_none truth other [] h k hk n = absurd (both_ways false refl hk)
@@ -56,3 +57,10 @@ pair_others truth falsified first second other r aw f all k hk n = elim (all k h
   where
     here : k ≡ falsified → is_true truth (negation k) ≡ true
     here e = subst (λ z. is_true truth (negation z) ≡ true) (sym e) f
+
+-- each literal of such a clause is one of the two
+pub pair_cases : (watches : List Watch) (k : ℕ) (r : List ℕ) → IsPair watches k r → pair_of watches k ≡ true → (z : ℕ) → listed r z ≡ true → (z ≡ first_of watches k) ⊎ (z ≡ second_of watches k)
+pair_cases watches k r p t z h = elim (cases_eq z (first_of watches k)) [ inl e ↦ inl e | inr n ↦ inr (p t z h n) ]
+
+pub pair_from : (watches : List Watch) (k : ℕ) (r : List ℕ) → (pair_of watches k ≡ true → (z : ℕ) → listed r z ≡ true → (z ≡ first_of watches k) ⊎ (z ≡ second_of watches k)) → IsPair watches k r
+pair_from watches k r p t z h n = elim (p t z h) [ inl e ↦ absurd (n e) | inr e ↦ e ]

@@ -9,6 +9,7 @@ use Rattle.dense_trail.proofs.CodeLaws.{negation_half, negation_twice, negation_
 use Rattle.dense_trail.proofs.ValueLaws.{listed_append, listed_left, listed_right, listed_last, listed_one, truth_same, truth_other, truth_grows, truth_new, true_below}
 use Rattle.watched_clauses.specs.declared.looking.Watch.{Watch}
 use Rattle.watched_clauses.specs.Judge.{first_of, second_of, pair_of, none_watched, AreWatched, IsPair}
+use Rattle.watched_clauses.proofs.JudgeLaws.{pair_cases, pair_from}
 use Rattle.watched_clauses.specs.Watching.{lists_in, waits_in, Excused, Watched, Alone, Watching, lists_but, waits_but}
 
 pub excused_waits : (waits : ℕ → ℕ → Bool) (truth : List Bool) (levels : List ℕ) (k x y : ℕ) → waits x k ≡ true → Excused waits truth levels k x y
@@ -46,7 +47,7 @@ watching_at rows watches watches2 A B W V truth levels level queue k0 len same p
   numbers = numbers;
   pairs = λ k r h. elim (cases_eq k k0) [
     | inl e ↦ subst (λ w. IsPair watches2 w r) (sym e) (pair0 r (subst (λ w. slice_get rows w ≡ Some r) e h))
-    | inr n ↦ (let p = same k n in λ t z l. elim (s.pairs k r h (sym p.2 ∙ t) z l) [ inl a ↦ inl (a ∙ sym p.0) | inr b ↦ inr (b ∙ sym p.1) ])
+    | inr n ↦ (let p = same k n in pair_from watches2 k r (λ t z l. elim (pair_cases watches k r (s.pairs k r h) (sym p.2 ∙ t) z l) [ inl a ↦ inl (a ∙ sym p.0) | inr b ↦ inr (b ∙ sym p.1) ]))
   ];
   two = λ k r h n. elim (cases_eq k k0) [
     | inl e ↦ subst (λ w. Watched B V truth levels r w (first_of watches2 w) (second_of watches2 w)) (sym e) (two0 r (subst (λ w. slice_get rows w ≡ Some r) e h) (subst (λ w. nat_eq (first_of watches2 w) (second_of watches2 w) ≡ false) e n))

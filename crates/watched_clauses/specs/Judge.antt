@@ -22,7 +22,7 @@ pair_of watches k = (slice_index_or watches k none_watched).pair
 
 -- such a clause has no literal but those that it watches
 abbrev pub IsPair : List Watch → ℕ → List ℕ → Type 0
-IsPair watches k r = pair_of watches k ≡ true → (z : ℕ) → listed r z ≡ true → (z ≡ first_of watches k) ⊎ (z ≡ second_of watches k)
+IsPair watches k r = pair_of watches k ≡ true → (z : ℕ) → listed r z ≡ true → (z ≡ first_of watches k → ⊥) → z ≡ second_of watches k
 
 -- what the last literal that may be true asks for
 abbrev pub last_finding : List Bool → ℕ → Finding
