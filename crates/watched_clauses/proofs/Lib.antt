@@ -1,4 +1,3 @@
-pub mod FindingRows
 pub mod ContentLaws
 pub mod JudgeLaws
 pub mod WatchLaws
