@@ -206,14 +206,15 @@ fn is_chain(answer: &Result<Answer, SolveFail>, first: u32, pairs: &[(u32, u32)]
     }
 }
 
-// The first decision is that 1 is false, the second that 5 is, the last of the heap. Then 3 and 4 follow, and the last
-// clause is false. The clause without 4 is resolved once more, since 1 alone implies 2.
+// The first decision is that 1 is false, so that 2 is true; the second that 5 is, the last of the heap. Then 3 is true, 4
+// is false by the last clause, and the third one is false. Without 4 it has -3, -2 and 1; since 1 alone implies 2, the
+// literal -2 is resolved away.
 #[test]
 fn implied_literal_goes(rt: HostRuntime) -> Result<(), Fail> {
     let rows: &[&[i64]] = &[&[1, 2], &[5, 3], &[-3, -2, 1, 4], &[-3, -4]];
     let clauses = clauses_of(&rt, rt.alloc(), rows)?;
     let got = solve_within(rt.alloc(), &clauses, 1, 100);
-    assert!(rt; is_chain(&got, 3, &[(4, 2), (2, 0)]));
+    assert!(rt; is_chain(&got, 2, &[(4, 3), (2, 0)]));
     Ok(())
 }
 
