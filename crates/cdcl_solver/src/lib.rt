@@ -1,8 +1,8 @@
 //! Clause learning: every answer is an assignment, a lean refutation, or a log of new clauses.
 //!
 //! The search is that of J. Marques-Silva and K. Sakallah (GRASP, 1999), with watched literals (M. Moskewicz and others,
-//! Chaff, 2001), first unique implication points, decisions by activity with saved signs, and restarts. Clauses are never
-//! deleted, and nothing is preprocessed.
+//! Chaff, 2001), first unique implication points, learned clauses without the literals that the others imply, decisions by
+//! activity with saved signs, and restarts. Clauses are never deleted, and nothing is preprocessed.
 #![tactic(auto)]
 
 mod board;

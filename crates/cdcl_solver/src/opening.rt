@@ -52,12 +52,7 @@ pub fn watch_all(alloc: Global, rows: &Rows, codes: usize) -> Result<Watches, Al
             second,
             pair: row.len() == 2,
         };
-        add_watch(
-            &mut watches,
-            &mut lists,
-            watch,
-            number as u32,
-        )?;
+        add_watch(&mut watches, &mut lists, watch, number as u32)?;
     }
     Ok(Watches { watches, lists })
 }

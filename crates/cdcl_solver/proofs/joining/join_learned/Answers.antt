@@ -40,4 +40,4 @@ invariant_of-result c =
 pub returns-clause-rests : goal.returns-clause-rests
 returns-clause-rests c = λ clauses log ch n above taught r.
     (let st = new_state c.args.vars.now c.args.board.rows c.args.board.trail c.args.board.level c.requires.linked ch.first c.args.notes.now.learnt.items ch.pairs c.args.uip n taught above c.requires.fits c.requires.in_clause c.what_to_watch-found.result.watch.first c.what_to_watch-found.result.watch.second c.what_to_watch-found.result.low (subst (λ w. IsHighest c.args.board.trail.levels.items w c.args.uip c.what_to_watch-found.result.watch.first c.what_to_watch-found.result.watch.second c.what_to_watch-found.result.low) c.as_slice.ensures.value c.what_to_watch-found.ensures.highest) c.go_back.new.trail c.in_ok-go_back.ensures.back c.in_ok-go_back.ensures.rises c.in_ok-go_back.ensures.levels c.push.new.self c.in_ok-number.number c.in_ok-number.ensures.value c.in_ok-push.ensures.codes c.in_ok-push.ensures.truth c.in_ok-push.ensures.levels c.in_ok-push.ensures.reasons clauses log ch (log ++ (ch ∷ [])) refl refl refl r.state in
-      turn_rests clauses c.args.vars.now c.args.board.rows c.push-2.new.self c.what_to_watch-found.result.low c.push.new.self (log ++ (ch ∷ [])) c.args.notes.now.learnt.items (c.in_ok-push-2.ensures.pushed ∙ ap (λ (w : List ℕ). c.args.board.rows ++ (w ∷ [])) c.as_slice-2.ensures.value) r.fit c.requires.fits st (new_linked c.args.vars.now c.args.board.rows c.args.board.trail c.args.board.level c.requires.linked ch.first c.args.notes.now.learnt.items ch.pairs c.args.uip n taught above c.requires.fits c.requires.in_clause c.what_to_watch-found.result.watch.first c.what_to_watch-found.result.watch.second c.what_to_watch-found.result.low (subst (λ w. IsHighest c.args.board.trail.levels.items w c.args.uip c.what_to_watch-found.result.watch.first c.what_to_watch-found.result.watch.second c.what_to_watch-found.result.low) c.as_slice.ensures.value c.what_to_watch-found.ensures.highest) c.go_back.new.trail c.in_ok-go_back.ensures.back c.in_ok-go_back.ensures.rises c.in_ok-go_back.ensures.levels c.push.new.self c.in_ok-number.number c.in_ok-number.ensures.value c.in_ok-push.ensures.codes c.in_ok-push.ensures.truth c.in_ok-push.ensures.levels c.in_ok-push.ensures.reasons st.holds))
+    turn_rests clauses c.args.vars.now c.args.board.rows c.push-2.new.self c.what_to_watch-found.result.low c.push.new.self (log ++ (ch ∷ [])) c.args.notes.now.learnt.items (c.in_ok-push-2.ensures.pushed ∙ ap (λ (w : List ℕ). c.args.board.rows ++ (w ∷ [])) c.as_slice-2.ensures.value) r.fit c.requires.fits st (new_linked c.args.vars.now c.args.board.rows c.args.board.trail c.args.board.level c.requires.linked ch.first c.args.notes.now.learnt.items ch.pairs c.args.uip n taught above c.requires.fits c.requires.in_clause c.what_to_watch-found.result.watch.first c.what_to_watch-found.result.watch.second c.what_to_watch-found.result.low (subst (λ w. IsHighest c.args.board.trail.levels.items w c.args.uip c.what_to_watch-found.result.watch.first c.what_to_watch-found.result.watch.second c.what_to_watch-found.result.low) c.as_slice.ensures.value c.what_to_watch-found.ensures.highest) c.go_back.new.trail c.in_ok-go_back.ensures.back c.in_ok-go_back.ensures.rises c.in_ok-go_back.ensures.levels c.push.new.self c.in_ok-number.number c.in_ok-number.ensures.value c.in_ok-push.ensures.codes c.in_ok-push.ensures.truth c.in_ok-push.ensures.levels c.in_ok-push.ensures.reasons st.holds))
