@@ -58,7 +58,7 @@ counted_le f (x ∷ xs) = let ih = counted_le f xs in elim (cases_Bool (f x)) [ 
 has_append : (c d : List Lit) (m : Lit) → has (c ++ d) m ≡ (has c m || has d m)
 has_append c d m = bool_same (has (c ++ d) m) (has c m || has d m) (λ h. elim (Has-append c d m h) [ inl a ↦ or_left _ _ a | inr b ↦ or_right _ _ b ]) (λ h. elim (or_cases (has c m) (has d m) h) [ inl a ↦ Has-left c d m a | inr b ↦ Has-right c d m b ])
 
-pub has_without : (k : Lit) (c : List Lit) (m : Lit) (b : Bool) → (b ≡ true → m ≡ k) → (m ≡ k → b ≡ true) → has (without k c) m ≡ (not b && has c m)
+has_without : (k : Lit) (c : List Lit) (m : Lit) (b : Bool) → (b ≡ true → m ≡ k) → (m ≡ k → b ≡ true) → has (without k c) m ≡ (not b && has c m)
 has_without k c m b f g = bool_same (has (without k c) m) (not b && has c m)
     (λ h. let p = Has-without k c m h in and_from (not b) (has c m) (not_from_false b (false_from_ne_true b (λ t. p.1 (f t)))) p.0)
     (λ h. let p = and_parts (not b) (has c m) h in Has-kept k c m p.1 (λ e. both_ways b (not-true b p.0) (g e)))

@@ -32,10 +32,6 @@ open_some truth other (x ∷ r) k h = go (nat_eq x other) (is_true truth (negati
     go false true p q rest later = later rest
     go false false p q rest later = let e : x ≡ k = cc in (or_left _ _ (eq-eqb x k e), (λ z. both_ways (nat_eq x other) p (eq-eqb x other (e ∙ z))), subst (λ z. is_true truth (negation z) ≡ false) e q)
 
-module _ (truth : List Bool) (other : ℕ) (r : List ℕ) (h : first_open truth other r ≡ None) where
-  pub all_false : is_true truth (negation other) ≡ true → (k : ℕ) → listed r k ≡ true → is_true truth (negation k) ≡ true
-  all_false f k hk = elim (cases_eq k other) [ inl e ↦ subst (λ z. is_true truth (negation z) ≡ true) (sym e) f | inr n ↦ open_none truth other r h k hk n ]
-
 pub some_same : {X : Type 0} (o : Option X) (a b : X) → o ≡ Some a → o ≡ Some b → a ≡ b
 some_same o a b p q = let e : Some a ≡ Some b = sym p ∙ q in cc
 
