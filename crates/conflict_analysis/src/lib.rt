@@ -9,6 +9,8 @@
 mod analysis;
 mod minimizing;
 mod noting;
+#[cfg(test)]
+mod tests;
 mod walk;
 
 pub use analysis::analyze;
