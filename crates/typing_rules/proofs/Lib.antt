@@ -1,0 +1,4 @@
+pub mod Views
+mod Summing
+mod Rows
+mod Arms
