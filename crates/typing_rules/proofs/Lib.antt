@@ -1,4 +1,4 @@
 pub mod Views
-mod Summing
+pub mod Summing
 mod Rows
 mod Arms
