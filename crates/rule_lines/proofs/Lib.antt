@@ -1,1 +1,1 @@
-mod Least
+pub mod Least

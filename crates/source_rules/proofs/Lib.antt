@@ -1,0 +1,5 @@
+pub mod Views
+mod Summing
+mod Rows
+mod Lengths
+mod Arms

@@ -1,0 +1,4 @@
+pub mod Views
+pub mod Summing
+mod Rows
+mod Arms
