@@ -63,12 +63,12 @@ fn number(alloc: Global, value: u64, at: u32) -> Result<Box<Expr>, Fail> {
     Ok(Box::new(alloc, Expr::Number(value, form, at))?)
 }
 
-fn head(alloc: Global, at: u32) -> Result<Head, Fail> {
+fn head(alloc: Global) -> Result<Head, Fail> {
     Ok(Head {
-        at,
-        open: at + 6,
-        condition: number(alloc, 2, at + 7)?,
-        close: at + 8,
+        at: 0,
+        open: 7,
+        condition: number(alloc, 2, 8)?,
+        close: 9,
     })
 }
 
@@ -86,7 +86,7 @@ fn a_switch_goes_to_its_case(rt: HostRuntime) -> Result<(), Fail> {
     let alloc = rt.alloc();
     let p = program(alloc, &[])?;
     let case = Statement::Case(10, number(alloc, 2, 15)?, 16, empty(alloc, 17)?);
-    let s = Statement::Switch(head(alloc, 0)?, Box::new(alloc, case)?);
+    let s = Statement::Switch(head(alloc)?, Box::new(alloc, case)?);
     assert!(rt; test_in(None, Entrance::Start, &s).is_some());
     match first_try(&p, Entrance::Start, &s, 2) {
         Some(tried) => match first_try(&p, tried.entrance, tried.part, 0) {
