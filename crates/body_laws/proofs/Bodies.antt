@@ -118,30 +118,34 @@ module _ (env : Env) (model : Model) (bodies : List (List ℕ)) (functions : Lis
     list_fits ss z a es c b n o (Some m) e h w q some u g l r =
         let k = el.object_kind env model bodies n in
         let counted = values_counted k es in
-        let same : k ≡ o.kind = ap kind_of_object h in
-        (r, record {
-          told = typed_of env model functions (0 + n) o;
-          there = typed_there env model functions 0 env.objects n o h;
-          owned = ap el.owner_of w;
-          enough = subst (λ x. facts.count model objects functions (el.values_as env model bodies k es) ≤ (if nat_eq (el.length_of x) 0 then 1 else el.length_of x)) (sym e)
-              (subst (λ x. x ≤ (if nat_eq m 0 then 1 else m)) (sym counted) (as_size m (count_parts es) q some));
-          some = subst (λ x. 0 < x) (sym counted) some;
-          values = subst (λ x. facts.AllOf model objects functions x (el.values_as env model bodies k es)) same (values_as_of k es u g l);
-        })
+        let same : k ≡ o.kind = ap kind_of_object h in (
+          r,
+          record {
+            told = typed_of env model functions (0 + n) o;
+            there = typed_there env model functions 0 env.objects n o h;
+            owned = ap el.owner_of w;
+            enough = subst (λ x. facts.count model objects functions (el.values_as env model bodies k es) ≤ (if nat_eq (el.length_of x) 0 then 1 else el.length_of x)) (sym e)
+                (subst (λ x. x ≤ (if nat_eq m 0 then 1 else m)) (sym counted) (as_size m (count_parts es) q some));
+            some = subst (λ x. 0 < x) (sym counted) some;
+            values = subst (λ x. facts.AllOf model objects functions x (el.values_as env model bodies k es)) same (values_as_of k es u g l);
+          },
+        )
 
     value_begins : (ss : v.Steps) (z : ℕ) (e : t.Ex) (n : ℕ) (o : Object) → slice_get env.objects n ≡ Some o → o.owner ≡ Some number → Unnamed env e → Held model e → rules.faults_of_value env model bodies e ≡ [] →
         StepsFitHere ss → StepsFitHere (el.beginning env model bodies ss (t.iValue z e) (Some n))
     value_begins ss z e n o h w u g l r =
         let k = el.object_kind env model bodies n in
-        let same : k ≡ o.kind = ap kind_of_object h in
-        (r, record {
-          told = typed_of env model functions (0 + n) o;
-          there = typed_there env model functions 0 env.objects n o h;
-          owned = ap el.owner_of w;
-          enough = some_size (el.length_of o.length);
-          some = omega arith;
-          values = subst (λ x. facts.AllOf model objects functions x (v.values_and v.no_values (v.vConvert k (W e)))) same (tt, refl, valued e u g l);
-        })
+        let same : k ≡ o.kind = ap kind_of_object h in (
+          r,
+          record {
+            told = typed_of env model functions (0 + n) o;
+            there = typed_there env model functions 0 env.objects n o h;
+            owned = ap el.owner_of w;
+            enough = some_size (el.length_of o.length);
+            some = omega arith;
+            values = subst (λ x. facts.AllOf model objects functions x (v.values_and v.no_values (v.vConvert k (W e)))) same (tt, refl, valued e u g l);
+          },
+        )
 
     begins : (names : List (List ℕ)) (ws : t.Words) (f : t.Form) (i : t.Initial) (ss : v.Steps) (n : ℕ) (o : Object) → slice_get env.objects n ≡ Some o → o.owner ≡ Some number → Fitting o.length i →
         ShapedInitial names i → (x : Option ℕ) → InitialHolds env i x → HeldIn model (all_initial i) → rules.faults_of_initial env model bodies false f i ≡ [] → StepsFitHere ss → StepsFitHere (el.beginning env model bodies ss i (Some n))
@@ -241,9 +245,9 @@ module _ (env : Env) (model : Model) (bodies : List (List ℕ)) (functions : Lis
             q.0,
             q.1,
             statement_fits (s.block b (end_of x)) refl x names w.4 u.1 (held_left model (all_expressions x) _ g.1) (nil_right (rules.faults_of_value env model bodies e) _ front)
-            (stand_right env (s.in_expression (s.block at (end_of y)) (Some number) e) _ fore),
+                (stand_right env (s.in_expression (s.block at (end_of y)) (Some number) e) _ fore),
             statement_fits (s.block z (end_of y)) refl y names w.5 u.2 (held_right model (all_expressions x) _ g.1) (nil_right (rules.faults_of_value env model bodies e ++ rules.faults_of_statement env model bodies result x) _ l)
-            (stand_right env (s.in_expression (s.block at (end_of y)) (Some number) e ++ s.in_statement (Some number) (s.block b (end_of x)) x) _ r),
+                (stand_right env (s.in_expression (s.block at (end_of y)) (Some number) e ++ s.in_statement (Some number) (s.block b (end_of x)) x) _ r),
           )
       statement_fits scope local (t.sWhile (t.head at a e b) x) names w u g l r =
           let q = valued e u.0 g.0 (nil_left _ _ l) in
@@ -272,8 +276,8 @@ module _ (env : Env) (model : Model) (bodies : List (List ℕ)) (functions : Lis
             test_fits test u.0.1 (held_right model (all_start start) _ fronts) (nil_right (rules.faults_of_start env model bodies start) _ front),
             option_fits step u.0.2 (held_right model (all_start start ++ all_option test) _ heads) (nil_right (rules.faults_of_start env model bodies start ++ rules.faults_of_test env model bodies test) _ head),
             statement_fits (s.block b (end_of x)) refl x (sh.start_names start names) w.2 u.1 (held_right model (all_start start ++ all_option test ++ all_option step) _ g)
-            (nil_right (rules.faults_of_start env model bodies start ++ rules.faults_of_test env model bodies test ++ rules.faults_of_option env model bodies step) _ l)
-            (stand_right env (s.in_start m (Some number) start ++ s.in_option m (Some number) test ++ s.in_option m (Some number) step) _ r),
+                (nil_right (rules.faults_of_start env model bodies start ++ rules.faults_of_test env model bodies test ++ rules.faults_of_option env model bodies step) _ l)
+                (stand_right env (s.in_start m (Some number) start ++ s.in_option m (Some number) test ++ s.in_option m (Some number) step) _ r),
           )
       statement_fits scope local (t.sCase at e b x) names w u g l r =
           statement_fits scope local x names w.3 u g (nil_right (rules.faults_of_constant env model bodies e) _ l) (stand_right env (s.in_expression scope (Some number) e) _ r)

@@ -56,7 +56,7 @@ module _ (f : Known) where
         let words = words_same env f.env f.model span.first span.last (same_of env f.env (d ∷ ds) span.first span.last g k span.behind) ws span.first span.last (itself span.first) (itself span.last) span.words in (
           span.file,
           entry_found f.model env d ds (c.entered env d x) f.env (s.aFunction ws ps b) step after (ap s.is_tag e) before
-          ∙ ap (λ z. aFunctionOf (kind_in z) (parameter_kinds env ps)) words ∙ ap (aFunctionOf (kind_in (words_type f.env ws))) (kinds_same ps span.parameters),
+              ∙ ap (λ z. aFunctionOf (kind_in z) (parameter_kinds env ps)) words ∙ ap (aFunctionOf (kind_in (words_type f.env ws))) (kinds_same ps span.parameters),
         )
 
     parameter_right : (ws : t.Words) → d.what ≡ s.aParameter ws → Grown (c.declare f.model env d (s.aParameter ws)) ds f.env → ParameterSpan d ws ds → Rightly d (s.aParameter ws)
@@ -64,7 +64,7 @@ module _ (f : Known) where
         let o : Object = record { name = d.name; at = d.at; kind = kind_or_int (words_type env ws); length = None; is_const = has_const env ws; owner = d.owner } in
         let long = length-append env.objects (o ∷ []) in
         let step : Step f.model env d (s.aParameter ws) (c.new_object env d o) =
-            record { entity = anObjectOf (length env.objects); more = o ∷ []; entries = refl; objects = refl; numbered = omega (arith, long); name = tt; all = (refl, refl, tt); own = (o, refl, refl) } in
+        record { entity = anObjectOf (length env.objects); more = o ∷ []; entries = refl; objects = refl; numbered = omega (arith, long); name = tt; all = (refl, refl, tt); own = (o, refl, refl) } in
         let words = words_alike env f.env (first_of_words ws) span.last (alike_of env f.env (d ∷ ds) (first_of_words ws) span.last g span.aside) ws span.words span.lettered in (
           length env.objects,
           o,

@@ -149,13 +149,15 @@ module _ (f : Known) where
         (spread_params ps lo h.0 (s.in_words scope owner ws ++ d ∷ after) w.4 h.3 l.0 (nil_left _ _ z)
         (around_both lo h.0 (s.in_words scope owner ws) (d ∷ after) (from_around lo h.0 h.1 _ h.4 (from_lies f _ _ h.1 h.2 h.1 _ (itself h.1) words.lie))
         (record { behind = omega (arith, h.4, some); outside = inr (omega (arith, h.4, some)) }, around_inner lo hi lo h.0 after (itself lo) (omega (arith, h.4, own, h.6)) r)))
-        (plain_spread (s.in_words scope owner ws) (d ∷ after) (plain_words f scope owner ws (nil_right (rules.faults_of_params f.env f.model f.bodies ps) _ z))))
-        (record {
-          last = h.2;
-          words = tight_words ws h.1 h.2 h.5;
-          lettered = l.1;
-          aside = (record { from = inr refl; away = (λ at p q e. omega (arith, p, e)) }, around_aside first h.2 after (around_inner lo hi first h.2 after (omega (arith, before, h.4, some)) h.6 r));
-        }, tt)
+        (plain_spread (s.in_words scope owner ws) (d ∷ after) (plain_words f scope owner ws (nil_right (rules.faults_of_params f.env f.model f.bodies ps) _ z)))) (
+          record {
+            last = h.2;
+            words = tight_words ws h.1 h.2 h.5;
+            lettered = l.1;
+            aside = (record { from = inr refl; away = (λ at p q e. omega (arith, p, e)) }, around_aside first h.2 after (around_inner lo hi first h.2 after (omega (arith, before, h.4, some)) h.6 r));
+          },
+          tt,
+        )
     spread_params (t.params_and ps x ws (Some (t.named n at))) lo hi after w h l z r =
         let first = first_of_words ws in
         let d = s.declared scope owner n at at (s.aParameter ws) in
@@ -168,13 +170,15 @@ module _ (f : Known) where
         (spread_params ps lo h.0 (s.in_words scope owner ws ++ d ∷ after) w.4 h.3 l.0 (nil_left _ _ z)
         (around_both lo h.0 (s.in_words scope owner ws) (d ∷ after) (from_around lo h.0 h.1 _ h.4 (from_lies f _ _ h.1 h.2 h.1 _ (itself h.1) words.lie))
         (record { behind = omega (arith, h.4, own, h.6.0); outside = inr (omega (arith, h.4, own, h.6.0)) }, around_inner lo hi lo h.0 after (itself lo) (omega (arith, h.4, own, h.6.0, h.6.1)) r)))
-        (plain_spread (s.in_words scope owner ws) (d ∷ after) (plain_words f scope owner ws (nil_right (rules.faults_of_params f.env f.model f.bodies ps) _ z))))
-        (record {
-          last = h.2;
-          words = tight_words ws h.1 h.2 h.5;
-          lettered = l.1;
-          aside = (record { from = inl (omega (arith, h.6.0)); away = (λ x p q e. omega (arith, q, e, h.6.0)) }, around_aside first h.2 after (around_inner lo hi first h.2 after (omega (arith, before, h.4, some)) (omega (arith, h.6.0, h.6.1)) r));
-        }, tt)
+        (plain_spread (s.in_words scope owner ws) (d ∷ after) (plain_words f scope owner ws (nil_right (rules.faults_of_params f.env f.model f.bodies ps) _ z)))) (
+          record {
+            last = h.2;
+            words = tight_words ws h.1 h.2 h.5;
+            lettered = l.1;
+            aside = (record { from = inl (omega (arith, h.6.0)); away = (λ x p q e. omega (arith, q, e, h.6.0)) }, around_aside first h.2 after (around_inner lo hi first h.2 after (omega (arith, before, h.4, some)) (omega (arith, h.6.0, h.6.1)) r));
+          },
+          tt,
+        )
 
     -- behind a function's name, which stands before its parameters
     spread_parameters : (ps : t.Parameters) (at k : ℕ) (d : s.Declared) (rest : List s.Declared) → d.at ≡ at → d.from ≡ suc (close_of ps) → ShapedParameters names ps → InParameters (suc at) ps k → LetteredParameters ps →
@@ -324,7 +328,7 @@ module _ (f : Known) where
       let g = h.2 in
       let own = nil_right (rules.faults_of_items f.env f.model f.bodies is) _ l in
       let placed = placed_function f (sh.file_names is) (s.count_bodies is) ws n at ps ats a z ss g.0 g.1 g.2 h.0 hi w.1.0 g.3 g.4 g.5 g.6 g.7
-          (nil_right (rules.faults_of_words f.env f.model f.bodies ws ++ rules.faults_of_parameters f.env f.model f.bodies ps) _ own) in
+      (nil_right (rules.faults_of_words f.env f.model f.bodies ws ++ rules.faults_of_parameters f.env f.model f.bodies ps) _ own) in
       let ends = placed.ordered in
       let mine = s.in_function (s.count_bodies is) ws n at ps (t.bBlock a ss z) in
       spread_both (s.in_items is) mine after
