@@ -1,6 +1,6 @@
 -- The typed tree of a source that breaks no rule, and whose tokens rise, keeps its facts.
 use Rattle.std.proofs.Common.{◌≡◌, ℕ, zero, suc, ◌≤◌, ◌+◌, Bool, true, false, if◌then◌else◌, List, [], ◌∷◌, ◌++◌, length, map, append-nil, append_assoc, Option, None, Some, refl, ap, sym, ◌∙◌, subst, arith}
-use Rattle.std.specs.Prelude.{slice_get, nat_eq}
+use Rattle.std.specs.Prelude.{slice_get}
 use Rattle.std.proofs.lemmas.Bool.{eqb-true}
 use Rattle.lv_base.specs.declared.kind.Model.{Model}
 use Rattle.c_run.specs.Breaking.{Broken}
@@ -41,7 +41,7 @@ use Rattle.offset_laws.proofs.Whole.{up_to}
 use Rattle.source_laws.specs.Laws.{TokensRise}
 use Rattle.body_laws.specs.Held.{HeldIn, BodiesHeld, HeldSymbol, HeldSigns}
 use Rattle.body_laws.specs.Laws.{SourcesTyped, ProgramsTyped}
-use Rattle.body_laws.specs.Short.{AreShort, elements_of}
+use Rattle.body_laws.specs.Short.{AreShort}
 use Rattle.body_laws.specs.Told.{IsShort, Told}
 use Rattle.body_laws.proofs.Bodies.{AllStand, stand_left, stand_right, statements_fit}
 use Rattle.body_laws.proofs.Entries.{all_at, all_for, all_stand}
@@ -65,14 +65,6 @@ short_at env model number [] h zero o e = cc
 short_at env model number [] h (suc n) o e = cc
 short_at env model number (x ∷ os) h zero o e = subst (λ p. IsShort p.length) (one_of x o e) (length_short x.length h.0)
 short_at env model number (x ∷ os) h (suc n) o e = short_at env model (suc number) os h.1 n o e
-
-size_more : (b : Bool) (l n : ℕ) → nat_eq l 0 ≡ b → (if b then 1 else l) + n ≤ 1024 → (l ≤ 1024) × (n ≤ 1024)
-size_more true l n e h = (let q = eqb-true l 0 e in omega (arith, q), omega (arith, h))
-size_more false l n e h = (omega (arith, h), omega (arith, h))
-
-elements_short : (os : List v.Object) → elements_of os ≤ 1024 → AreShort os
-elements_short [] h = tt
-elements_short (o ∷ os) h = let q = size_more (nat_eq o.length 0) o.length (elements_of os) refl h in (q.0, elements_short os q.1)
 
 -- ---- Names with letters
 
@@ -208,5 +200,5 @@ or_left [] ys h = refl
 or_left (x ∷ xs) ys h = cc
 
 pub programs_typed_are : TokensRise → SourcesTyped → ProgramsTyped
-programs_typed_are rise typed source list tree model tokens denotes good few =
-    typed (signs_of list) (tree_of tree) model denotes (rise source list tokens) (tokens_held model source list tokens) (or_left _ _ good) (elements_short (el.elaborated (tree_of tree) model).objects few)
+programs_typed_are rise typed source list tree model tokens denotes good short =
+    typed (signs_of list) (tree_of tree) model denotes (rise source list tokens) (tokens_held model source list tokens) (or_left _ _ good) short

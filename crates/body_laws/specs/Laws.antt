@@ -17,7 +17,7 @@ use Rattle.fit_laws.specs.Laws.{Unnamed}
 use Rattle.offset_laws.specs.Laws.{IsRight}
 use Rattle.offset_laws.specs.Rising.{Rises}
 use Rattle.body_laws.specs.Held.{Held, HeldSigns}
-use Rattle.body_laws.specs.Short.{AreShort, elements_of}
+use Rattle.body_laws.specs.Short.{AreShort}
 use Rattle.body_laws.specs.Told.{Told}
 
 -- each value has the kind that its place asks for
@@ -31,5 +31,5 @@ SourcesTyped = (tokens : List Sign) → (items : Items) → (model : Model) → 
 
 -- from the bytes on
 abbrev pub ProgramsTyped : Type 0
-ProgramsTyped = (source : List ℕ) → (list : List Token) → (tree : Tree) → (model : Model) → Tokens source list → Denotes list tree → Good (tree_of tree) model → elements_of (elaborated (tree_of tree) model).objects ≤ 1024 →
+ProgramsTyped = (source : List ℕ) → (list : List Token) → (tree : Tree) → (model : Model) → Tokens source list → Denotes list tree → Good (tree_of tree) model → AreShort (elaborated (tree_of tree) model).objects →
     IsTyped (elaborated (tree_of tree) model)

@@ -16,7 +16,7 @@ pub fn values_typed()
 /// The typed tree of a source that breaks no rule of names, types, calls, constants and cases keeps the facts of its type: its
 /// numbers of objects and functions are there, each value has the kind that its place asks for, each call has the parameters of
 /// its function, and there is one `main`. Its tokens are to rise, their names to have letters and their constants to be values
-/// of their kinds, and no array is to have more elements than all objects of a program may have.
+/// of their kinds, and no array is to have more than 1,024 elements.
 pub fn sources_typed()
     ensures { SourcesTyped }
 {
@@ -26,8 +26,7 @@ pub fn sources_typed()
     main_found();
 }
 
-/// So does that of a source that breaks no rule at all, from its bytes on, where its objects have at most 1,024 elements
-/// together.
+/// So does that of a source that breaks no rule at all, from its bytes on, where no array has more than 1,024 elements.
 pub fn programs_typed()
     ensures { ProgramsTyped }
 {
