@@ -65,22 +65,6 @@ fn name_text(name: &Text) -> &str {
     }
 }
 
-// `(a +int b)`
-#[cycle(show)]
-fn show_two(
-    out: &mut String,
-    a: &Value,
-    sign: &str,
-    kind: &str,
-    b: &Value,
-) -> Result<(), AllocError> {
-    out.push_str("(")?;
-    show_value(out, a)?;
-    write!(out, " {sign}{kind} ")?;
-    show_value(out, b)?;
-    out.push_str(")")
-}
-
 // `word(v)`
 #[cycle(show)]
 fn show_one(out: &mut String, sign: &str, word: &str, value: &Value) -> Result<(), AllocError> {
@@ -124,23 +108,6 @@ fn show_target(out: &mut String, target: &Target) -> Result<(), AllocError> {
     }
 }
 
-// `(t =kind v)`, or `(t int+=kind v)` where the operation is in a kind of its own
-#[cycle(show)]
-fn show_set(
-    out: &mut String,
-    target: &Target,
-    kind: &str,
-    sign: &str,
-    left: &str,
-    value: &Value,
-) -> Result<(), AllocError> {
-    out.push_str("(")?;
-    show_target(out, target)?;
-    write!(out, " {kind}{sign}={left} ")?;
-    show_value(out, value)?;
-    out.push_str(")")
-}
-
 // `(++kind t)`, or `(t ++kind)`
 #[cycle(show)]
 fn show_change(
@@ -176,25 +143,6 @@ fn show_call(
     write!(out, "):{kind}")
 }
 
-// `(c ?kind a : b)`
-#[cycle(show)]
-fn show_choice(
-    out: &mut String,
-    kind: Option<Kind>,
-    test: &Value,
-    a: &Value,
-    b: &Value,
-) -> Result<(), AllocError> {
-    let kind = result_text(kind);
-    out.push_str("(")?;
-    show_value(out, test)?;
-    write!(out, " ?{kind} ")?;
-    show_value(out, a)?;
-    out.push_str(" : ")?;
-    show_value(out, b)?;
-    out.push_str(")")
-}
-
 /// Writes a value.
 #[cycle(show)]
 pub fn show_value(out: &mut String, value: &Value) -> Result<(), AllocError> {
@@ -209,20 +157,53 @@ pub fn show_value(out: &mut String, value: &Value) -> Result<(), AllocError> {
         Value::Negate(kind, _, v) => show_one(out, "-", kind_text(*kind), v),
         Value::Complement(kind, _, v) => show_one(out, "~", kind_text(*kind), v),
         Value::Not(v) => show_one(out, "!", "", v),
-        Value::Binary(op, kind, _, a, b) => show_two(out, a, sign_text(*op), kind_text(*kind), b),
-        Value::Both(a, b) => show_two(out, a, "&&", "", b),
-        Value::Either(a, b) => show_two(out, a, "||", "", b),
-        Value::Cond(kind, test, a, b) => show_choice(out, *kind, test, a, b),
-        Value::Assign(kind, _, target, v) => show_set(out, target, "", "", kind_text(*kind), v),
+        // `(a +int b)`
+        Value::Binary(op, kind, _, a, b) => {
+            out.push_str("(")?;
+            show_value(out, a)?;
+            show_sign(out, sign_text(*op), kind_text(*kind))?;
+            show_value(out, b)?;
+            out.push_str(")")
+        }
+        Value::Both(a, b) => {
+            out.push_str("(")?;
+            show_value(out, a)?;
+            show_sign(out, "&&", "")?;
+            show_value(out, b)?;
+            out.push_str(")")
+        }
+        Value::Either(a, b) => {
+            out.push_str("(")?;
+            show_value(out, a)?;
+            show_sign(out, "||", "")?;
+            show_value(out, b)?;
+            out.push_str(")")
+        }
+        // `(c ?kind a : b)`
+        Value::Cond(kind, test, a, b) => {
+            out.push_str("(")?;
+            show_value(out, test)?;
+            show_sign(out, "?", result_text(*kind))?;
+            show_value(out, a)?;
+            show_sign(out, ":", "")?;
+            show_value(out, b)?;
+            out.push_str(")")
+        }
+        // `(t =kind v)`
+        Value::Assign(kind, _, target, v) => {
+            out.push_str("(")?;
+            show_target(out, target)?;
+            show_sign(out, "=", kind_text(*kind))?;
+            show_value(out, v)?;
+            out.push_str(")")
+        }
+        // `(t int+=kind v)`, where the operation is in a kind of its own
         Value::Update(op, kind, left, _, target, v) => {
-            show_set(
-                out,
-                target,
-                kind_text(*kind),
-                sign_text(*op),
-                kind_text(*left),
-                v,
-            )
+            out.push_str("(")?;
+            show_target(out, target)?;
+            show_update(out, kind_text(*kind), sign_text(*op), kind_text(*left))?;
+            show_value(out, v)?;
+            out.push_str(")")
         }
         Value::Change(before, by, kind, _, target) => show_change(out, *before, *by, *kind, target),
         Value::Call(kind, _, _, function, values) => show_call(out, *kind, *function, values),
@@ -237,6 +218,16 @@ pub fn show_value(out: &mut String, value: &Value) -> Result<(), AllocError> {
             out.push_str(")")
         }
     }
+}
+
+// ` +int `
+fn show_sign(out: &mut String, sign: &str, kind: &str) -> Result<(), AllocError> {
+    write!(out, " {sign}{kind} ")
+}
+
+// ` int+=kind `
+fn show_update(out: &mut String, kind: &str, sign: &str, left: &str) -> Result<(), AllocError> {
+    write!(out, " {kind}{sign}={left} ")
 }
 
 fn show_kind(out: &mut String, kind: Kind) -> Result<(), AllocError> {
@@ -290,21 +281,16 @@ pub fn show_steps(out: &mut String, steps: &[Step]) -> Result<(), AllocError> {
     out.push_str("} ")
 }
 
-#[cycle(steps)]
-fn show_for(
+// What stands in a `for` behind its first part.
+fn show_for_rest(
     out: &mut String,
-    start: &[Step],
     test: &Option<Box<Value>>,
     third: &Option<Box<Value>>,
-    body: &Step,
 ) -> Result<(), AllocError> {
-    out.push_str("for ")?;
-    show_steps(out, start)?;
     show_some(out, test)?;
     out.push_str("; ")?;
     show_some(out, third)?;
-    out.push_str("; ")?;
-    show_step(out, body)
+    out.push_str("; ")
 }
 
 // A statement without statements in it.
@@ -338,35 +324,38 @@ fn show_labelled(out: &mut String, label: &str, step: &Step) -> Result<(), Alloc
 }
 
 #[cycle(steps)]
-fn show_guarded(
-    out: &mut String,
-    word: &str,
-    kind: &str,
-    value: &Value,
-    step: &Step,
-) -> Result<(), AllocError> {
-    show_guard(out, word, kind, value)?;
-    show_step(out, step)
-}
-
-#[cycle(steps)]
 fn show_step(out: &mut String, step: &Step) -> Result<(), AllocError> {
     match step {
         Step::Block(steps) => show_steps(out, steps),
-        Step::If(test, s) => show_guarded(out, "if", "", test, s),
+        Step::If(test, s) => {
+            show_guard(out, "if", "", test)?;
+            show_step(out, s)
+        }
         Step::IfElse(test, a, b) => {
-            show_guarded(out, "if", "", test, a)?;
+            show_guard(out, "if", "", test)?;
+            show_step(out, a)?;
             out.push_str("else ")?;
             show_step(out, b)
         }
-        Step::While(_, test, s) => show_guarded(out, "while", "", test, s),
-        Step::Switch(_, kind, v, s) => show_guarded(out, "switch ", kind_text(*kind), v, s),
+        Step::While(_, test, s) => {
+            show_guard(out, "while", "", test)?;
+            show_step(out, s)
+        }
+        Step::Switch(_, kind, v, s) => {
+            show_guard(out, "switch ", kind_text(*kind), v)?;
+            show_step(out, s)
+        }
         Step::Do(_, s, test) => {
             out.push_str("do ")?;
             show_step(out, s)?;
             show_guard(out, "while", "", test)
         }
-        Step::For(_, start, test, third, s) => show_for(out, start, test, third, s),
+        Step::For(_, start, test, third, s) => {
+            out.push_str("for ")?;
+            show_steps(out, start)?;
+            show_for_rest(out, test, third)?;
+            show_step(out, s)
+        }
         Step::Case(_, n, s) => {
             write!(out, "case {n}: ")?;
             show_step(out, s)
