@@ -4,8 +4,8 @@ use Rattle.parse_stack.specs.declared.fail.StepFail.{StepFail}
 use Rattle.parse_stack.specs.declared.fail.StepFail.TheVariants as fail
 use Rattle.parse_machine.specs.Contexts as m
 use Rattle.parse_machine.specs.Declarations.{kept}
-use Rattle.parse_steps.specs.declared.modes.Mode.{Mode}
-use Rattle.parse_steps.specs.ModeView.{Gives, GivesTurn}
+use Rattle.parse_values.specs.declared.modes.Mode.{Mode}
+use Rattle.parse_values.specs.ModeView.{Gives, GivesTurn}
 
 pub kept_gives : (r : Result Mode StepFail) (names : List (List ℕ)) (o : Option m.Mode) → Gives r o → GivesTurn r names (kept names o)
 kept_gives (Ok s) names o h = ap (kept names) h

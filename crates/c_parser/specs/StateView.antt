@@ -11,14 +11,14 @@ use Rattle.parse_stack.specs.declared.fail.StepFail.{StepFail}
 use Rattle.parse_stack.specs.declared.fail.StepFail.TheVariants as fail
 use Rattle.parse_machine.specs.Contexts as m
 use Rattle.parse_machine.specs.Machine as ma
-use Rattle.parse_steps.specs.declared.modes.Mode.{Mode}
+use Rattle.parse_values.specs.declared.modes.Mode.{Mode}
 use Rattle.c_parser.specs.declared.externs.Extern.{Extern}
 use Rattle.c_parser.specs.declared.externs.Phase.{Phase}
 use Rattle.c_parser.specs.declared.externs.Phase.TheVariants as ph
 use Rattle.c_parser.specs.declared.externs.State.{State}
 use Rattle.c_parser.specs.declared.externs.Role.{Role}
 use Rattle.c_parser.specs.declared.externs.Role.TheVariants as ro
-use Rattle.parse_steps.specs.ModeView.{mode, Fails}
+use Rattle.parse_values.specs.ModeView.{mode, Fails}
 
 abbrev pub role_of : Role → ma.Role
 role_of ro.Listed = ma.listedRole

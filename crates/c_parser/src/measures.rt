@@ -1,13 +1,13 @@
 ghost use Rattle.std.specs.Prelude.{◌≡◌, ◌+◌};
 ghost use Rattle.parse_machine.specs.Heights as hi;
 ghost use Rattle.parse_stack.specs.View as v;
-ghost use Rattle.parse_steps.specs.ModeView.{fork, waiting, mode};
+ghost use Rattle.parse_values.specs.ModeView.{fork, waiting, mode};
 
 use parse_stack::{
     Declaring, Outer, above, around_high, attributed_high, attributes_height, declared_high, depth,
     inner_high, is_list, listing_high, parameters_high, place_depth,
 };
-use parse_steps::{Fork, Mode, Waiting};
+use parse_values::{Fork, Mode, Waiting};
 
 fn fork_high(f: &Fork, offsets: &[u32]) -> usize
     ensures { result ≡ hi.fork_high (fork f.now) offsets.now }

@@ -13,7 +13,7 @@ use c_lexer::Token;
 use c_tree::{BinaryOp, StorageWord, Symbol, Unit};
 use lv_base::{SourceFail, SourceFault};
 use parse_stack::StepFail;
-use parse_steps::Mode;
+use parse_values::Mode;
 use std::alloc::Global;
 use token_signs::sign_of;
 use typedef_names::Names;

@@ -3,13 +3,13 @@ ghost use Rattle.c_tree.specs.View.{statement};
 ghost use Rattle.parse_machine.specs.Tokens as tk;
 ghost use Rattle.parse_machine.specs.Statements as sm;
 ghost use Rattle.parse_stack.specs.View as v;
-ghost use Rattle.parse_steps.specs.ModeView.{GivesTurn};
+ghost use Rattle.parse_values.specs.ModeView.{GivesTurn};
 ghost use Rattle.c_parser.specs.Settling.{settled, SettlesTo, OtherwiseTo, IsShorter, IsShorterElse};
 
 use crate::statements::{step_begin, step_wait};
 use c_tree::{Statement, StatementWord, Symbol};
 use parse_stack::{Opening, Outer, OuterFrame, StepFail, Wrap, add_statement, wrapped};
-use parse_steps::{Mode, Waiting};
+use parse_values::{Mode, Waiting};
 use std::alloc::{AllocError, Global};
 use typedef_names::Names;
 

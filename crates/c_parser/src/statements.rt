@@ -8,7 +8,7 @@ ghost use Rattle.parse_machine.specs.Expressions as ex;
 ghost use Rattle.parse_machine.specs.Specifiers as sf;
 ghost use Rattle.parse_machine.specs.Statements as sm;
 ghost use Rattle.parse_stack.specs.View as v;
-ghost use Rattle.parse_steps.specs.ModeView.{Gives, GivesTurn, fork, waiting};
+ghost use Rattle.parse_values.specs.ModeView.{Gives, GivesTurn, fork, waiting};
 ghost use Rattle.parse_steps.specs.Keeping.{KeepsNames};
 
 use c_tree::{
@@ -21,8 +21,9 @@ use parse_stack::{
     Place, Spoken, StepFail, Test, Wrap, add_word, is_list, no_parts, push, push_outer, rooted,
     unspoken,
 };
-use parse_steps::{
-    Fork, Mode, Skip, Waiting, begin_in, function_of, step_maybe, step_operand, step_specs, whole,
+use parse_steps::step_specs;
+use parse_values::{
+    Fork, Mode, Skip, Waiting, begin_in, function_of, step_maybe, step_operand, whole,
 };
 use std::alloc::{AllocError, Global};
 use typedef_names::Names;

@@ -6,7 +6,7 @@ ghost use Rattle.parse_machine.specs.Making as mk;
 ghost use Rattle.parse_machine.specs.Specifiers as sf;
 ghost use Rattle.parse_machine.specs.Steps as st;
 ghost use Rattle.parse_stack.specs.View as v;
-ghost use Rattle.parse_steps.specs.ModeView.{Gives, GivesTurn, Keeps, mode};
+ghost use Rattle.parse_values.specs.ModeView.{Gives, GivesTurn, Keeps, mode};
 ghost use Rattle.c_parser.specs.Skipping.{SkipsTo, IsNear};
 ghost use Rattle.c_tree.specs.declared.symbol.Bracket.TheVariants as br;
 
@@ -17,10 +17,10 @@ use parse_stack::{
     Around, Attributed, FunctionHead, Place, StepFail, add_attribute, add_word, unspoken,
 };
 use parse_steps::{
-    Mode, Skip, step_behind, step_constant, step_enumeration, step_listed, step_maybe, step_named,
-    step_next, step_operand, step_parameter, step_parameters, step_sizeof, step_specs, step_tagged,
-    step_value,
+    step_behind, step_constant, step_enumeration, step_listed, step_named, step_next,
+    step_parameter, step_parameters, step_specs, step_tagged,
 };
+use parse_values::{Mode, Skip, step_maybe, step_operand, step_sizeof, step_value};
 use std::alloc::Global;
 use typedef_names::Names;
 

@@ -169,6 +169,7 @@ module _ (rows : List (List ℕ)) (watches : List Watch) (lists : List (List ℕ
         firsts = s.firsts;
         seconds = s.seconds;
         numbers = s.numbers;
+        pairs = s.pairs;
         two = s.two;
         one = s.one;
         top = λ z h. (let q = s.top z h in omega (arith, q));

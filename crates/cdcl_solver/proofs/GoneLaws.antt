@@ -45,6 +45,7 @@ module _ (rows : List (List ℕ)) (watches : List Watch) (L : ℕ → ℕ → Bo
     firsts = λ k h. (let b = s.firsts k h in omega (arith, b, wide));
     seconds = λ k h. (let b = s.seconds k h in omega (arith, b, wide));
     numbers = s.numbers;
+    pairs = s.pairs;
     two = λ k r g n. (let w = s.two k r g n in record {
       in_first = w.in_first;
       in_second = w.in_second;

@@ -29,24 +29,29 @@ use Rattle.watched_clauses.specs.Judge.{first_of, second_of}
 use Rattle.watched_clauses.specs.Watching.{lists_in, waits_in, Excused, Watched, Alone, Watching, Linked}
 use Rattle.watched_clauses.specs.Kept.{KeepsWatch, IsLinked}
 use Rattle.watched_clauses.proofs.WatchLaws.{excused_cases, excused_true, watched_by}
+use Rattle.watched_clauses.proofs.JudgeLaws.{pair_cases, pair_from}
 use Rattle.watched_clauses.proofs.QueueLaws.{linked_is, level_negation, watching_push}
 use Rattle.conflict_analysis.specs.Walk.{first_entries, AreAbove, IsTaught}
 use Rattle.cdcl_solver.specs.Stops.{trail_entries}
 use Rattle.cdcl_solver.specs.Learning.{IsHighest, with_watch}
 use Rattle.cdcl_solver.proofs.GoneLaws.{watching_back, gone_back, gone_wide, gone_set, gone_at, gone_old, gone_still, gone_stays}
-use Rattle.cdcl_solver.proofs.ListLaws.{get_push, get_lt, first_old, second_old, first_new, second_new, with_grow, with_first, with_second, with_back}
+use Rattle.cdcl_solver.proofs.ListLaws.{get_push, get_lt, first_old, second_old, first_new, second_new, pair_old, pair_new, two_all, with_grow, with_first, with_second, with_back}
 
 take_in : (xs : List ℕ) (i k : ℕ) → listed (take i xs) k ≡ true → listed xs k ≡ true
 take_in xs i k h = subst (λ w. listed w k ≡ true) (take-append-drop i xs) (listed_left (take i xs) (drop i xs) k h)
 
 -- one more clause is watched
-pub watching_add : (rows : List (List ℕ)) (watches : List Watch) (lists : List (List ℕ)) (truth : List Bool) (levels queue : List ℕ) (level : ℕ) (r : List ℕ) (w : Watch) → w.first < length lists → w.second < length lists → length lists ≡ length truth → ((z : ℕ) → listed r z ≡ true → z < length truth) → listed r w.first ≡ true → is_true truth w.first ≡ true → is_true truth (negation w.first) ≡ false → (nat_eq w.first w.second ≡ true → ((z : ℕ) → listed r z ≡ true → z ≡ w.first) × (level_of levels w.first ≡ 0)) → (nat_eq w.first w.second ≡ false → (listed r w.second ≡ true) × (level_of levels w.first ≤ level_of levels w.second)) → Watching rows watches (lists_in lists) (waits_in queue) truth levels level queue → Watching (rows ++ (r ∷ [])) (watches ++ (w ∷ [])) (lists_in (with_watch lists w (length rows))) (waits_in queue) truth levels level queue
-watching_add rows watches lists truth levels queue level r w lt lt2 all small in_first holds holds_not one' two' s = record {
+pub watching_add : (rows : List (List ℕ)) (watches : List Watch) (lists : List (List ℕ)) (truth : List Bool) (levels queue : List ℕ) (level : ℕ) (r : List ℕ) (w : Watch) → w.first < length lists → w.second < length lists → length lists ≡ length truth → ((z : ℕ) → listed r z ≡ true → z < length truth) → listed r w.first ≡ true → is_true truth w.first ≡ true → is_true truth (negation w.first) ≡ false → (nat_eq w.first w.second ≡ true → ((z : ℕ) → listed r z ≡ true → z ≡ w.first) × (level_of levels w.first ≡ 0)) → (nat_eq w.first w.second ≡ false → (listed r w.second ≡ true) × (level_of levels w.first ≤ level_of levels w.second)) → (w.pair ≡ true → (z : ℕ) → listed r z ≡ true → (z ≡ w.first) ⊎ (z ≡ w.second)) → Watching rows watches (lists_in lists) (waits_in queue) truth levels level queue → Watching (rows ++ (r ∷ [])) (watches ++ (w ∷ [])) (lists_in (with_watch lists w (length rows))) (waits_in queue) truth levels level queue
+watching_add rows watches lists truth levels queue level r w lt lt2 all small in_first holds holds_not one' two' pair' s = record {
   paired = omega (arith, length-append watches (w ∷ []), length-append rows (r ∷ []), s.paired);
   below = λ k x z g h. elim (get_push rows r k x g) [ inl p ↦ s.below k x z p.0 h | inr p ↦ small z (subst (λ c. listed c z ≡ true) p.1 h) ];
   firsts = λ k h. elim (cases_lt k (length watches)) [ inl a ↦ subst (λ z. z < length truth) (sym (first_old watches w k a)) (s.firsts k a) | inr a ↦ subst (λ z. z < length truth) (sym (first_new watches w k (omega (arith, a, h, length-append watches (w ∷ []))))) (omega (arith, lt, all)) ];
   seconds = λ k h. elim (cases_lt k (length watches)) [ inl a ↦ subst (λ z. z < length truth) (sym (second_old watches w k a)) (s.seconds k a) | inr a ↦ subst (λ z. z < length truth) (sym (second_new watches w k (omega (arith, a, h, length-append watches (w ∷ []))))) (omega (arith, lt2, all)) ];
   numbers = λ x k h. elim (with_back lists w (length rows) lt lt2 x k h) [ inl a ↦ (let q = s.numbers x k a in omega (arith, q, length-append rows (r ∷ []))) | inr a ↦ omega (arith, a, length-append rows (r ∷ [])) ];
+  pairs = λ k x g. pair_from (watches ++ (w ∷ [])) k x (λ t z h. elim (get_push rows r k x g) [
+    | inl p ↦ (let a : k < length watches = omega (arith, p.1, s.paired) in elim (pair_cases watches k x (s.pairs k x p.0) (sym (pair_old watches w k a) ∙ t) z h) [ inl q ↦ inl (q ∙ sym (first_old watches w k a)) | inr q ↦ inr (q ∙ sym (second_old watches w k a)) ])
+    | inr p ↦ (let e : k ≡ length watches = omega (arith, p.0, s.paired) in elim (pair' (sym (pair_new watches w k e) ∙ t) z (subst (λ c. listed c z ≡ true) p.1 h)) [ inl q ↦ inl (q ∙ sym (first_new watches w k e)) | inr q ↦ inr (q ∙ sym (second_new watches w k e)) ])
+  ]);
   two = λ k x g n. elim (get_push rows r k x g) [
     | inl p ↦ (let a : k < length watches = omega (arith, p.1, s.paired) in
         let n2 = subst (λ z. nat_eq (first_of watches k) z ≡ false) (second_old watches w k a) (subst (λ z. nat_eq z (second_of (watches ++ (w ∷ [])) k) ≡ false) (first_old watches w k a) n) in
@@ -273,8 +278,8 @@ module _ (vars : List ℕ) (rows : List (List ℕ)) (t : Trail) (level : ℕ) (l
           wide3 : length t3.truth.items ≡ 2 * length vars
           wide3 = ap length truth_is ∙ length-set t2.truth.items uip true ∙ wide2
 
-          pub new_kept : (w : Watch) (head2 : ℕ) → w.first ≡ uip → w.second ≡ second → head2 ≡ length t2.codes.items → KeepsWatch (rows ++ (clause ∷ [])) (watches ++ (w ∷ [])) (with_watch lists w number) t3 low head2
-          new_kept w head2 f_is s_is h_is =
+          pub new_kept : (w : Watch) (head2 : ℕ) → w.first ≡ uip → w.second ≡ second → w.pair ≡ nat_eq (length clause) 2 → head2 ≡ length t2.codes.items → KeepsWatch (rows ++ (clause ∷ [])) (watches ++ (w ∷ [])) (with_watch lists w number) t3 low head2
+          new_kept w head2 f_is s_is p_is h_is =
               let queue : drop head2 t3.codes.items ≡ uip ∷ [] = ap (drop head2) codes_is ∙ drop_at t2.codes.items (uip ∷ []) head2 (sym h_is) in
               let sm = uip_small in
               let ss = second_small in
@@ -294,6 +299,10 @@ module _ (vars : List ℕ) (rows : List (List ℕ)) (t : Trail) (level : ℕ) (l
                       let apart : second / 2 ≡ uip / 2 → ⊥ = λ eq. not_same second p.0 a.1 a.0 eq in
                       omega (arith, ap (level_of t3.levels.items) f_is, uip_level, ap (level_of t3.levels.items) s_is, level3 second apart, a.2)),
                 )
+              ])
+              (λ pt z hz. elim h.there [
+                | inl a ↦ inl (a.2 z hz ∙ sym f_is)
+                | inr a ↦ elim (two_all clause uip second (eqb-true (length clause) 2 (sym p_is ∙ pt)) in_clause a.1 (λ e. a.0 (sym e)) z hz) [ inl q ↦ inl (q ∙ sym f_is) | inr q ↦ inr (q ∙ sym s_is) ]
               ])
               pushed in
               let s1 = subst (λ n. Watching (rows ++ (clause ∷ [])) (watches ++ (w ∷ [])) (lists_in (with_watch lists w n)) (waits_in (uip ∷ [])) t3.truth.items t3.levels.items low (uip ∷ [])) (sym n_is) added in

@@ -1,10 +1,10 @@
 -- Lists with one more element, and the lists of those that watch.
-use Rattle.std.proofs.Common.{◌≡◌, ℕ, ◌+◌, ◌-◌, ◌<◌, ◌≤◌, Bool, true, false, cond, List, [], ◌∷◌, ◌++◌, Option, Some, None, slice_get, zero, suc, ◌⊎◌, inl, inr, refl, sym, ap, ◌∙◌, subst, arith, nat_eq, length, get_or, set, get_or-set_same, get_or-set_other, length-set, length-append}
-use Rattle.std.proofs.lemmas.Bool.{both_ways, eqb-true, eq-eqb, cases_Bool, cases_eq, cases_lt}
+use Rattle.std.proofs.Common.{◌≡◌, ℕ, ◌+◌, ◌-◌, ◌<◌, ◌≤◌, Bool, true, false, ◌||◌, cond, List, [], ◌∷◌, ◌++◌, Option, Some, None, slice_get, zero, suc, ◌⊎◌, inl, inr, refl, sym, ap, ◌∙◌, subst, arith, nat_eq, length, get_or, set, get_or-set_same, get_or-set_other, length-set, length-append}
+use Rattle.std.proofs.lemmas.Bool.{or_cases, both_ways, eqb-true, eq-eqb, cases_Bool, cases_eq, cases_lt}
 use Rattle.prop.specs.Trues.{listed}
 use Rattle.dense_trail.proofs.ValueLaws.{listed_append, listed_left, listed_last, listed_one}
 use Rattle.watched_clauses.specs.declared.looking.Watch.{Watch}
-use Rattle.watched_clauses.specs.Judge.{first_of, second_of, none_watched}
+use Rattle.watched_clauses.specs.Judge.{first_of, second_of, none_watched, pair_of}
 use Rattle.watched_clauses.specs.Watching.{lists_in}
 use Rattle.cdcl_solver.specs.Learning.{put_in, with_watch}
 
@@ -36,6 +36,12 @@ module _ (xs : List Watch) (w : Watch) (k : ℕ) where
 
   pub second_old : k < length xs → second_of (xs ++ (w ∷ [])) k ≡ second_of xs k
   second_old lt = ap (λ (z : Watch). z.second) (read_old xs w none_watched k lt)
+
+  pub pair_old : k < length xs → pair_of (xs ++ (w ∷ [])) k ≡ pair_of xs k
+  pair_old lt = ap (λ (z : Watch). z.pair) (read_old xs w none_watched k lt)
+
+  pub pair_new : k ≡ length xs → pair_of (xs ++ (w ∷ [])) k ≡ w.pair
+  pair_new e = ap (λ (z : Watch). z.pair) (read_new xs w none_watched k e)
 
   pub first_new : k ≡ length xs → first_of (xs ++ (w ∷ [])) k ≡ w.first
   first_new e = ap (λ (z : Watch). z.first) (read_new xs w none_watched k e)
@@ -94,3 +100,19 @@ module _ (lists : List (List ℕ)) (w : Watch) (m : ℕ) (lt : w.first < length 
       go : (b : Bool) → lists_in (cond b lists (put_in (put_in lists w.first m) w.second m)) x k ≡ true → (lists_in lists x k ≡ true) ⊎ (k ≡ m)
       go true h = inl h
       go false h = elim (put_back (put_in lists w.first m) w.second m x k second_in h) [ inl a ↦ put_back lists w.first m x k lt a | inr b ↦ inr b ]
+
+-- two different literals are all of a list of two
+pub two_all : (r : List ℕ) (a b : ℕ) → length r ≡ 2 → listed r a ≡ true → listed r b ≡ true → (a ≡ b → ⊥) → (z : ℕ) → listed r z ≡ true → (z ≡ a) ⊎ (z ≡ b)
+two_all [] a b e ha hb n z h = absurd (omega (arith, e))
+two_all (x ∷ []) a b e ha hb n z h = absurd (omega (arith, e))
+two_all (x ∷ y ∷ w ∷ r) a b e ha hb n z h = absurd (omega (arith, e))
+two_all (x ∷ y ∷ []) a b e ha hb n z h = elim (either z h) [
+  | inl p ↦ elim (either a ha) [ inl q ↦ inl (sym p ∙ q) | inr q ↦ elim (either b hb) [ inl s ↦ inr (sym p ∙ s) | inr s ↦ absurd (n (sym q ∙ s)) ] ]
+  | inr p ↦ elim (either a ha) [ inr q ↦ inl (sym p ∙ q) | inl q ↦ elim (either b hb) [ inr s ↦ inr (sym p ∙ s) | inl s ↦ absurd (n (sym q ∙ s)) ] ]
+]
+  where
+    either : (k : ℕ) → listed (x ∷ y ∷ []) k ≡ true → (x ≡ k) ⊎ (y ≡ k)
+    either k l = elim (or_cases (nat_eq x k) (nat_eq y k || false) l) [
+      | inl p ↦ inl (eqb-true x k p)
+      | inr p ↦ elim (or_cases (nat_eq y k) false p) [ inl q ↦ inr (eqb-true y k q) | inr q ↦ absurd (both_ways false refl q) ]
+    ]

@@ -31,13 +31,14 @@ use Rattle.watched_clauses.specs.Watching.{lists_in, waits_in, Excused, Watched,
 use Rattle.watched_clauses.specs.Kept.{KeepsWatch, IsLinked, IsFalse}
 use Rattle.watched_clauses.proofs.WatchLaws.{excused_waits}
 use Rattle.watched_clauses.proofs.PassLaws.{row_some}
+use Rattle.watched_clauses.proofs.JudgeLaws.{pair_cases, pair_from}
 use Rattle.watched_clauses.proofs.QueueLaws.{linked_implied, linked_set, row_has}
 use Rattle.conflict_analysis.specs.Walk.{RowsFit, IsTaught, first_entries}
 use Rattle.cdcl_solver.specs.Stops.{trail_entries}
 use Rattle.cdcl_solver.specs.Opening.{Built, AreUnits, UnitsMet}
 use Rattle.cdcl_solver.specs.Learning.{with_watch}
 use Rattle.cdcl_solver.specs.Search.{Rests}
-use Rattle.cdcl_solver.proofs.ListLaws.{first_old, second_old, first_new, second_new, with_length, with_grow, with_first, with_second, with_back}
+use Rattle.cdcl_solver.proofs.ListLaws.{first_old, second_old, first_new, second_new, pair_old, pair_new, two_all, with_length, with_grow, with_first, with_second, with_back}
 
 pub built_start : (rows : List (List ℕ)) (watches : List Watch) (lists : List (List ℕ)) (n : ℕ) → watches ≡ [] → length lists ≡ n → ((k : ℕ) → get_or lists k [] ≡ []) → Built rows watches lists n 0
 built_start rows watches lists n nil all empty = record {
@@ -50,6 +51,7 @@ built_start rows watches lists n nil all empty = record {
   in_second = λ k r lt g. absurd (omega arith);
   at_first = λ k lt n. absurd (omega arith);
   at_second = λ k lt n. absurd (omega arith);
+  pairs = λ k r lt g. absurd (omega arith);
   one = λ k r z lt g n h. absurd (omega arith);
 }
 
@@ -57,7 +59,7 @@ built_start rows watches lists n nil all empty = record {
 below_next : (k m : ℕ) → k < m + 1 → (k < m) ⊎ (k ≡ m)
 below_next k m lt = elim (cases_lt k m) [ inl a ↦ inl a | inr b ↦ inr (omega (arith, lt, b)) ]
 
-module _ (rows : List (List ℕ)) (watches : List Watch) (lists : List (List ℕ)) (n m : ℕ) (b : Built rows watches lists n m) (r : List ℕ) (get : slice_get rows m ≡ Some r) (w : Watch) (has_first : listed r w.first ≡ true) (has_second : listed r w.second ≡ true) (small : (z : ℕ) → listed r z ≡ true → z < n) (only : nat_eq w.first w.second ≡ true → (z : ℕ) → listed r z ≡ true → z ≡ w.first) where
+module _ (rows : List (List ℕ)) (watches : List Watch) (lists : List (List ℕ)) (n m : ℕ) (b : Built rows watches lists n m) (r : List ℕ) (get : slice_get rows m ≡ Some r) (w : Watch) (has_first : listed r w.first ≡ true) (has_second : listed r w.second ≡ true) (small : (z : ℕ) → listed r z ≡ true → z < n) (only : nat_eq w.first w.second ≡ true → (z : ℕ) → listed r z ≡ true → z ≡ w.first) (two' : w.pair ≡ true → (z : ℕ) → listed r z ≡ true → (z ≡ w.first) ⊎ (z ≡ w.second)) where
   pub push_first : w.first < length lists
   push_first = let q = small w.first has_first in omega (arith, q, b.all)
 
@@ -96,6 +98,10 @@ module _ (rows : List (List ℕ)) (watches : List Watch) (lists : List (List ℕ
       | inl a ↦ subst (λ z. lists_in (with_watch lists w m) z k ≡ true) (sym (old_second k a)) (with_grow lists w m push_first push_second (second_of watches k) k (b.at_second k a (subst (λ z. nat_eq (first_of watches k) z ≡ false) (old_second k a) (subst (λ z. nat_eq z (second_of (watches ++ (w ∷ [])) k) ≡ false) (old_first k a) f))))
       | inr e ↦ subst (λ z. lists_in (with_watch lists w m) z k ≡ true) (sym (new_second k e)) (subst (λ z. lists_in (with_watch lists w m) w.second z ≡ true) (sym e) (with_second lists w m push_first push_second (subst (λ z. nat_eq w.first z ≡ false) (new_second k e) (subst (λ z. nat_eq z (second_of (watches ++ (w ∷ [])) k) ≡ false) (new_first k e) f))))
     ];
+    pairs = λ k x lt g. pair_from (watches ++ (w ∷ [])) k x (λ t z h. elim (below_next k m lt) [
+      | inl a ↦ elim (pair_cases watches k x (b.pairs k x a g) (sym (pair_old watches w k (omega (arith, a, b.paired))) ∙ t) z h) [ inl p ↦ inl (p ∙ sym (old_first k a)) | inr p ↦ inr (p ∙ sym (old_second k a)) ]
+      | inr e ↦ elim (two' (sym (pair_new watches w k (omega (arith, e, b.paired))) ∙ t) z (subst (λ c. listed c z ≡ true) (sym (same_row k x e g)) h)) [ inl p ↦ inl (p ∙ sym (new_first k e)) | inr p ↦ inr (p ∙ sym (new_second k e)) ]
+    ]);
     one = λ k x z lt g f h. elim (below_next k m lt) [
       | inl a ↦ b.one k x z a g (subst (λ y. nat_eq (first_of watches k) y ≡ true) (old_second k a) (subst (λ y. nat_eq y (second_of (watches ++ (w ∷ [])) k) ≡ true) (old_first k a) f)) h ∙ sym (old_first k a)
       | inr e ↦ only (subst (λ y. nat_eq w.first y ≡ true) (new_second k e) (subst (λ y. nat_eq y (second_of (watches ++ (w ∷ [])) k) ≡ true) (new_first k e) f)) z (subst (λ c. listed c z ≡ true) (sym (same_row k x e g)) h) ∙ sym (new_first k e)
@@ -188,6 +194,7 @@ module _ (clauses : List (List Lit)) (vars : List ℕ) (rows : List (List ℕ)) 
       firsts = λ k lt. (let q = b.firsts k (omega (arith, lt, b.paired)) in omega (arith, q, t.wide, l.wide));
       seconds = λ k lt. (let q = b.seconds k (omega (arith, lt, b.paired)) in omega (arith, q, t.wide, l.wide));
       numbers = b.numbers;
+      pairs = λ k r g. b.pairs k r (lt_of rows k r g) g;
       two = λ k r g n. (let lt = lt_of rows k r g in record {
         in_first = b.in_first k r lt g;
         in_second = b.in_second k r lt g;
@@ -276,9 +283,9 @@ first_in [] n = absurd (n refl)
 first_in (x ∷ r) n = or_left _ _ (eq-eqb x x refl)
 
 -- the next clause watches its first literal and another one
-module _ (rows : List (List ℕ)) (watches : List Watch) (lists : List (List ℕ)) (n m : ℕ) (b : Built rows watches lists n m) (r : List ℕ) (get : slice_get rows m ≡ Some r) (some' : (k : ℕ) → slice_get rows k ≡ Some [] → ⊥) (below : (k : ℕ) (r : List ℕ) (z : ℕ) → slice_get rows k ≡ Some r → listed r z ≡ true → z < n) (second : ℕ) (other : ((second ≡ get_or r 0 0) × ((z : ℕ) → listed r z ≡ true → z ≡ get_or r 0 0)) ⊎ ((second ≡ get_or r 0 0 → ⊥) × (listed r second ≡ true))) where
+module _ (rows : List (List ℕ)) (watches : List Watch) (lists : List (List ℕ)) (n m : ℕ) (b : Built rows watches lists n m) (r : List ℕ) (get : slice_get rows m ≡ Some r) (some' : (k : ℕ) → slice_get rows k ≡ Some [] → ⊥) (below : (k : ℕ) (r : List ℕ) (z : ℕ) → slice_get rows k ≡ Some r → listed r z ≡ true → z < n) (second : ℕ) (other : ((second ≡ get_or r 0 0) × ((z : ℕ) → listed r z ≡ true → z ≡ get_or r 0 0)) ⊎ ((second ≡ get_or r 0 0 → ⊥) × (listed r second ≡ true))) (pair : Bool) (two' : pair ≡ nat_eq (length r) 2) where
   abbrev w : Watch
-  w = record { first = get_or r 0 0; second = second }
+  w = record { first = get_or r 0 0; second = second; pair = pair }
 
   has_first : listed r (get_or r 0 0) ≡ true
   has_first = first_in r (λ e. some' m (subst (λ z. slice_get rows m ≡ Some z) e get))
@@ -289,14 +296,17 @@ module _ (rows : List (List ℕ)) (watches : List Watch) (lists : List (List ℕ
   only : nat_eq (get_or r 0 0) second ≡ true → (z : ℕ) → listed r z ≡ true → z ≡ get_or r 0 0
   only e z h = elim other [ inl p ↦ p.1 z h | inr p ↦ absurd (p.0 (sym (eqb-true (get_or r 0 0) second e))) ]
 
+  both : pair ≡ true → (z : ℕ) → listed r z ≡ true → (z ≡ get_or r 0 0) ⊎ (z ≡ second)
+  both t z h = elim other [ inl p ↦ inl (p.1 z h) | inr p ↦ two_all r (get_or r 0 0) second (eqb-true (length r) 2 (sym two' ∙ t)) has_first p.1 (λ e. p.0 (sym e)) z h ]
+
   pub watch_first : get_or r 0 0 < length lists
-  watch_first = push_first rows watches lists n m b r get w has_first has_second (λ z h. below m r z get h) only
+  watch_first = push_first rows watches lists n m b r get w has_first has_second (λ z h. below m r z get h) only both
 
   pub watch_second : second < length lists
-  watch_second = push_second rows watches lists n m b r get w has_first has_second (λ z h. below m r z get h) only
+  watch_second = push_second rows watches lists n m b r get w has_first has_second (λ z h. below m r z get h) only both
 
   pub watch_push : (watches2 : List Watch) (lists2 : List (List ℕ)) → watches2 ≡ watches ++ (w ∷ []) → lists2 ≡ with_watch lists w m → Built rows watches2 lists2 n (m + 1)
-  watch_push watches2 lists2 a c = subst (λ z. Built rows watches2 z n (m + 1)) (sym c) (subst (λ z. Built rows z (with_watch lists w m) n (m + 1)) (sym a) (built_push rows watches lists n m b r get w has_first has_second (λ z h. below m r z get h) only))
+  watch_push watches2 lists2 a c = subst (λ z. Built rows watches2 z n (m + 1)) (sym c) (subst (λ z. Built rows z (with_watch lists w m) n (m + 1)) (sym a) (built_push rows watches lists n m b r get w has_first has_second (λ z h. below m r z get h) only both))
 
 -- a read of a value, at the values of a loop
 pub read_at : (xs : List Bool) (i j : ℕ) (r b : Bool) → i ≡ j → j < length xs → r ≡ get_or xs i r → r ≡ b → is_true xs j ≡ b

@@ -1,5 +1,6 @@
 pub mod Stops
 pub mod Learning
+pub mod Joining
 pub mod Opening
 pub mod Search
 pub mod Pacing

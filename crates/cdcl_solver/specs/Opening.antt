@@ -4,7 +4,7 @@ use Rattle.prop.specs.Trues.{listed}
 use Rattle.dense_trail.specs.declared.Trail.{Trail}
 use Rattle.dense_trail.specs.Dense.{is_true}
 use Rattle.watched_clauses.specs.declared.looking.Watch.{Watch}
-use Rattle.watched_clauses.specs.Judge.{first_of, second_of}
+use Rattle.watched_clauses.specs.Judge.{first_of, second_of, IsPair}
 use Rattle.watched_clauses.specs.Watching.{lists_in}
 
 -- the first m clauses watch two different literals, where they have two; there are n codes
@@ -18,6 +18,7 @@ pub record Built (rows : List (List ℕ)) (watches : List Watch) (lists : List (
   pub in_second : (k : ℕ) (r : List ℕ) → k < m → slice_get rows k ≡ Some r → listed r (second_of watches k) ≡ true
   pub at_first : (k : ℕ) → k < m → nat_eq (first_of watches k) (second_of watches k) ≡ false → lists_in lists (first_of watches k) k ≡ true
   pub at_second : (k : ℕ) → k < m → nat_eq (first_of watches k) (second_of watches k) ≡ false → lists_in lists (second_of watches k) k ≡ true
+  pub pairs : (k : ℕ) (r : List ℕ) → k < m → slice_get rows k ≡ Some r → IsPair watches k r
   pub one : (k : ℕ) (r : List ℕ) (z : ℕ) → k < m → slice_get rows k ≡ Some r → nat_eq (first_of watches k) (second_of watches k) ≡ true → listed r z ≡ true → z ≡ first_of watches k
 
 -- a clause that watches nothing has one literal

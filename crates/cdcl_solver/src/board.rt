@@ -56,6 +56,41 @@ pub struct Settled {
     pub stop: Stop,
 }
 
+// Propagates and decides until a clause is false or all are met.
+fn run_on(
+    rows: &Rows,
+    watches: &mut [Watch],
+    lists: &mut WatchLists,
+    order: &mut Order,
+    trail: &mut Trail,
+    head: &mut usize,
+    level: &mut u32,
+) -> Result<Stop, AllocError>
+    requires watching { KeepsWatch rows.now watches.old lists.old trail.old level.old head.old }
+    requires within { head.old ≤ length trail.old.codes.items }
+    requires all { length lists.old ≡ length trail.old.truth.items }
+    requires deep { level.old ≤ length trail.old.codes.items }
+    requires ordered { length order.old.phases.items ≡ length trail.old.levels.items }
+    ensures watching { IfOk result (λ _. KeepsWatch rows.now watches.new lists.new trail.new level.new head.new) }
+    ensures within { IfOk result (λ _. head.new ≤ length trail.new.codes.items) }
+    ensures all { IfOk result (λ _. length lists.new ≡ length trail.new.truth.items) }
+    ensures deep { IfOk result (λ _. level.new ≤ length trail.new.codes.items) }
+    ensures ordered { IfOk result (λ _. length order.new.phases.items ≡ length trail.new.levels.items) }
+    ensures stop { IfOk result (λ s. (vars : List ℕ) → IsLinked vars rows.now level.old trail.old → IsLinked vars rows.now level.new trail.new × IsStop vars rows.now trail.new s) }
+{
+    'search: loop {
+        let clash = propagate(rows, watches, lists, trail, *level, head)?;
+        if let Some(number) = clash {
+            return Ok(Stop::Clash(number));
+        }
+        let Some(code) = choice(order, trail) else {
+            return Ok(Stop::AllMet);
+        };
+        trail.push(code, *level + 1, None)?;
+        *level += 1;
+    }
+}
+
 /// Propagates and decides until a clause is false or all are met.
 pub fn settle(board: Board) -> Result<Settled, AllocError>
     requires { length board.rows < 4294967296 }
@@ -71,46 +106,27 @@ pub fn settle(board: Board) -> Result<Settled, AllocError>
         mut head,
         mut level,
     } = board;
-    'search: loop {
-        let clash = propagate(
-            &rows,
-            &mut watches,
-            &mut lists,
-            &mut trail,
+    let stop = run_on(
+        &rows,
+        &mut watches,
+        &mut lists,
+        &mut order,
+        &mut trail,
+        &mut head,
+        &mut level,
+    )?;
+    Ok(Settled {
+        board: Board {
+            rows,
+            watches,
+            lists,
+            order,
+            trail,
+            head,
             level,
-            &mut head,
-        )?;
-        if let Some(number) = clash {
-            return Ok(Settled {
-                board: Board {
-                    rows,
-                    watches,
-                    lists,
-                    order,
-                    trail,
-                    head,
-                    level,
-                },
-                stop: Stop::Clash(number),
-            });
-        }
-        let Some(code) = choice(&mut order, &trail) else {
-            return Ok(Settled {
-                board: Board {
-                    rows,
-                    watches,
-                    lists,
-                    order,
-                    trail,
-                    head,
-                    level,
-                },
-                stop: Stop::AllMet,
-            });
-        };
-        trail.push(code, level + 1, None)?;
-        level += 1;
-    }
+        },
+        stop,
+    })
 }
 
 /// Takes values away until all that are left are of a level. Their variables may be decided again.

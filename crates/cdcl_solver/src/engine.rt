@@ -8,9 +8,8 @@ ghost use Rattle.watched_clauses.specs.Kept.{IsFalse};
 ghost use Rattle.cdcl_solver.specs.Stops.{IsStop, trail_entries};
 ghost use Rattle.cdcl_solver.specs.Search.{StateOf, Rests, IsTurn, IsEnding, IsLonger};
 
-use crate::board::{Board, Settled, Stop, go_back, settle, start_over};
-use crate::choosing::bump_all;
-use crate::learning::{add_watch, what_to_watch};
+use crate::board::{Board, Settled, Stop, settle, start_over};
+use crate::joining::join_learned;
 use crate::opening::{set_units, watch_all};
 use crate::pacing::{Pace, paced};
 use activity_heap::Order;
@@ -20,9 +19,6 @@ use dense_trail::Trail;
 use prop::{Assignment, Clauses};
 use resolution_log::{Chain, Log, Pairs, Rows, coded, variables};
 use std::alloc::{AllocError, Global};
-
-// There are fewer clauses than this, so that each is named by 32 bits.
-const MOST_CLAUSES: usize = 0xffff_ffff;
 
 /// The whole state between two conflicts.
 #[derive(Drop)]
@@ -63,18 +59,6 @@ pub enum Turn {
     Over(Ending),
 }
 
-// The number of the next clause, which has 32 bits.
-fn next_number(rows: &Rows) -> Result<u32, AllocError>
-    ensures value { IfOk result (λ n. n ≡ length rows.now) }
-    ensures few { IfOk result (λ n. n < 4294967295) }
-{
-    let number = rows.len();
-    if number >= MOST_CLAUSES {
-        return Err(AllocError);
-    }
-    Ok(number as u32)
-}
-
 // Learns from the conflict in the clause with this number, above the lowest level.
 fn learn_from(
     alloc: Global,
@@ -99,26 +83,18 @@ fn learn_from(
         pairs,
         pace,
     } = s;
-    let Board {
-        mut rows,
-        mut watches,
-        mut lists,
-        mut order,
-        mut trail,
-        level,
-        ..
-    } = board;
-    let a = analyze(alloc, &vars, &rows, &trail, level, &mut notes, k)?;
+    let a = analyze(
+        alloc,
+        &vars,
+        &board.rows,
+        &board.trail,
+        board.level,
+        &mut notes,
+        k,
+    )?;
     let total = pairs + a.pairs.len() as u64;
     let Some(uip) = a.uip else { unreachable!() };
-    let found = what_to_watch(&trail, notes.learnt.as_slice(), uip);
-    bump_all(&mut order, &trail, &notes, a.left);
-    go_back(&mut trail, &mut order, found.low)?;
-    let head = trail.codes.len();
-    let number = next_number(&rows)?;
-    trail.push(uip, found.low, Some(number))?;
-    add_watch(&mut watches, &mut lists, found.watch, number)?;
-    rows.push(notes.learnt.as_slice())?;
+    let next = join_learned(&vars, board, &notes, uip, a.left)?;
     log.push(Chain {
         first: k,
         pairs: a.pairs,
@@ -131,15 +107,7 @@ fn learn_from(
     }
     Ok(Turn::On(Solver {
         vars,
-        board: Board {
-            rows,
-            watches,
-            lists,
-            order,
-            trail,
-            head,
-            level: found.low,
-        },
+        board: next,
         notes,
         log,
         pairs: total,

@@ -30,7 +30,8 @@ fn is_higher(second: u32, uip: u32, level: u32, low: u32) -> bool
 /// Finds what a learned clause watches.
 pub fn what_to_watch(trail: &Trail, clause: &[u32], uip: u32) -> Highest
     requires { AllBelow (2 * length trail.now.levels.items) clause.now }
-    ensures { IsHighest trail.now.levels.items clause.now uip result.watch.first result.watch.second result.low }
+    ensures highest { IsHighest trail.now.levels.items clause.now uip result.watch.first result.watch.second result.low }
+    ensures pair { result.watch.pair ≡ nat_eq (length clause.now) 2 }
 {
     let mut second = uip;
     let mut low = 0;
@@ -46,7 +47,11 @@ pub fn what_to_watch(trail: &Trail, clause: &[u32], uip: u32) -> Highest
         low = level;
     }
     Highest {
-        watch: Watch { first: uip, second },
+        watch: Watch {
+            first: uip,
+            second,
+            pair: clause.len() == 2,
+        },
         low,
     }
 }

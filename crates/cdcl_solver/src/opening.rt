@@ -47,12 +47,12 @@ pub fn watch_all(alloc: Global, rows: &Rows, codes: usize) -> Result<Watches, Al
         let row = rows.row(number);
         let first = row[0];
         let second = other_code(row, first);
-        add_watch(
-            &mut watches,
-            &mut lists,
-            Watch { first, second },
-            number as u32,
-        )?;
+        let watch = Watch {
+            first,
+            second,
+            pair: row.len() == 2,
+        };
+        add_watch(&mut watches, &mut lists, watch, number as u32)?;
     }
     Ok(Watches { watches, lists })
 }

@@ -153,7 +153,28 @@ fn pigeons(rt: HostRuntime) -> Result<(), Fail> {
     Ok(())
 }
 
-// Both bodies answer alike, and each refutation goes through the checker.
+// How many pairs a refutation has.
+fn pair_count(answer: &Result<Answer, SolveFail>) -> u64 {
+    let mut count = 0u64;
+    if let Ok(Answer::Unsat(log)) = answer {
+        for chain in log.chains() {
+            count = count.saturating_add(chain.pairs.len() as u64);
+        }
+    }
+    count
+}
+
+// Whether both bodies answer alike, each refutation goes through the checker, and ours has at most twice the pairs.
+fn answers_alike(alloc: Global, clauses: &Clauses) -> bool {
+    let fast = solve(alloc, clauses, 100000);
+    let plain = plain_solver::solve(alloc, clauses, 100000);
+    if pair_count(&fast) > pair_count(&plain).saturating_mul(2) {
+        return false;
+    }
+    let answer = kind(alloc, clauses, fast);
+    answer.is_some() && answer == kind(alloc, clauses, plain)
+}
+
 #[test]
 fn both_bodies(rt: HostRuntime) -> Result<(), Fail> {
     let rows: [&[&[i64]]; 5] = [
@@ -165,18 +186,35 @@ fn both_bodies(rt: HostRuntime) -> Result<(), Fail> {
     ];
     for set in rows {
         let clauses = clauses_of(&rt, rt.alloc(), set)?;
-        let fast = solve(rt.alloc(), &clauses, 1000);
-        let plain = plain_solver::solve(rt.alloc(), &clauses, 1000);
-        let answer = kind(rt.alloc(), &clauses, fast);
-        assert!(rt; answer.is_some() && answer == kind(rt.alloc(), &clauses, plain));
+        assert!(rt; answers_alike(rt.alloc(), &clauses));
     }
-    for (pigeons, holes) in [(3, 3), (4, 3), (5, 4), (4, 5)] {
+    for (pigeons, holes) in [(3, 3), (4, 3), (5, 4), (6, 5), (4, 5)] {
         let clauses = pigeonhole(&rt, rt.alloc(), pigeons, holes)?;
-        let fast = solve(rt.alloc(), &clauses, 100000);
-        let plain = plain_solver::solve(rt.alloc(), &clauses, 100000);
-        let answer = kind(rt.alloc(), &clauses, fast);
-        assert!(rt; answer.is_some() && answer == kind(rt.alloc(), &clauses, plain));
+        assert!(rt; answers_alike(rt.alloc(), &clauses));
     }
+    Ok(())
+}
+
+// Whether an answer is a log of one chain, from this clause by these pairs.
+fn is_chain(answer: &Result<Answer, SolveFail>, first: u32, pairs: &[(u32, u32)]) -> bool {
+    match answer {
+        Ok(Answer::Spent(log)) => {
+            let chains = log.chains();
+            chains.len() == 1 && chains[0].first == first && chains[0].pairs.as_slice() == pairs
+        }
+        _ => false,
+    }
+}
+
+// The first decision is that 1 is false, so that 2 is true; the second that 5 is, the last of the heap. Then 3 is true, 4
+// is false by the last clause, and the third one is false. Without 4 it has -3, -2 and 1; since 1 alone implies 2, the
+// literal -2 is resolved away.
+#[test]
+fn implied_literal_goes(rt: HostRuntime) -> Result<(), Fail> {
+    let rows: &[&[i64]] = &[&[1, 2], &[5, 3], &[-3, -2, 1, 4], &[-3, -4]];
+    let clauses = clauses_of(&rt, rt.alloc(), rows)?;
+    let got = solve_within(rt.alloc(), &clauses, 1, 100);
+    assert!(rt; is_chain(&got, 2, &[(4, 3), (2, 0)]));
     Ok(())
 }
 

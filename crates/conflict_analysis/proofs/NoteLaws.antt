@@ -1,10 +1,9 @@
 -- The literals of a clause join, one after the other.
-use Rattle.std.proofs.Common.{◌≡◌, ℕ, ◌+◌, ◌-◌, ◌*◌, ◌/◌, ◌<◌, ◌≤◌, Bool, true, false, cond, not, ◌&&◌, ◌||◌, List, [], ◌∷◌, ◌++◌, Option, Some, None, zero, suc, ◌⊎◌, inl, inr, refl, sym, ap, ◌∙◌, subst, arith, nat_eq, nat_le, length, get_or, set, get_or-set_same, get_or-set_other, length-set}
-use Rattle.std.proofs.lemmas.Bool.{cases_Bool, both_ways, eqb-true, eq-eqb, ne_eqb, false_from_ne_true, or_cases, or_left, or_right, or_parts, and_parts, and_from, cases_eq, cases_lt, and_cases, not-true}
+use Rattle.std.proofs.Common.{◌≡◌, ℕ, ◌+◌, ◌*◌, ◌/◌, ◌<◌, ◌≤◌, Bool, true, false, cond, not, ◌&&◌, ◌||◌, List, [], ◌∷◌, ◌++◌, inl, inr, refl, sym, ap, ◌∙◌, subst, arith, nat_eq, length, get_or, set, get_or-set_same, get_or-set_other, length-set}
+use Rattle.std.proofs.lemmas.Bool.{cases_Bool, both_ways, eqb-true, eq-eqb, ne_eqb, false_from_ne_true, or_cases, or_left, or_right, and_parts, and_from, cases_eq, cases_lt, not-true}
 use Rattle.prop.specs.Trues.{listed}
-use Rattle.resolution_log.specs.Marks.{is_marked, AtMost}
+use Rattle.resolution_log.specs.Marks.{is_marked}
 use Rattle.resolution_log.proofs.Places.{bool_same}
-use Rattle.resolution_log.proofs.MarkLaws.{most_set}
 use Rattle.dense_trail.specs.Dense.{negation, level_of, distinct}
 use Rattle.dense_trail.proofs.CodeLaws.{negation_half, negation_twice, negation_swap, same_half}
 use Rattle.dense_trail.proofs.ValueLaws.{listed_append, listed_left, listed_last, listed_one}

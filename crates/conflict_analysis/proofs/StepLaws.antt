@@ -1,6 +1,6 @@
 -- The walk at the values of the code.
-use Rattle.std.proofs.Common.{◌≡◌, ℕ, ◌+◌, ◌-◌, ◌*◌, ◌/◌, ◌<◌, ◌≤◌, Bool, true, false, cond, ◌&&◌, List, [], ◌∷◌, ◌++◌, Option, Some, None, refl, zero, suc, ◌⊎◌, inl, inr, sym, ap, ◌∙◌, subst, arith, nat_eq, nat_lt, length, get_or, set, take, slice_get, length-set}
-use Rattle.std.proofs.lemmas.Bool.{both_ways, eqb-true, eq-eqb, ne_eqb, and_parts, and_cases, lt-ltb, ltb-true, cases_lt, cases_Bool, le-leb}
+use Rattle.std.proofs.Common.{◌≡◌, ℕ, ◌+◌, ◌-◌, ◌*◌, ◌/◌, ◌<◌, ◌≤◌, Bool, true, false, cond, ◌&&◌, List, [], ◌∷◌, ◌++◌, Option, Some, None, refl, zero, suc, inl, inr, sym, ap, ◌∙◌, subst, arith, nat_eq, nat_lt, length, get_or, set, take, slice_get, length-set}
+use Rattle.std.proofs.lemmas.Bool.{both_ways, eqb-true, eq-eqb, ne_eqb, and_parts, and_cases, lt-ltb, ltb-true, cases_lt}
 use Rattle.std.proofs.lemmas.Grind.{get_or_default_zero}
 use Rattle.std.proofs.lemmas.List.{get_or_default}
 use Rattle.std.specs.List.Sorted.{IsStrictlyIncreasing}
@@ -11,12 +11,13 @@ use Rattle.resolution_log.proofs.Places.{listed_at}
 use Rattle.resolution_log.proofs.MarkLaws.{all_below_from}
 use Rattle.clause_learning.specs.Trail.{Going}
 use Rattle.dense_trail.specs.declared.Trail.{Trail}
-use Rattle.dense_trail.specs.Dense.{negation, is_true, level_of, lits_of, known_of, entries_of}
+use Rattle.dense_trail.specs.Dense.{negation, is_true, lits_of, known_of, entries_of}
 use Rattle.dense_trail.proofs.CodeLaws.{half_below, negation_below}
 use Rattle.dense_trail.proofs.ValueLaws.{true_below, listed_append, listed_one}
 use Rattle.conflict_analysis.specs.Notes.{is_noted, stamp_one, note_stamps, note_learnt, note_here, is_here}
 use Rattle.conflict_analysis.specs.Walk.{RowsFit, AreAbove, Walking, IsTaught}
-use Rattle.conflict_analysis.proofs.WalkLaws.{walk_start, walk_pass, walk_step, walk_decided, walk_reason, walk_some, walk_taught, walk_above, walk_end, counted_le}
+use Rattle.conflict_analysis.specs.Minimizing.{kept, Minimizing}
+use Rattle.conflict_analysis.proofs.WalkLaws.{walk_minimizing, walk_marked, walk_start, walk_pass, walk_step, walk_decided, walk_reason, walk_some, walk_taught, walk_above, counted_le}
 
 pub note_length : (epoch but : ℕ) (stamps row : List ℕ) → length (note_stamps epoch but stamps row) ≡ length stamps
 note_length epoch but stamps [] = refl
@@ -90,6 +91,14 @@ module _ (vars : List ℕ) (rows : List (List ℕ)) (t : Trail) (level conflict 
         | inl a ↦ (w.noted.low_to z a).0
         | inr b ↦ (let q = code_fits in let lt : code < 2 * length vars = omega (arith, q) in subst (λ x. x < 2 * length vars) (sym u ∙ listed_one uip z b) (negation_below code (length vars) lt))
       ])
+
+      pub step_minimizing : (b : Bool) → b ≡ (nat_lt 0 level && nat_eq here' 1) → b ≡ true → 0 < epoch → (uip : ℕ) → uip ≡ negation code → (clause : List ℕ) → clause ≡ learnt ++ (uip ∷ []) → Minimizing vars rows t uip (at - 1) epoch stamps clause pairs
+      step_minimizing b is yes' some uip u clause c =
+          let p = and_parts (nat_lt 0 level) (nat_eq here' 1) (sym is ∙ yes') in
+          subst (λ z. Minimizing vars rows t z (at - 1) epoch stamps clause pairs) (sym u) (walk_minimizing vars rows t level conflict up wide fit pairs epoch stamps learnt here' at w pos code code_is marked (ltb-true 0 level p.0) (eqb-true here' 1 p.1) some clause (c ∙ ap (λ z. learnt ++ (z ∷ [])) u) (step_fits uip u clause c))
+
+      pub step_marked : (uip : ℕ) → uip ≡ negation code → (clause : List ℕ) → clause ≡ learnt ++ (uip ∷ []) → kept epoch stamps clause ≡ clause
+      step_marked uip u clause c = walk_marked vars rows t level conflict up wide fit pairs epoch stamps learnt here' at w pos code code_is marked clause (c ∙ ap (λ z. learnt ++ (z ∷ [])) u)
 
       module _ (b : Bool) (is : b ≡ (nat_lt 0 level && nat_eq here' 1)) (no' : b ≡ false) where
         not_first : here' ≡ 1 → level ≡ 0

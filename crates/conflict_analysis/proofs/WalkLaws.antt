@@ -1,31 +1,31 @@
 -- One literal of the trail after the other, from the last.
-use Rattle.std.proofs.Common.{◌≡◌, ℕ, ◌+◌, ◌-◌, ◌*◌, ◌/◌, ◌<◌, ◌≤◌, Bool, true, false, cond, not, ◌&&◌, ◌||◌, List, [], ◌∷◌, ◌++◌, Option, Some, None, zero, suc, ◌⊎◌, inl, inr, refl, sym, ap, ◌∙◌, subst, arith, nat_eq, nat_le, nat_lt, length, get_or, set, take, drop, slice_get, take-append-drop, drop-cons}
-use Rattle.std.proofs.lemmas.Bool.{cases_Bool, both_ways, eqb-true, eq-eqb, ne_eqb, false_from_ne_true, or_cases, or_left, or_right, or_parts, and_parts, and_from, cases_eq, cases_lt, and_cases, not-true, not_from_false, le-leb, leb-true}
+use Rattle.std.proofs.Common.{◌≡◌, ℕ, ◌+◌, ◌-◌, ◌*◌, ◌/◌, ◌<◌, ◌≤◌, Bool, true, false, cond, not, ◌&&◌, ◌||◌, List, [], ◌∷◌, ◌++◌, Some, None, zero, suc, inl, inr, refl, sym, ap, ◌∙◌, subst, arith, nat_eq, nat_le, length, get_or, take, drop, slice_get, take-append-drop, drop-cons}
+use Rattle.std.proofs.lemmas.Bool.{cases_Bool, both_ways, eqb-true, eq-eqb, ne_eqb, false_from_ne_true, or_cases, or_left, or_right, and_parts, and_from, cases_lt, and_cases, not-true, not_from_false, le-leb, leb-true}
 use Rattle.std.specs.List.Sorted.{IsStrictlyIncreasing}
 use Rattle.prop.specs.declared.Lit.{Lit}
 use Rattle.prop.specs.Logic.{negated}
 use Rattle.prop.specs.Trues.{listed}
-use Rattle.prop.specs.Steps.{has, Has, without, resolved, same}
-use Rattle.prop.proofs.Sets.{negated_twice, negated_swap, lit_cases, same-from, same-true, Has-append, Has-left, Has-right, Has-without, Has-kept, Has-cons, Has-head, Has-tail}
+use Rattle.prop.specs.Steps.{has, Has, without, resolved}
+use Rattle.prop.proofs.Sets.{negated_twice, lit_cases, Has-append, Has-left, Has-right, Has-without, Has-kept}
 use Rattle.resolution_log.specs.Codes.{code_of, AllBelow}
 use Rattle.resolution_log.specs.Marks.{is_marked, AtMost}
-use Rattle.resolution_log.specs.Logs.{Same}
-use Rattle.resolution_log.proofs.Places.{bool_same, listed_at}
+use Rattle.resolution_log.proofs.Places.{bool_same}
 use Rattle.resolution_log.proofs.MarkLaws.{all_below_listed, all_below_from}
-use Rattle.resolution_log.proofs.Results.{get-below}
 use Rattle.clause_learning.specs.declared.Entry.{Entry}
-use Rattle.clause_learning.specs.Trail.{set_in, Set, set_at, SetAt, below_of, first_of, Going, Told, ToldSet, Why}
+use Rattle.clause_learning.specs.Trail.{set_in, set_at, SetAt, below_of, Going, ToldSet, Why}
 use Rattle.clause_learning.proofs.TrailLaws.{last_ok}
-use Rattle.clause_learning.proofs.AnalysisLaws.{pop_level, last_level, others_false, going_pass, going_step, going_learn, going_decided, going_reason, going_end, below_all}
+use Rattle.clause_learning.proofs.AnalysisLaws.{pop_level, others_false, going_pass, going_step, going_learn, going_decided, going_reason, going_end, below_all}
 use Rattle.clause_learning.proofs.JumpLaws.{below_from}
 use Rattle.dense_trail.specs.declared.Trail.{Trail}
 use Rattle.dense_trail.specs.Dense.{negation, is_true, level_of, distinct, lit_at, lits_of, known_of, entry_at, entries_of}
-use Rattle.dense_trail.proofs.CodeLaws.{negation_half, negation_twice, negation_below, negation_ne, code_at, lit_code, code_negated, lit_negation, lit_inj}
+use Rattle.dense_trail.proofs.CodeLaws.{negation_half, negation_twice, negation_below, code_at, lit_code, code_negated, lit_negation, lit_inj}
 use Rattle.dense_trail.proofs.ValueLaws.{listed_append, listed_left, listed_right, listed_last, listed_one, true_below, distinct_pop}
 use Rattle.dense_trail.proofs.EntryLaws.{entries_push, set_listed, at_listed, has_code, known_get, known_back}
-use Rattle.conflict_analysis.specs.Notes.{is_noted, note_stamps, note_learnt, note_here, is_here, counted, Noted}
-use Rattle.conflict_analysis.specs.Walk.{first_entries, RowsFit, AreAbove, Walking, lit_option, IsTaught}
-use Rattle.conflict_analysis.proofs.NoteLaws.{counted_push, counted_none, counted_some, counted_same, noted_same, noted_all, count_yes, one_or}
+use Rattle.conflict_analysis.specs.Notes.{note_stamps, note_learnt, note_here, is_here, counted, Noted}
+use Rattle.conflict_analysis.specs.Walk.{first_entries, RowsFit, AreAbove, Walking, IsTaught}
+use Rattle.conflict_analysis.specs.Minimizing.{kept, Minimizing}
+use Rattle.conflict_analysis.proofs.KeptLaws.{kept_all}
+use Rattle.conflict_analysis.proofs.NoteLaws.{counted_push, counted_none, counted_some, noted_same, noted_all, count_yes, one_or}
 
 pub take_listed : (xs : List ℕ) (i k : ℕ) → listed (take i xs) k ≡ true → listed xs k ≡ true
 take_listed [] zero k h = h
@@ -33,7 +33,7 @@ take_listed [] (suc i) k h = h
 take_listed (x ∷ xs) zero k h = absurd (both_ways false refl h)
 take_listed (x ∷ xs) (suc i) k h = elim (or_cases (nat_eq x k) (listed (take i xs) k) h) [ inl a ↦ or_left _ _ a | inr b ↦ or_right _ _ (take_listed xs i k b) ]
 
-take_more : (xs : List ℕ) (i : ℕ) → i < length xs → take (i + 1) xs ≡ take i xs ++ (get_or xs i 0 ∷ [])
+pub take_more : (xs : List ℕ) (i : ℕ) → i < length xs → take (i + 1) xs ≡ take i xs ++ (get_or xs i 0 ∷ [])
 take_more [] i lt = absurd (omega arith)
 take_more (x ∷ xs) zero lt = refl
 take_more (x ∷ xs) (suc i) lt = let q : suc i + 1 ≡ suc (i + 1) = omega arith in rw q (ap (λ w. x ∷ w) (take_more xs i (omega (arith, lt))))
@@ -351,6 +351,37 @@ module _ (vars : List ℕ) (rows : List (List ℕ)) (t : Trail) (level conflict 
                 let lt : code_of vars m < 2 * length vars = subst (λ z. z < 2 * length vars) c_m (negation_below code (length vars) code_small) in
                 ap (has w.whole) (sym (lit_code vars m up lt) ∙ sym (ap (lit_at vars) c_m) ∙ not_lit) ∙ in_clause)
           ]
+
+      -- what is below the current level can be minimized
+      pub walk_minimizing : 0 < level → here' ≡ 1 → 0 < epoch → (clause : List ℕ) → clause ≡ learnt ++ (negation code ∷ []) → AllBelow (2 * length vars) clause → Minimizing vars rows t (negation code) (at - 1) epoch stamps clause pairs
+      walk_minimizing deep one some clause c_is fits = record {
+        ok = (going_learn known level old new e conflict w.whole pairs w.go is deep in_clause (walk_first deep one)).ok;
+        some = some;
+        there = λ k l m. subst (λ c. listed c (negation k) ≡ true) (sym c_is) (listed_left learnt (negation code ∷ []) (negation k) (w.noted.low_from (negation k) (small_not (at - 1) k l) (sym (w.noted.marks k (more k l)) ∙ m) (lower k l m)));
+        away = λ k l m. w.go.an.away (lit_at vars k) (set_first at (lit_at vars k) ∙ ap (listed (take at t.codes.items)) (code_at vars k up (small (at - 1) k l)) ∙ more k l);
+        falsified = λ z h ne. elim (listed_append learnt (negation code ∷ []) z (subst (λ c. listed c z ≡ true) c_is h)) [
+          | inl a ↦ (let q = w.noted.low_to z a in fewer (negation z) (w.noted.falsified z q.0 q.1) (λ c. ne (sym (negation_twice z) ∙ ap negation (sym c))))
+          | inr b ↦ absurd (ne (sym (listed_one (negation code) z b)))
+        ];
+        within = omega (arith, w.within);
+        small = fits;
+      }
+        where
+          below : (a b : ℕ) → a ≤ b → nat_eq a b ≡ false → a < b
+          below a b le f = elim (cases_lt a b) [ inl x ↦ x | inr x ↦ absurd (both_ways (nat_eq a b) f (eq-eqb a b (omega (arith, le, x)))) ]
+
+          lower : (k : ℕ) → listed (take j t.codes.items) k ≡ true → is_marked epoch stamps (k / 2) ≡ true → level_of t.levels.items (negation k) < level
+          lower k l m =
+              let none = counted_none (is_here level t.levels.items epoch stamps) (take j t.codes.items) k (omega (arith, counts, one)) l in
+              let not_here : nat_eq (level_of t.levels.items k) level ≡ false = elim (and_cases (is_marked epoch stamps (k / 2)) (nat_eq (level_of t.levels.items k) level) none) [ inl a ↦ absurd (both_ways (is_marked epoch stamps (k / 2)) a m) | inr b ↦ b ] in
+              let lt = below (level_of t.levels.items k) level (highest at w.whole pairs w.go k (more k l)) not_here in
+              omega (arith, lt, ap (λ n. get_or t.levels.items n 0) (negation_half k))
+
+      pub walk_marked : (clause : List ℕ) → clause ≡ learnt ++ (negation code ∷ []) → kept epoch stamps clause ≡ clause
+      walk_marked clause c_is = kept_all epoch stamps clause (λ z h. elim (listed_append learnt (negation code ∷ []) z (subst (λ c. listed c z ≡ true) c_is h)) [
+        | inl a ↦ (let q = w.noted.low_to z a in sym (ap (is_marked epoch stamps) (negation_half z)) ∙ w.noted.marks (negation z) (w.noted.falsified z q.0 q.1) ∙ ap (λ n. has w.whole (lit_at vars n)) (negation_twice z) ∙ q.1)
+        | inr b ↦ (let z_is : negation code ≡ z = listed_one (negation code) z b in ap (λ n. is_marked epoch stamps (n / 2)) (sym z_is) ∙ ap (is_marked epoch stamps) (negation_half code) ∙ marked)
+      ])
 
   -- nothing of the trail is left
   pub walk_end : (pairs : List (ℕ × ℕ)) (epoch : ℕ) (stamps learnt : List ℕ) (here' at : ℕ) → at ≤ 0 → Walking vars rows t level conflict pairs epoch stamps learnt here' at → IsTaught vars rows t level conflict learnt pairs None 0

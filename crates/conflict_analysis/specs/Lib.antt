@@ -1,2 +1,3 @@
 pub mod Notes
 pub mod Walk
+pub mod Minimizing

@@ -1,5 +1,5 @@
 -- The clause so far as marks by variable, a list of its literals of lower levels, and a count of those of the current level.
-use Rattle.std.specs.Prelude.{◌≡◌, ℕ, ◌+◌, ◌/◌, ◌<◌, Bool, true, false, ◌&&◌, ◌||◌, cond, List, [], ◌∷◌, ◌++◌, nat_eq, slice_set}
+use Rattle.std.specs.Prelude.{◌≡◌, ℕ, ◌+◌, ◌/◌, ◌<◌, Bool, true, ◌&&◌, ◌||◌, cond, List, [], ◌∷◌, ◌++◌, nat_eq, slice_set}
 use Rattle.prop.specs.Trues.{listed}
 use Rattle.resolution_log.specs.Marks.{is_marked}
 use Rattle.dense_trail.specs.Dense.{negation, level_of}

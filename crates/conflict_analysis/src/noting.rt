@@ -22,9 +22,9 @@ pub struct Notes {
     pub ghost most: { AtMost epoch stamps.items },
 }
 
-// Whether a literal does not join: it is left out, or its variable is marked.
+/// Whether a literal does not join: it is left out, or its variable is marked.
 #[inline]
-fn stays_out(stamps: &[u32], epoch: u32, but: u32, code: u32) -> bool
+pub fn stays_out(stamps: &[u32], epoch: u32, but: u32, code: u32) -> bool
     requires { code / 2 < length stamps.now }
     ensures { result ≡ is_noted epoch stamps.now but code }
 {

@@ -7,6 +7,7 @@ ghost use Rattle.resolution_log.specs.Codes.{AllBelow};
 ghost use Rattle.clause_learning.specs.Trail.{Going};
 ghost use Rattle.dense_trail.specs.Dense.{known_of, lits_of, entries_of};
 ghost use Rattle.conflict_analysis.specs.Walk.{RowsFit, AreAbove, IsTaught};
+ghost use Rattle.conflict_analysis.specs.Minimizing.{kept, Minimizing};
 
 use crate::Notes;
 use dense_trail::{Trail, negation};
@@ -35,9 +36,9 @@ fn is_first(level: u32, here: usize) -> bool
     level > 0 && here == 1
 }
 
-/// Analyses the conflict in the clause with this number. The clause that is learned stands in the notes, the literal that
-/// it makes true last.
-pub fn analyze(
+/// Walks down to the first unique implication point of the conflict in the clause with this number. The clause that comes
+/// of it stands in the notes, the literal that it makes true last.
+pub fn first_point(
     alloc: Global,
     vars: &[u32],
     rows: &Rows,
@@ -55,6 +56,8 @@ pub fn analyze(
     ensures taught { IfOk result (λ a. IsTaught vars.now rows.now trail.now level conflict notes.new.learnt.items a.pairs a.uip a.left) }
     ensures uip { IfOk result (λ a. MatchOption a.uip (Unit {0}) (λ k. listed notes.new.learnt.items k ≡ true)) }
     ensures above { IfOk result (λ a. AreAbove trail.now level a.left) }
+    ensures minimizing { IfOk result (λ a. MatchOption a.uip (Unit {0}) (λ k. Minimizing vars.now rows.now trail.now k a.left notes.new.epoch notes.new.stamps.items notes.new.learnt.items a.pairs)) }
+    ensures marked { IfOk result (λ a. MatchOption a.uip (Unit {0}) (λ k. kept notes.new.epoch notes.new.stamps.items notes.new.learnt.items ≡ notes.new.learnt.items)) }
     ensures left { IfOk result (λ a. a.left ≤ length trail.now.codes.items) }
     ensures fits { IfOk result (λ _. AllBelow (2 * length vars.now) notes.new.learnt.items) }
     ensures stamps { IfOk result (λ _. length notes.new.stamps.items ≡ length vars.now) }

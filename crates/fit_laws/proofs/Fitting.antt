@@ -57,64 +57,64 @@ blocked false xs h = refl
 pub unless_parts : (parts lines : List Broken) → rules.unless parts lines ≡ [] → parts ≡ []
 unless_parts parts lines h = nil_left parts _ h
 
-unless_lines : (parts lines : List Broken) → rules.unless parts lines ≡ [] → lines ≡ []
+pub unless_lines : (parts lines : List Broken) → rules.unless parts lines ≡ [] → lines ≡ []
 unless_lines [] lines h = h
 unless_lines (x ∷ xs) lines h = cc
 
 -- ---- Types
 
-kind_no_array : (k : CType) → is_kind k ≡ true → is_array k ≡ true → ⊥
+pub kind_no_array : (k : CType) → is_kind k ≡ true → is_array k ≡ true → ⊥
 kind_no_array (tKind k) h a = cc
 kind_no_array tVoid h a = cc
 kind_no_array (tArray k n) h a = cc
 kind_no_array (tFunction r ps) h a = cc
 kind_no_array tNone h a = cc
 
-void_no_array : (k : CType) → is_kind k || is_void k ≡ true → is_array k ≡ true → ⊥
+pub void_no_array : (k : CType) → is_kind k || is_void k ≡ true → is_array k ≡ true → ⊥
 void_no_array (tKind k) h a = cc
 void_no_array tVoid h a = cc
 void_no_array (tArray k n) h a = cc
 void_no_array (tFunction r ps) h a = cc
 void_no_array tNone h a = cc
 
-result_no_array : (r : Option Kind) → is_array (result_type r) ≡ true → ⊥
+pub result_no_array : (r : Option Kind) → is_array (result_type r) ≡ true → ⊥
 result_no_array None a = cc
 result_no_array (Some k) a = cc
 
-called_no_array : (k : CType) → is_array (called_type k) ≡ true → ⊥
+pub called_no_array : (k : CType) → is_array (called_type k) ≡ true → ⊥
 called_no_array (tKind k) a = cc
 called_no_array tVoid a = cc
 called_no_array (tArray k n) a = cc
 called_no_array (tFunction r ps) a = result_no_array r a
 called_no_array tNone a = cc
 
-element_no_array : (k : CType) → is_array (element_type k) ≡ true → ⊥
+pub element_no_array : (k : CType) → is_array (element_type k) ≡ true → ⊥
 element_no_array (tKind k) a = cc
 element_no_array tVoid a = cc
 element_no_array (tArray k n) a = cc
 element_no_array (tFunction r ps) a = cc
 element_no_array tNone a = cc
 
-promoted_no_array : (k : CType) → is_array (promoted_type k) ≡ true → ⊥
+pub promoted_no_array : (k : CType) → is_array (promoted_type k) ≡ true → ⊥
 promoted_no_array (tKind k) a = cc
 promoted_no_array tVoid a = cc
 promoted_no_array (tArray k n) a = cc
 promoted_no_array (tFunction r ps) a = cc
 promoted_no_array tNone a = cc
 
-typing_no_array : (u : Typing) → is_array (typing_type u) ≡ true → ⊥
+pub typing_no_array : (u : Typing) → is_array (typing_type u) ≡ true → ⊥
 typing_no_array ty.Untyped a = cc
 typing_no_array ty.Void a = cc
 typing_no_array ty.Bool a = cc
 typing_no_array ty.Named a = cc
 typing_no_array (ty.Basic s z i) a = cc
 
-words_no_array : (k : Option Kind) (u : Typing) → is_array (or_typing k u) ≡ true → ⊥
+pub words_no_array : (k : Option Kind) (u : Typing) → is_array (or_typing k u) ≡ true → ⊥
 words_no_array None u a = typing_no_array u a
 words_no_array (Some k) u a = cc
 
 module _ (model : Model) where
-  binary_no_array : (o : _) (k l : CType) → is_array (binary_type model o k l) ≡ true → ⊥
+  pub binary_no_array : (o : _) (k l : CType) → is_array (binary_type model o k l) ≡ true → ⊥
   binary_no_array o (tKind k) (tKind l) a = cc
   binary_no_array o (tKind k) tVoid a = cc
   binary_no_array o (tKind k) (tArray l n) a = cc
@@ -125,7 +125,7 @@ module _ (model : Model) where
   binary_no_array o (tFunction r ps) l a = cc
   binary_no_array o tNone l a = cc
 
-  arms_no_array : (k l : CType) → is_array (arms_type model k l) ≡ true → ⊥
+  pub arms_no_array : (k l : CType) → is_array (arms_type model k l) ≡ true → ⊥
   arms_no_array (tKind k) (tKind l) a = cc
   arms_no_array (tKind k) tVoid a = cc
   arms_no_array (tKind k) (tArray l n) a = cc
@@ -210,7 +210,7 @@ module _ (env : Env) (model : Model) (bodies : List (List ℕ)) (known : KnownTa
 
   -- ---- Targets
 
-  target_no_array : (e : t.Ex) → rules.is_target env model bodies e ≡ true → is_array (type_of env model e) ≡ true → ⊥
+  pub target_no_array : (e : t.Ex) → rules.is_target env model bodies e ≡ true → is_array (type_of env model e) ≡ true → ⊥
   target_no_array (t.eName n at) h a = kind_no_array (entity_type env (entity_of env n at)) (and_right (rules.is_object_name (entity_of env n at)) (is_kind (entity_type env (entity_of env n at))) h) a
   target_no_array (t.eIndex b x i y) h a = element_no_array (type_of env model b) a
   target_no_array (t.eParen x e y) h a = target_no_array e h a
@@ -224,7 +224,7 @@ module _ (env : Env) (model : Model) (bodies : List (List ℕ)) (known : KnownTa
   target_there (t.ePrefix pre.Extension at e) h u f = target_there e h u f
   target_there e h u f = cc
 
-  is_target_of : (at : ℕ) (e : t.Ex) → rules.target_lines env model bodies at e ≡ [] → rules.is_target env model bodies e ≡ true
+  pub is_target_of : (at : ℕ) (e : t.Ex) → rules.target_lines env model bodies at e ≡ [] → rules.is_target env model bodies e ≡ true
   is_target_of at e h = not_false _ (line_holds _ _ _ (nil_left _ _ h))
 
   -- ---- Arrays

@@ -25,19 +25,19 @@ use Rattle.fit_laws.proofs.Fitting.{nil_left, nil_right, line_holds, not_false, 
 
 -- ---- Names
 
-same_name : (xs ys : List ℕ) → bytes_eq xs ys ≡ true → xs ≡ ys
+pub same_name : (xs ys : List ℕ) → bytes_eq xs ys ≡ true → xs ≡ ys
 same_name xs ys e = (bytes_eq-Decides xs ys).0 e
 
-own_name : (xs : List ℕ) → bytes_eq xs xs ≡ true
+pub own_name : (xs : List ℕ) → bytes_eq xs xs ≡ true
 own_name xs = (bytes_eq-Decides xs xs).1 refl
 
 -- ---- What an entry tells of a function
 
-abbrev count_params : t.Params → ℕ
+abbrev pub count_params : t.Params → ℕ
 count_params t.no_params = 0
 count_params (t.params_and ps x ws n) = count_params ps + 1
 
-abbrev count_parameters : t.Parameters → ℕ
+abbrev pub count_parameters : t.Parameters → ℕ
 count_parameters (t.pSome a ps b) = count_params ps
 count_parameters _ = 0
 
@@ -45,20 +45,20 @@ kinds_of_params : (env : Env) (ps : t.Params) → length (params_kinds env ps) �
 kinds_of_params env t.no_params = refl
 kinds_of_params env (t.params_and ps x ws n) = length-append (params_kinds env ps) _ ∙ ap (λ m. m + 1) (kinds_of_params env ps)
 
-kinds_counted : (env : Env) (ps : t.Parameters) → length (parameter_kinds env ps) ≡ count_parameters ps
+pub kinds_counted : (env : Env) (ps : t.Parameters) → length (parameter_kinds env ps) ≡ count_parameters ps
 kinds_counted env (t.pUnknown a b) = refl
 kinds_counted env (t.pVoid a x b) = refl
 kinds_counted env (t.pSome a ps b) = kinds_of_params env ps
 
-abbrev Counts : s.What → List Kind → Type 0
+abbrev pub Counts : s.What → List Kind → Type 0
 Counts (s.aFunction ws qs b) ps = length ps ≡ count_parameters qs
 Counts _ ps = ⊥
 
-abbrev Tells : s.What → Entity → Type 0
+abbrev pub Tells : s.What → Entity → Type 0
 Tells w (aFunctionOf r ps) = Counts w ps
 Tells w _ = Unit {0}
 
-abbrev AllTell : List Entry → Type 0
+abbrev pub AllTell : List Entry → Type 0
 AllTell [] = Unit {0}
 AllTell (e ∷ es) = Tells e.declared.what e.entity × AllTell es
 
@@ -67,9 +67,9 @@ tell_more [] e a h = (h, tt)
 tell_more (x ∷ es) e a h = (a.0, tell_more es e a.1 h)
 
 -- the entries of an environment declare this list
-record Bound (env : Env) (ds : List s.Declared) : Type 0 where
-  told : AllTell env.entries
-  declares : map (λ e. e.declared) env.entries ≡ ds
+pub record Bound (env : Env) (ds : List s.Declared) : Type 0 where
+  pub told : AllTell env.entries
+  pub declares : map (λ e. e.declared) env.entries ≡ ds
 
 entered_bound : (env : Env) (ds : List s.Declared) (d : s.Declared) (x : Entity) → Bound env ds → Tells d.what x → Bound (c.entered env d x) (ds ++ d ∷ [])
 entered_bound env ds d x b h =
@@ -106,7 +106,7 @@ all_bound model env before [] b = subst (Bound env) (sym (append-nil before)) b
 all_bound model env before (d ∷ ds) b =
     subst (Bound (c.bind_from model (c.declare model env d d.what) ds)) (append_assoc before (d ∷ []) ds) (all_bound model (c.declare model env d d.what) (before ++ d ∷ []) ds (declare_bound model env before d d.what refl b))
 
-env_bound : (items : t.Items) (model : Model) → Bound (env_of items model) (s.in_items items)
+pub env_bound : (items : t.Items) (model : Model) → Bound (env_of items model) (s.in_items items)
 env_bound items model = all_bound model c.no_names [] (s.in_items items) (record { told = tt; declares = refl })
 
 -- ---- Names of their own
@@ -178,11 +178,11 @@ any_more p (g ∷ fs) f h k = or_both (p g.name) _ (or_left (p g.name) _ h) (any
 -- ---- Declarations that are right
 
 module _ (env : Env) (model : Model) (bodies : List (List ℕ)) where
-  abbrev AllRight : List s.Declared → Type 0
+  abbrev pub AllRight : List s.Declared → Type 0
   AllRight [] = Unit {0}
   AllRight (d ∷ ds) = (rules.declared_line env model bodies d d.what ≡ []) × AllRight ds
 
-  right_of : (before es : List Entry) → rules.redeclared env model bodies before es ≡ [] → AllRight (map (λ e. e.declared) es)
+  pub right_of : (before es : List Entry) → rules.redeclared env model bodies before es ≡ [] → AllRight (map (λ e. e.declared) es)
   right_of before [] h = tt
   right_of before (e ∷ es) h =
       let front = nil_left _ _ h in

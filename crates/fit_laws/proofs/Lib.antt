@@ -1,3 +1,3 @@
-mod Fitting
-mod Bodies
-mod Knowing
+pub mod Fitting
+pub mod Bodies
+pub mod Knowing

@@ -1,2 +1,2 @@
-mod Bound
-mod Mains
+pub mod Bound
+pub mod Mains

@@ -76,7 +76,7 @@ function_in_file place k ps (t.iValue x e) h = cc
 function_in_file place k ps (t.iList x y es z v) h = cc
 
 module _ (c : Known) (scope : s.Scope) (owner : Option ℕ) where
-  placed_declarator : (names : List (List ℕ)) (place : Site) (k : Told) (static : Bool) (p : Room) (ws : t.Words) (n : List ℕ) (at : ℕ) (f : t.Form) (i : t.Initial) (hi : ℕ) →
+  pub placed_declarator : (names : List (List ℕ)) (place : Site) (k : Told) (static : Bool) (p : Room) (ws : t.Words) (n : List ℕ) (at : ℕ) (f : t.Form) (i : t.Initial) (hi : ℕ) →
       may_declare place k f i ≡ true → ShapedForm names f → ShapedInitial names i → InForm (suc at) f hi → rules.faults_of_form c.env c.model c.bodies f ≡ [] →
       rules.faults_of_initial c.env c.model c.bodies static f i ≡ [] → (sh.is_file place ≡ true → Allows (within (suc at) hi) p) → Placed c p true at hi (s.in_declarator scope owner ws n at f i)
   placed_declarator names place k static p ws n at t.fPlain i hi m v w h l z r =
@@ -121,12 +121,12 @@ module _ (c : Known) (scope : s.Scope) (owner : Option ℕ) where
       })
       (itself (suc at))
 
-  placed_initial : (names : List (List ℕ)) (i : t.Initial) (lo hi : ℕ) → ShapedInitial names i → InInitial lo i hi → Placed c nowhere false lo hi (s.in_initial scope owner i)
+  pub placed_initial : (names : List (List ℕ)) (i : t.Initial) (lo hi : ℕ) → ShapedInitial names i → InInitial lo i hi → Placed c nowhere false lo hi (s.in_initial scope owner i)
   placed_initial names t.iNothing lo hi w h = empty h
   placed_initial names (t.iValue at e) lo hi w h = stretch lo hi (placed c scope owner names e (suc at) hi w.1 h.1) (omega (arith, h.0)) (itself hi)
   placed_initial names (t.iList at a es x b) lo hi w h = stretch lo hi (placed_parts c scope owner names es (suc a) h.0 w.1 h.3) (omega (arith, h.1, h.2)) (omega (arith, h.4, h.5))
 
-  placed_declarators : (names : List (List ℕ)) (place : Site) (k : Told) (static : Bool) (p : Room) (ws : t.Words) (ds : t.Decs) (lo hi : ℕ) →
+  pub placed_declarators : (names : List (List ℕ)) (place : Site) (k : Told) (static : Bool) (p : Room) (ws : t.Words) (ds : t.Decs) (lo hi : ℕ) →
       ShapedDeclarators place k names ds → InDeclarators lo ds hi → rules.faults_of_declarators c.env c.model c.bodies static ds ≡ [] →
       (sh.is_file place ≡ true → Allows (within lo hi) p) → Placed c p true lo hi (s.in_declarators scope owner ws ds)
   placed_declarators names place k static p ws t.no_declarators lo hi w h l r = empty h

@@ -48,19 +48,19 @@ abbrev pub AllBefore : List Entry → List s.Declared → Type 0
 AllBefore [] ds = Unit {0}
 AllBefore (x ∷ xs) ds = AllApart x.declared ds × AllBefore xs ds
 
-before_fail : (xs : List Entry) (d : s.Declared) (ds : List s.Declared) → AllBefore xs (d ∷ ds) → AllFail (λ e. nat_eq e.declared.at d.at && not (s.is_tag e.declared.what)) xs
+pub before_fail : (xs : List Entry) (d : s.Declared) (ds : List s.Declared) → AllBefore xs (d ∷ ds) → AllFail (λ e. nat_eq e.declared.at d.at && not (s.is_tag e.declared.what)) xs
 before_fail [] d ds h = tt
 before_fail (x ∷ xs) d ds h = (other_offset x d.at h.0.0.differs, before_fail xs d ds h.1)
 
-before_next : (xs : List Entry) (e : Entry) (d : s.Declared) (ds : List s.Declared) → AllBefore xs (d ∷ ds) → AllApart e.declared ds → AllBefore (xs ++ e ∷ []) ds
+pub before_next : (xs : List Entry) (e : Entry) (d : s.Declared) (ds : List s.Declared) → AllBefore xs (d ∷ ds) → AllApart e.declared ds → AllBefore (xs ++ e ∷ []) ds
 before_next [] e d ds h k = (k, tt)
 before_next (x ∷ xs) e d ds h k = (h.0.1, before_next xs e d ds h.1 k)
 
-own_test : (at : ℕ) (w : s.What) → s.is_tag w ≡ false → nat_eq at at && not (s.is_tag w) ≡ true
+pub own_test : (at : ℕ) (w : s.What) → s.is_tag w ≡ false → nat_eq at at && not (s.is_tag w) ≡ true
 own_test at w h = ap (λ b. b && not (s.is_tag w)) (eq-eqb at at refl) ∙ ap not h
 
 module _ (model : Model) (env : Env) (d : s.Declared) (ds : List s.Declared) (next last : Env) where
-  entry_found : (w : s.What) (step : Step model env d w next) (g : Grown next ds last) → s.is_tag d.what ≡ false → AllBefore env.entries (d ∷ ds) → declared_at last d.at ≡ step.entity
+  pub entry_found : (w : s.What) (step : Step model env d w next) (g : Grown next ds last) → s.is_tag d.what ≡ false → AllBefore env.entries (d ∷ ds) → declared_at last d.at ≡ step.entity
   entry_found w step g q b =
       let own : Entry = record { declared = d; entity = step.entity } in
       ap (λ es. entity_of_entry (find (λ e. nat_eq e.declared.at d.at && not (s.is_tag e.declared.what)) es)) (g.entries ∙ ap (λ xs. xs ++ g.new) step.entries ∙ append_assoc env.entries (own ∷ []) g.new)

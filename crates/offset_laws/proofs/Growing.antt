@@ -128,7 +128,7 @@ module _ (model : Model) (env : Env) (d : s.Declared) where
   new_step : (w : s.What) (o : Object) → o.length ≡ length_as model env w → o.owner ≡ d.owner → OwnTold w (s.is_file d.scope) (length env.objects) (anObjectOf (length env.objects)) (o ∷ []) → Step model env d w (c.new_object env d o)
   new_step w o h k q = record { entity = anObjectOf (length env.objects); more = o ∷ []; entries = refl; objects = refl; numbered = added env.objects o; name = tt; all = (h, k, tt); own = q }
 
-  plain_step : (w : s.What) (x : Entity) → Numbered (length env.objects) x → NameTold w x → OwnTold w (s.is_file d.scope) (length env.objects) x [] → Step model env d w (c.entered env d x)
+  pub plain_step : (w : s.What) (x : Entity) → Numbered (length env.objects) x → NameTold w x → OwnTold w (s.is_file d.scope) (length env.objects) x [] → Step model env d w (c.entered env d x)
   plain_step w x h k q = record { entity = x; more = []; entries = refl; objects = sym (append-nil env.objects); numbered = h; name = k; all = tt; own = q }
 
   own_object : (ws : Words) (f : Form) (i : Initial) (b : Bool) (o : Object) → OwnTold (s.anObject ws f i) b (length env.objects) (anObjectOf (length env.objects)) (o ∷ [])

@@ -20,13 +20,13 @@ use Rattle.offset_laws.proofs.Lengths.{Beyond, same_of, length_positive, AllBehi
 
 -- ---- Lists
 
-fetched_some : {A : Type 0} (xs ys : List A) (n : ℕ) (x : A) → slice_get xs n ≡ Some x → slice_get (xs ++ ys) n ≡ Some x
+pub fetched_some : {A : Type 0} (xs ys : List A) (n : ℕ) (x : A) → slice_get xs n ≡ Some x → slice_get (xs ++ ys) n ≡ Some x
 fetched_some [] ys zero x h = cc
 fetched_some [] ys (suc n) x h = cc
 fetched_some (z ∷ xs) ys zero x h = h
 fetched_some (z ∷ xs) ys (suc n) x h = fetched_some xs ys n x h
 
-abbrev Among : Entry → List Entry → Type 0
+abbrev pub Among : Entry → List Entry → Type 0
 Among y [] = ⊥
 Among y (x ∷ xs) = (x ≡ y) ⊎ Among y xs
 
@@ -38,16 +38,16 @@ or_right : (a b : Bool) → a || b ≡ false → b ≡ false
 or_right true b h = cc
 or_right false b h = h
 
-any_clear : (p : Entry → Bool) (xs : List Entry) → list_any p xs ≡ false → (y : Entry) → Among y xs → p y ≡ false
+pub any_clear : (p : Entry → Bool) (xs : List Entry) → list_any p xs ≡ false → (y : Entry) → Among y xs → p y ≡ false
 any_clear p [] h y m = absurd m
 any_clear p (x ∷ xs) h y (inl q) = subst (λ z. p z ≡ false) q (or_left (p x) _ h)
 any_clear p (x ∷ xs) h y (inr m) = any_clear p xs (or_right (p x) _ h) y m
 
-record FoundOne (p : Entry → Bool) (es : List Entry) (y : Entry) : Type 0 where
+pub record FoundOne (p : Entry → Bool) (es : List Entry) (y : Entry) : Type 0 where
   pub there : Among y es
   pub passes : p y ≡ true
 
-abbrev FoundIn : (Entry → Bool) → List Entry → Option Entry → Type 0
+abbrev pub FoundIn : (Entry → Bool) → List Entry → Option Entry → Type 0
 FoundIn p es None = Unit {0}
 FoundIn p es (Some y) = FoundOne p es y
 
@@ -59,7 +59,7 @@ found_by : (p : Entry → Bool) (e : Entry) (es : List Entry) (b : Bool) → p e
 found_by p e es true k h = record { there = inl refl; passes = k }
 found_by p e es false k h = found_later p e es (find p es) h
 
-found_in : (p : Entry → Bool) (es : List Entry) → FoundIn p es (find p es)
+pub found_in : (p : Entry → Bool) (es : List Entry) → FoundIn p es (find p es)
 found_in p [] = tt
 found_in p (e ∷ es) = found_by p e es (p e) refl (found_in p es)
 
@@ -124,17 +124,17 @@ module _ (f : Known) where
   same_by objects (s.aTag es) x n ws g i e k a l b = cc
   same_by objects (s.aName vs) x n ws g i e k a l b = cc
 
-  agreed : (m q a : Bool) → m ≡ true → m && not (q && a) ≡ false → a ≡ true
+  pub agreed : (m q a : Bool) → m ≡ true → m && not (q && a) ≡ false → a ≡ true
   agreed true true true h k = refl
   agreed true true false h k = cc
   agreed true false a h k = cc
   agreed false q a h k = cc
 
-  both_true : (a b : Bool) → a ≡ true → b ≡ true → a && b ≡ true
+  pub both_true : (a b : Bool) → a ≡ true → b ≡ true → a && b ≡ true
   both_true true b h k = k
   both_true false b h k = cc
 
-  file_same : (a b : s.Scope) → s.is_file a ≡ true → s.is_file b ≡ true → s.is_same a b ≡ true
+  pub file_same : (a b : s.Scope) → s.is_file a ≡ true → s.is_file b ≡ true → s.is_same a b ≡ true
   file_same s.file s.file h k = refl
   file_same s.file (s.block x y) h k = cc
   file_same (s.block x y) b h k = cc
@@ -153,7 +153,7 @@ module _ (f : Known) where
   move x y xs before (inl (inr m)) = inl m
   move x y xs before (inr m) = inr (inr m)
 
-  clear_of : (before xs : List Entry) (e : Entry) (rest : List Entry) → rules.redeclared f.env f.model f.bodies before (xs ++ e ∷ rest) ≡ [] → (y : Entry) → Among y xs ⊎ Among y before → rules.clashes f.env f.model f.bodies e.declared y ≡ false
+  pub clear_of : (before xs : List Entry) (e : Entry) (rest : List Entry) → rules.redeclared f.env f.model f.bodies before (xs ++ e ∷ rest) ≡ [] → (y : Entry) → Among y xs ⊎ Among y before → rules.clashes f.env f.model f.bodies e.declared y ≡ false
   clear_of before [] e rest h y (inl m) = absurd m
   clear_of before [] e rest h y (inr m) =
       any_clear (rules.clashes f.env f.model f.bodies e.declared) before (line_holds _ _ _ (nil_left (line (list_any (rules.clashes f.env f.model f.bodies e.declared) before) _ _) _ (nil_left _ _ h))) y m

@@ -1,21 +1,21 @@
-mod Logic
-mod Standing
-mod Statements
-mod Lying
-mod Placing
-mod Declaring
-mod Files
-mod Growing
-mod Agreeing
-mod Lengths
-mod Typedefs
-mod Finding
-mod Holding
-mod Whole
-mod Sources
-mod Owning
-mod Keeping
-mod Ranges
-mod Objects
-mod Parameters
-mod Naming
+pub mod Logic
+pub mod Standing
+pub mod Statements
+pub mod Lying
+pub mod Placing
+pub mod Declaring
+pub mod Files
+pub mod Growing
+pub mod Agreeing
+pub mod Lengths
+pub mod Typedefs
+pub mod Finding
+pub mod Holding
+pub mod Whole
+pub mod Sources
+pub mod Owning
+pub mod Keeping
+pub mod Ranges
+pub mod Objects
+pub mod Parameters
+pub mod Naming

@@ -38,19 +38,19 @@ use Rattle.offset_laws.proofs.Ranges.{converted_in_range, zero_in_range}
 -- ---- An initial value has room
 
 -- a value alone begins a scalar, and a list an array with no fewer elements
-abbrev Fitting : Option ℕ → t.Initial → Type 0
+abbrev pub Fitting : Option ℕ → t.Initial → Type 0
 Fitting l t.iNothing = Unit {0}
 Fitting l (t.iValue at e) = l ≡ None
 Fitting None (t.iList at a es x b) = ⊥
 Fitting (Some n) (t.iList at a es x b) = count_parts es ≤ n
 
-few : (n m : ℕ) → 0 < n → nat_lt 0 n && nat_lt n m ≡ false → m ≤ n
+pub few : (n m : ℕ) → 0 < n → nat_lt 0 n && nat_lt n m ≡ false → m ≤ n
 few n m p h =
     let l = leb-false (suc n) m (sym (ap (λ b. b && nat_lt n m) (lt-ltb 0 n p)) ∙ h) in
     omega (arith, l)
 
 module _ (f : Known) where
-  fitting : (ws : t.Words) (g : t.Form) (i : t.Initial) (l : Option ℕ) → l ≡ c.object_length f.env f.model g i → LengthFits l → Begun f (s.anObject ws g i) → Fitting l i
+  pub fitting : (ws : t.Words) (g : t.Form) (i : t.Initial) (l : Option ℕ) → l ≡ c.object_length f.env f.model g i → LengthFits l → Begun f (s.anObject ws g i) → Fitting l i
   fitting ws g t.iNothing l e p b = tt
   fitting ws t.fPlain (t.iValue at v) l e p b = e
   fitting ws t.fPlain (t.iList at a es x w) l e p b = absurd b

@@ -27,13 +27,13 @@ use Rattle.offset_laws.proofs.Whole.{up_to}
 use Rattle.offset_laws.proofs.Owning.{bodies_counted}
 
 module _ (env : Env) (model : Model) (functions : List typed.Function) where
-  abbrev all : List typed.Object
+  abbrev pub all : List typed.Object
   all = objects_from env model 0 env.objects
 
-  abbrev typed_of : ℕ → Object → typed.Object
+  abbrev pub typed_of : ℕ → Object → typed.Object
   typed_of number o = record { name = o.name; at = o.at; kind = o.kind; length = length_of o.length; owner = owner_of o.owner; first = first_of o.owner (start_values env model number o) }
 
-  typed_there : (number : ℕ) (os : List Object) (n : ℕ) (o : Object) → slice_get os n ≡ Some o → slice_get (objects_from env model number os) n ≡ Some (typed_of (number + n) o)
+  pub typed_there : (number : ℕ) (os : List Object) (n : ℕ) (o : Object) → slice_get os n ≡ Some o → slice_get (objects_from env model number os) n ≡ Some (typed_of (number + n) o)
   typed_there number [] zero o h = cc
   typed_there number [] (suc n) o h = cc
   typed_there number (x ∷ os) zero o h =

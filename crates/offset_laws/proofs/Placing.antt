@@ -103,7 +103,7 @@ module _ (c : Known) (scope : s.Scope) (owner : Option ℕ) (names : List (List 
 
 -- ---- Parameters
 
-abbrev AreSome : t.Words → Type 0
+abbrev pub AreSome : t.Words → Type 0
 AreSome t.no_words = ⊥
 AreSome (t.words_and ws w) = Unit {0}
 
@@ -119,11 +119,11 @@ untyped k h e = no_typed (subst (λ o. typed_in o ≡ true) (sym h) e)
 
 module _ (c : Known) (scope : s.Scope) (owner : Option ℕ) (names : List (List ℕ)) where
   -- words are not empty, and declare behind their first token
-  not_empty : (ws : t.Words) → AreSpecs site.Bare ws → AreSome ws
+  pub not_empty : (ws : t.Words) → AreSpecs site.Bare ws → AreSome ws
   not_empty t.no_words h = untyped h.told h.together h.typed
   not_empty (t.words_and ws w) h = tt
 
-  words_from : (ws : t.Words) (lo hi : ℕ) → AreSome ws → ShapedWords names ws → InWords lo ws hi → (lo ≤ first_of_words ws) × Placed c nowhere false (suc (first_of_words ws)) hi (s.in_words scope owner ws)
+  pub words_from : (ws : t.Words) (lo hi : ℕ) → AreSome ws → ShapedWords names ws → InWords lo ws hi → (lo ≤ first_of_words ws) × Placed c nowhere false (suc (first_of_words ws)) hi (s.in_words scope owner ws)
   words_from t.no_words lo hi x w h = absurd x
   words_from (t.words_and t.no_words v) lo hi x w h = let l = first_low v h.0 hi h.2 in (omega (arith, h.1, l), placed_word c scope owner names v h.0 hi w.1 h.2)
   words_from (t.words_and (t.words_and ws u) v) lo hi x w h =

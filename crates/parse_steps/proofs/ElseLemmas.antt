@@ -5,10 +5,8 @@ use Rattle.c_tree.specs.declared.symbol.TypeWord.{TypeWord}
 use Rattle.c_tree.specs.declared.symbol.Symbol.{Symbol}
 use Rattle.c_tree.specs.declared.symbol.Symbol.TheVariants as sy
 use Rattle.c_tree.specs.Tree as tr
-use Rattle.parse_machine.specs.Tokens as tk
 use Rattle.parse_machine.specs.Contexts as m
 use Rattle.parse_machine.specs.Making as mk
-use Rattle.parse_machine.specs.Expressions as ex
 use Rattle.parse_machine.specs.Specifiers as sf
 use Rattle.parse_machine.specs.Declarations as de
 
@@ -20,8 +18,3 @@ pub parameters_else : (names : List (List ℕ)) (t : Symbol) (at : ℕ) (d : m.D
 parameters_else names (sy.Close b) at d a h k = absurd (h b refl)
 parameters_else names (sy.Type w) at d a h k = absurd (k w refl)
 parameters_else names t at d a h k = refl
-
-pub maybe_else : (names : List (List ℕ)) (t : Symbol) (at : ℕ) (k : m.Inner) → ((b : Bracket) → t ≡ sy.Close b → ⊥) → (t ≡ sy.Semicolon → ⊥) → ex.step_maybe names t at k ≡ ex.step_operand names (tk.prefix_of t) at k
-maybe_else names (sy.Close b) at k h i = absurd (h b refl)
-maybe_else names sy.Semicolon at k h i = absurd (i refl)
-maybe_else names t at k h i = refl

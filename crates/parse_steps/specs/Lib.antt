@@ -1,2 +1,1 @@
-pub mod ModeView
 pub mod Keeping

@@ -8,10 +8,9 @@ ghost use Rattle.parse_machine.specs.Contexts as m;
 ghost use Rattle.parse_machine.specs.Making as mk;
 ghost use Rattle.parse_machine.specs.Specifiers as sf;
 ghost use Rattle.parse_stack.specs.View as v;
-ghost use Rattle.parse_steps.specs.ModeView.{Gives};
+ghost use Rattle.parse_values.specs.ModeView.{Gives};
 
-use crate::declarations::{declared_name, end_declaration, parameters_end};
-use crate::modes::{Mode, Waiting};
+use crate::declarations::{declared_name, parameters_end};
 use c_tree::{AttributeWord, Bracket, Known, Name, Site, Spec, Symbol};
 use lv_base::Text;
 use parse_stack::{
@@ -19,6 +18,7 @@ use parse_stack::{
     above, add_parameter, is_typed, is_void, make_part, no_declarators, push, say, site_of_place,
     sizeof_node, unspoken, with_named, with_storage, with_type,
 };
+use parse_values::{Mode, Waiting, end_declaration};
 use std::alloc::Global;
 use typedef_names::Names;
 

@@ -1,12 +1,14 @@
 use crate::{
-    Mode, Waiting, begin_in, function_of, step_behind, step_constant, step_enumeration,
-    step_listed, step_maybe, step_named, step_next, step_operand, step_parameter, step_parameters,
-    step_sizeof, step_specs, step_tagged, step_value, whole,
+    step_behind, step_constant, step_enumeration, step_listed, step_named, step_next,
+    step_parameter, step_parameters, step_specs, step_tagged,
 };
 use c_lexer::lex;
 use c_tree::{Parameters, Sign, Statement, Symbol};
 use lv_base::Text;
 use parse_stack::{Around, Base, Outer, Place, StepFail, Wrap, no_parts, rooted, unspoken};
+use parse_values::{
+    Mode, Waiting, begin_in, function_of, step_maybe, step_operand, step_sizeof, step_value, whole,
+};
 use std::alloc::Global;
 use std::test::Fail;
 use token_signs::sign_of;

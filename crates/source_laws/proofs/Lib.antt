@@ -1,3 +1,3 @@
-mod Offsets
-mod Programs
-mod Letters
+pub mod Offsets
+pub mod Programs
+pub mod Letters

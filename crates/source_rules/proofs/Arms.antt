@@ -82,6 +82,6 @@ pub duplicates_step : (xs : List Case) (i : ℕ) (d : Case) (before : List Case)
 duplicates_step xs i d before test at all own new l f t p m o n =
     n ∙ ap (λ z. both z own) m
     ∙ ap (both (summary (c.repeated [] (c.cases (take i xs)))))
-        (o ∙ ap (λ z. summary (line z fault.DuplicateCase at)) (t ∙ any_seen (r.is_same_case (c.case_of (get_or xs i d))) before ∙ ap (λ z. list_any (r.is_same_case (c.case_of (get_or xs i d))) (c.cases z)) f)
-        ∙ ap (λ z. summary (line (list_any (r.is_same_case (c.case_of (get_or xs i d))) (c.cases (take i xs))) fault.DuplicateCase z)) p)
+    (o ∙ ap (λ z. summary (line z fault.DuplicateCase at)) (t ∙ any_seen (r.is_same_case (c.case_of (get_or xs i d))) before ∙ ap (λ z. list_any (r.is_same_case (c.case_of (get_or xs i d))) (c.cases z)) f)
+    ∙ ap (λ z. summary (line (list_any (r.is_same_case (c.case_of (get_or xs i d))) (c.cases (take i xs))) fault.DuplicateCase z)) p)
     ∙ sym (repeated_more xs i d l)

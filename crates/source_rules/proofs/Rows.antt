@@ -73,7 +73,7 @@ repeated_behind before [] x = append_nil_both (line (list_any (r.is_same_case x)
     append_nil_both ys = append-nil ys
 repeated_behind before (y ∷ xs) x =
     ap (λ z. line (list_any (r.is_same_case y) before) fault.DuplicateCase (r.case_at y) ++ z)
-        (repeated_behind (before ++ y ∷ []) xs x ∙ ap (λ z. c.repeated (before ++ y ∷ []) xs ++ line (list_any (r.is_same_case x) z) fault.DuplicateCase (r.case_at x)) (append_assoc before (y ∷ []) xs))
+    (repeated_behind (before ++ y ∷ []) xs x ∙ ap (λ z. c.repeated (before ++ y ∷ []) xs ++ line (list_any (r.is_same_case x) z) fault.DuplicateCase (r.case_at x)) (append_assoc before (y ∷ []) xs))
     ∙ sym (append_assoc (line (list_any (r.is_same_case y) before) fault.DuplicateCase (r.case_at y)) (c.repeated (before ++ y ∷ []) xs) (line (list_any (r.is_same_case x) (before ++ (y ∷ xs))) fault.DuplicateCase (r.case_at x)))
 
 pub repeated_more : (xs : List Case) (i : ℕ) (d : Case) → i < length xs →

@@ -8,9 +8,7 @@ ghost use Rattle.type_scopes.specs.Seen as seen;
 ghost use Rattle.typing_rules.specs.Summed as s;
 ghost use Rattle.source_rules.specs.Summed as a;
 
-use c_tree::{
-    Declaration, Declarator, Expr, Form, Initial, Listed, Parameter, Parameters, Specs,
-};
+use c_tree::{Declaration, Declarator, Expr, Form, Initial, Listed, Parameter, Parameters, Specs};
 use lv_base::{Model, SourceFault, Text};
 use name_entries::object_length;
 use rule_lines::{Found, both, line, none, unless};
@@ -107,13 +105,7 @@ fn is_short(env: &Env<'_>, model: Model, e: &Expr) -> bool
 }
 
 // The length of an array is a constant of at least 1 (C11 6.7.6.2 p1).
-fn length_found(
-    env: &Env<'_>,
-    model: Model,
-    bodies: &[Text],
-    again: &[u32],
-    e: &Expr,
-) -> Found
+fn length_found(env: &Env<'_>, model: Model, bodies: &[Text], again: &[u32], e: &Expr) -> Found
     ensures { lines.found_of result ≡ a.length_all (seen.env_of env.now) model bodies.now again.now (v.expr e.now) }
 {
     let short = line(
@@ -175,13 +167,7 @@ fn option_length(
     }
 }
 
-fn form_found(
-    env: &Env<'_>,
-    model: Model,
-    bodies: &[Text],
-    again: &[u32],
-    form: &Form,
-) -> Found
+fn form_found(env: &Env<'_>, model: Model, bodies: &[Text], again: &[u32], form: &Form) -> Found
     ensures { lines.found_of result ≡ a.form_all (seen.env_of env.now) model bodies.now again.now (v.form_of form.now) }
 {
     match form {
@@ -233,7 +219,10 @@ fn initial_found(
         Initial::List(_, at, parts, _, _) => {
             let count = count_parts(parts);
             let many = count_found(env, model, form, initial, count, *at);
-            both(many, firsts_found(env, model, bodies, again, is_static, parts))
+            both(
+                many,
+                firsts_found(env, model, bodies, again, is_static, parts),
+            )
         }
     }
 }
@@ -253,7 +242,10 @@ fn with_declarator(
     let form = &declarator.form;
     let initial = &declarator.initial;
     let formed = both(all, form_found(env, model, bodies, again, form));
-    both(formed, initial_found(env, model, bodies, again, is_static, form, initial))
+    both(
+        formed,
+        initial_found(env, model, bodies, again, is_static, form, initial),
+    )
 }
 
 #[tactic(auto, using(crate::proofs::Rows::declarators_more, std::proofs::lemmas::List::take_all))]
@@ -287,5 +279,8 @@ pub(crate) fn declaration_found(
 {
     let spoken = specs_found(env, model, bodies, again, &declaration.specs);
     let list = &declaration.declarators;
-    both(spoken, declarators_found(env, model, bodies, again, is_static, list))
+    both(
+        spoken,
+        declarators_found(env, model, bodies, again, is_static, list),
+    )
 }

@@ -43,13 +43,7 @@ fn test_found(
     }
 }
 
-fn head_found(
-    env: &Env<'_>,
-    model: Model,
-    bodies: &[Text],
-    again: &[u32],
-    head: &Head,
-) -> Found
+fn head_found(env: &Env<'_>, model: Model, bodies: &[Text], again: &[u32], head: &Head) -> Found
     ensures { lines.found_of result ≡ a.head_all (seen.env_of env.now) model bodies.now again.now (v.head_of head.now) }
 {
     value_found(env, model, bodies, again, &head.condition)
@@ -73,13 +67,7 @@ fn start_found(
 }
 
 // What stands in the brackets of a `for`.
-fn for_found(
-    env: &Env<'_>,
-    model: Model,
-    bodies: &[Text],
-    again: &[u32],
-    head: &ForHead,
-) -> Found
+fn for_found(env: &Env<'_>, model: Model, bodies: &[Text], again: &[u32], head: &ForHead) -> Found
     ensures { lines.found_of result ≡ a.for_all (seen.env_of env.now) model bodies.now again.now (v.for_head_of head.now) }
 {
     let start = start_found(env, model, bodies, again, &head.start);

@@ -87,5 +87,5 @@ module _ (env : Env) (model : Model) where
     cond_arm e d g h i j k c a b x y test arm first other all own r p pd pg ph pi pj pk pt pa pf po pl pw w =
         w ∙ ap (λ z. unless_found z own) (pl ∙ ap (λ z. both z other) (pf ∙ ap (λ z. both z arm) (pt ∙ ap of pd) ∙ ap (both (of c.value)) (pa ∙ ap of pg)) ∙ ap (both (both (of c.value) (of a.value))) (po ∙ ap of ph))
         ∙ ap (unless_found (both (both (of c.value) (of a.value)) (of b.value)))
-            (pw ∙ ap (λ z. s.cond_found env model (expr z) (expr j) (expr k)) pi ∙ ap (λ z. s.cond_found env model (expr c.value) (expr z) (expr k)) pj ∙ ap (λ z. s.cond_found env model (expr c.value) (expr a.value) (expr z)) pk)
+        (pw ∙ ap (λ z. s.cond_found env model (expr z) (expr j) (expr k)) pi ∙ ap (λ z. s.cond_found env model (expr c.value) (expr z) (expr k)) pj ∙ ap (λ z. s.cond_found env model (expr c.value) (expr a.value) (expr z)) pk)
         ∙ sym (ap of p)

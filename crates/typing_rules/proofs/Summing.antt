@@ -139,7 +139,7 @@ module _ (env : Env) (model : Model) (bodies : List (List ℕ)) where
   arms_are : (a b : t.Ex) → s.arms_found env model a b ≡ summary (r.arm_lines env model bodies a b)
   arms_are a b =
       choose_lines (is_void (type_of env model a) && is_void (type_of env model b)) (both (s.value_found env model a) (s.value_found env model b)) (r.value_line env model bodies a ++ r.value_line env model bodies b)
-          (sym (joined_is (r.value_line env model bodies a) (r.value_line env model bodies b)))
+      (sym (joined_is (r.value_line env model bodies a) (r.value_line env model bodies b)))
 
   pub constant_is : (e : t.Ex) → s.constant_found env model e ≡ summary (r.constant_lines env model bodies e)
   constant_is e = sym (joined_is (r.value_line env model bodies e) (line (not (is_constant env e) || (is_kind (type_of env model e) && r.is_none (constant_of env model e))) fault.NotConstant (first_of e)))

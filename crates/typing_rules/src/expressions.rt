@@ -114,13 +114,7 @@ fn word(env: &Env<'_>, model: Model, bodies: &[Text], again: &[u32], word: &Spec
 /// lists of enumerations declare.
 #[cycle(expression)]
 #[tactic(auto, using(crate::proofs::Rows::words_more, std::proofs::lemmas::List::take_all))]
-pub fn words(
-    env: &Env<'_>,
-    model: Model,
-    bodies: &[Text],
-    again: &[u32],
-    words: &[Spec],
-) -> Found
+pub fn words(env: &Env<'_>, model: Model, bodies: &[Text], again: &[u32], words: &[Spec]) -> Found
     ensures { lines.found_of result ≡ s.found_of_words (seen.env_of env.now) model bodies.now again.now (v.words_behind t.no_words words.now) }
 {
     let mut all = none();
@@ -133,13 +127,7 @@ pub fn words(
 /// The rules that the parts of a list break, each by itself.
 #[cycle(expression)]
 #[tactic(auto, using(crate::proofs::Rows::parts_more, std::proofs::lemmas::List::take_all))]
-pub fn parts(
-    env: &Env<'_>,
-    model: Model,
-    bodies: &[Text],
-    again: &[u32],
-    parts: &[Listed],
-) -> Found
+pub fn parts(env: &Env<'_>, model: Model, bodies: &[Text], again: &[u32], parts: &[Listed]) -> Found
     ensures { lines.found_of result ≡ s.found_of_parts (seen.env_of env.now) model bodies.now again.now (v.parts_of parts.now) }
 {
     let mut all = none();
@@ -189,7 +177,10 @@ pub fn expression(env: &Env<'_>, model: Model, bodies: &[Text], again: &[u32], e
         Expr::Binary(a, _, _, b) => {
             let first = expression(env, model, bodies, again, a);
             let all = both(first, expression(env, model, bodies, again, b));
-            unless(all, both(value_line(env, model, a), value_line(env, model, b)))
+            unless(
+                all,
+                both(value_line(env, model, a), value_line(env, model, b)),
+            )
         }
         Expr::Cond(c, _, a, _, b) => {
             let test = expression(env, model, bodies, again, c);
@@ -200,7 +191,10 @@ pub fn expression(env: &Env<'_>, model: Model, bodies: &[Text], again: &[u32], e
         Expr::Assign(a, _, at, b) => {
             let first = expression(env, model, bodies, again, a);
             let all = both(first, expression(env, model, bodies, again, b));
-            unless(all, both(target_lines(env, *at, a), value_line(env, model, b)))
+            unless(
+                all,
+                both(target_lines(env, *at, a), value_line(env, model, b)),
+            )
         }
         Expr::Comma(list) => {
             let all = parts(env, model, bodies, again, list);

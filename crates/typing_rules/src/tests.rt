@@ -139,7 +139,10 @@ fn parts_break_their_rules_by_themselves(rt: HostRuntime) -> Result<(), Fail> {
         Expr::Call(_, _, arguments, _) => arguments,
         _ => return Err(Fail::from("no call")),
     };
-    assert_eq!(rt; first(parts(&env, Model::Lp64, &bodies, &[], arguments), 0), (0, 0));
+    assert_eq!(rt;
+        first(parts(&env, Model::Lp64, &bodies, &[], arguments), 0),
+        (0, 0)
+    );
     assert_eq!(rt; first(value_line(&env, Model::Lp64, call), 0), (0, 0));
     assert_eq!(rt; first(constant_lines(&env, Model::Lp64, call), 0), (10, 64));
     assert!(rt; is_object_name(named_entity(&env, b"x", 64)));

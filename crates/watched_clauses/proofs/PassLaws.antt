@@ -131,7 +131,7 @@ module _ (rows : List (List ℕ)) (watches : List Watch) (lists : List (List ℕ
             lists_all = p.lists_all;
           }
 
-      pub pass_move : (other open' : ℕ) (watches2 : List Watch) (lists2 : List (List ℕ)) → ((r : List ℕ) → slice_get rows n ≡ Some r → IsFinding t.truth.items a (first_of watches n) (second_of watches n) r (Open other open')) → watches2 ≡ set watches n (record { first = other; second = open' }) → lists2 ≡ set lists open' (get_or lists open' [] ++ (n ∷ [])) → Passing rows watches2 lists2 t level head a list2 (i - 1)
+      pub pass_move : (other open' : ℕ) (watches2 : List Watch) (lists2 : List (List ℕ)) → ((r : List ℕ) → slice_get rows n ≡ Some r → IsFinding t.truth.items a (first_of watches n) (second_of watches n) r (Open other open')) → watches2 ≡ set watches n (record { first = other; second = open'; pair = false }) → lists2 ≡ set lists open' (get_or lists open' [] ++ (n ∷ [])) → Passing rows watches2 lists2 t level head a list2 (i - 1)
       pass_move other open' watches2 lists2 f w_is l_is =
           let (r, g) = row_some rows n pass_number in
           let (aw, not_true, has_open, ne, is_open) = f r g in

@@ -30,6 +30,7 @@ watching_every rows watches A B W V truth levels level queue queue2 f g back few
   firsts = s.firsts;
   seconds = s.seconds;
   numbers = λ x k h. s.numbers x k (back x k h);
+  pairs = s.pairs;
   two = λ k r h n. watched_by A B W V truth levels r k (first_of watches k) (second_of watches k) (λ z. f z k) (λ z. g z k) (s.two k r h n);
   one = s.one;
   top = s.top;
@@ -109,6 +110,7 @@ watching_push rows watches A W V truth levels level queue c lt half free free_no
   firsts = λ k h. wide (first_of watches k) (s.firsts k h);
   seconds = λ k h. wide (second_of watches k) (s.seconds k h);
   numbers = s.numbers;
+  pairs = s.pairs;
   two = λ k r h n. (let w = s.two k r h n in record {
     in_first = w.in_first;
     in_second = w.in_second;

@@ -9,7 +9,7 @@ use Rattle.dense_trail.specs.Dense.{negation, is_true, level_of, Quiet}
 use Rattle.dense_trail.proofs.CodeLaws.{negation_half, negation_twice, negation_ne, negation_swap, same_half}
 use Rattle.dense_trail.proofs.ValueLaws.{listed_append, listed_left, listed_right, listed_last, listed_one, listed_head, truth_same, truth_other, truth_grows, truth_new, true_below}
 use Rattle.watched_clauses.specs.declared.looking.Watch.{Watch}
-use Rattle.watched_clauses.specs.Judge.{first_of, second_of, none_watched, AreWatched}
+use Rattle.watched_clauses.specs.Judge.{first_of, second_of, pair_of, none_watched, AreWatched}
 use Rattle.watched_clauses.specs.Watching.{lists_in, waits_in, Excused, Watched, Alone, Watching, lists_but, waits_but}
 use Rattle.watched_clauses.proofs.WatchLaws.{excused_waits, excused_true, excused_cases, excused_by, watched_by, watching_at, watching_by, but_here, but_there, but_more, waits_more, waits_rest, take_next, take_some}
 
@@ -145,20 +145,23 @@ module _ (rows : List (List ℕ)) (watches : List Watch) (lists : List (List ℕ
       other_rest : (r : List ℕ) → slice_get rows k0 ≡ Some r → is_true truth (negation other) ≡ true → listed rest (negation other) ≡ true
       other_rest r g f = elim (excused_cases (waits_but rest a (take (i + 1) list)) truth levels k0 other a (old_excuse r g) f) [ inl w ↦ waits_rest rest a (take (i + 1) list) other k0 (other_ne r g) w | inr t ↦ absurd (not_true t.0) ]
 
-      module _ (watches2 : List Watch) (lists2 : List (List ℕ)) (w_is : watches2 ≡ set watches k0 (record { first = other; second = open' })) (l_is : lists2 ≡ set lists open' (get_or lists open' [] ++ (k0 ∷ []))) (in_lists : open' < length lists) (is_open : is_true truth (negation open') ≡ false) (open_ne : open' ≡ other → ⊥) (r0 : List ℕ) (get0 : slice_get rows k0 ≡ Some r0) (has_open : listed r0 open' ≡ true) where
+      module _ (watches2 : List Watch) (lists2 : List (List ℕ)) (w_is : watches2 ≡ set watches k0 (record { first = other; second = open'; pair = false })) (l_is : lists2 ≡ set lists open' (get_or lists open' [] ++ (k0 ∷ []))) (in_lists : open' < length lists) (is_open : is_true truth (negation open') ≡ false) (open_ne : open' ≡ other → ⊥) (r0 : List ℕ) (get0 : slice_get rows k0 ≡ Some r0) (has_open : listed r0 open' ≡ true) where
         in_watches : k0 < length watches
         in_watches = omega (arith, number_here, s.paired)
 
         first_is : first_of watches2 k0 ≡ other
-        first_is = ap (λ w. first_of w k0) w_is ∙ ap (λ (w : Watch). w.first) (get_or-set_same watches k0 (record { first = other; second = open' }) none_watched in_watches)
+        first_is = ap (λ w. first_of w k0) w_is ∙ ap (λ (w : Watch). w.first) (get_or-set_same watches k0 (record { first = other; second = open'; pair = false }) none_watched in_watches)
 
         second_is : second_of watches2 k0 ≡ open'
-        second_is = ap (λ w. second_of w k0) w_is ∙ ap (λ (w : Watch). w.second) (get_or-set_same watches k0 (record { first = other; second = open' }) none_watched in_watches)
+        second_is = ap (λ w. second_of w k0) w_is ∙ ap (λ (w : Watch). w.second) (get_or-set_same watches k0 (record { first = other; second = open'; pair = false }) none_watched in_watches)
 
-        same_pair : (k : ℕ) → (k ≡ k0 → ⊥) → (first_of watches2 k ≡ first_of watches k) × (second_of watches2 k ≡ second_of watches k)
+        same_pair : (k : ℕ) → (k ≡ k0 → ⊥) → (first_of watches2 k ≡ first_of watches k) × (second_of watches2 k ≡ second_of watches k) × (pair_of watches2 k ≡ pair_of watches k)
         same_pair k n =
-            let e = ap (λ w. get_or w k none_watched) w_is ∙ get_or-set_other watches k0 k (record { first = other; second = open' }) none_watched n in
-            (ap (λ (w : Watch). w.first) e, ap (λ (w : Watch). w.second) e)
+            let e = ap (λ w. get_or w k none_watched) w_is ∙ get_or-set_other watches k0 k (record { first = other; second = open'; pair = false }) none_watched n in
+            (ap (λ (w : Watch). w.first) e, ap (λ (w : Watch). w.second) e, ap (λ (w : Watch). w.pair) e)
+
+        no_pair : pair_of watches2 k0 ≡ false
+        no_pair = ap (λ w. pair_of w k0) w_is ∙ ap (λ (w : Watch). w.pair) (get_or-set_same watches k0 (record { first = other; second = open'; pair = false }) none_watched in_watches)
 
         open_not_a : open' ≡ a → ⊥
         open_not_a e = both_ways (is_true truth (negation open')) is_open (subst (λ w. is_true truth (negation w) ≡ true) (sym e) falsified)
@@ -198,8 +201,9 @@ module _ (rows : List (List ℕ)) (watches : List Watch) (lists : List (List ℕ
 
         pub visit_move : Watching rows watches2 (lists_but lists2 a list2) (waits_but rest a (take i list2)) truth levels level queue
         visit_move = watching_at rows watches watches2 (lists_but lists a list) (lists_but lists2 a list2) (waits_but rest a (take (i + 1) list)) (waits_but rest a (take i list2)) truth levels level queue k0
-            (ap length w_is ∙ length-set watches k0 (record { first = other; second = open' }))
-            same_pair (
+            (ap length w_is ∙ length-set watches k0 (record { first = other; second = open'; pair = false }))
+            same_pair
+            (λ r g t. absurd (both_ways (pair_of watches2 k0) no_pair t)) (
               subst (λ w. w < length truth) (sym first_is) (s.below k0 r0 other get0 (old_in r0 get0)),
               subst (λ w. w < length truth) (sym second_is) (s.below k0 r0 open' get0 has_open),
             )

@@ -8,7 +8,8 @@ use Rattle.dense_trail.specs.Dense.{negation, is_true, level_of, Quiet}
 use Rattle.dense_trail.proofs.CodeLaws.{negation_half, negation_twice, negation_ne, negation_swap, same_half}
 use Rattle.dense_trail.proofs.ValueLaws.{listed_append, listed_left, listed_right, listed_last, listed_one, truth_same, truth_other, truth_grows, truth_new, true_below}
 use Rattle.watched_clauses.specs.declared.looking.Watch.{Watch}
-use Rattle.watched_clauses.specs.Judge.{first_of, second_of, none_watched, AreWatched}
+use Rattle.watched_clauses.specs.Judge.{first_of, second_of, pair_of, none_watched, AreWatched, IsPair}
+use Rattle.watched_clauses.proofs.JudgeLaws.{pair_cases, pair_from}
 use Rattle.watched_clauses.specs.Watching.{lists_in, waits_in, Excused, Watched, Alone, Watching, lists_but, waits_but}
 
 pub excused_waits : (waits : ℕ → ℕ → Bool) (truth : List Bool) (levels : List ℕ) (k x y : ℕ) → waits x k ≡ true → Excused waits truth levels k x y
@@ -37,13 +38,17 @@ watched_by A B W V truth levels r k x y f g w = record {
 }
 
 -- one clause changes what it watches, and the lists and what waits change for it alone
-pub watching_at : (rows : List (List ℕ)) (watches watches2 : List Watch) (A B W V : ℕ → ℕ → Bool) (truth : List Bool) (levels : List ℕ) (level : ℕ) (queue : List ℕ) (k0 : ℕ) → length watches2 ≡ length watches → ((k : ℕ) → (k ≡ k0 → ⊥) → (first_of watches2 k ≡ first_of watches k) × (second_of watches2 k ≡ second_of watches k)) → (first_of watches2 k0 < length truth) × (second_of watches2 k0 < length truth) → ((k : ℕ) → (k ≡ k0 → ⊥) → (x : ℕ) → A x k ≡ true → B x k ≡ true) → ((k : ℕ) → (k ≡ k0 → ⊥) → (x : ℕ) → A x k ≡ true → W x k ≡ true → V x k ≡ true) → ((x k : ℕ) → B x k ≡ true → k < length rows) → ((r : List ℕ) → slice_get rows k0 ≡ Some r → nat_eq (first_of watches2 k0) (second_of watches2 k0) ≡ false → Watched B V truth levels r k0 (first_of watches2 k0) (second_of watches2 k0)) → ((r : List ℕ) → slice_get rows k0 ≡ Some r → nat_eq (first_of watches2 k0) (second_of watches2 k0) ≡ true → Alone truth levels r (first_of watches2 k0)) → Watching rows watches A W truth levels level queue → Watching rows watches2 B V truth levels level queue
-watching_at rows watches watches2 A B W V truth levels level queue k0 len same small f g numbers two0 one0 s = record {
+pub watching_at : (rows : List (List ℕ)) (watches watches2 : List Watch) (A B W V : ℕ → ℕ → Bool) (truth : List Bool) (levels : List ℕ) (level : ℕ) (queue : List ℕ) (k0 : ℕ) → length watches2 ≡ length watches → ((k : ℕ) → (k ≡ k0 → ⊥) → (first_of watches2 k ≡ first_of watches k) × (second_of watches2 k ≡ second_of watches k) × (pair_of watches2 k ≡ pair_of watches k)) → ((r : List ℕ) → slice_get rows k0 ≡ Some r → IsPair watches2 k0 r) → (first_of watches2 k0 < length truth) × (second_of watches2 k0 < length truth) → ((k : ℕ) → (k ≡ k0 → ⊥) → (x : ℕ) → A x k ≡ true → B x k ≡ true) → ((k : ℕ) → (k ≡ k0 → ⊥) → (x : ℕ) → A x k ≡ true → W x k ≡ true → V x k ≡ true) → ((x k : ℕ) → B x k ≡ true → k < length rows) → ((r : List ℕ) → slice_get rows k0 ≡ Some r → nat_eq (first_of watches2 k0) (second_of watches2 k0) ≡ false → Watched B V truth levels r k0 (first_of watches2 k0) (second_of watches2 k0)) → ((r : List ℕ) → slice_get rows k0 ≡ Some r → nat_eq (first_of watches2 k0) (second_of watches2 k0) ≡ true → Alone truth levels r (first_of watches2 k0)) → Watching rows watches A W truth levels level queue → Watching rows watches2 B V truth levels level queue
+watching_at rows watches watches2 A B W V truth levels level queue k0 len same pair0 small f g numbers two0 one0 s = record {
   paired = len ∙ s.paired;
   below = s.below;
   firsts = λ k lt. elim (cases_eq k k0) [ inl e ↦ subst (λ w. first_of watches2 w < length truth) (sym e) small.0 | inr n ↦ subst (λ w. w < length truth) (sym (same k n).0) (s.firsts k (omega (arith, lt, len))) ];
   seconds = λ k lt. elim (cases_eq k k0) [ inl e ↦ subst (λ w. second_of watches2 w < length truth) (sym e) small.1 | inr n ↦ subst (λ w. w < length truth) (sym (same k n).1) (s.seconds k (omega (arith, lt, len))) ];
   numbers = numbers;
+  pairs = λ k r h. elim (cases_eq k k0) [
+    | inl e ↦ subst (λ w. IsPair watches2 w r) (sym e) (pair0 r (subst (λ w. slice_get rows w ≡ Some r) e h))
+    | inr n ↦ (let p = same k n in pair_from watches2 k r (λ t z l. elim (pair_cases watches k r (s.pairs k r h) (sym p.2 ∙ t) z l) [ inl a ↦ inl (a ∙ sym p.0) | inr b ↦ inr (b ∙ sym p.1) ]))
+  ];
   two = λ k r h n. elim (cases_eq k k0) [
     | inl e ↦ subst (λ w. Watched B V truth levels r w (first_of watches2 w) (second_of watches2 w)) (sym e) (two0 r (subst (λ w. slice_get rows w ≡ Some r) e h) (subst (λ w. nat_eq (first_of watches2 w) (second_of watches2 w) ≡ false) e n))
     | inr ne ↦ (let p = same k ne in
@@ -68,7 +73,7 @@ watching_at rows watches watches2 A B W V truth levels level queue k0 len same s
 pub watching_by : (rows : List (List ℕ)) (watches : List Watch) (A B W V : ℕ → ℕ → Bool) (truth : List Bool) (levels : List ℕ) (level : ℕ) (queue : List ℕ) (k0 : ℕ) → k0 < length rows → ((k : ℕ) → (k ≡ k0 → ⊥) → (x : ℕ) → A x k ≡ true → B x k ≡ true) → ((k : ℕ) → (k ≡ k0 → ⊥) → (x : ℕ) → A x k ≡ true → W x k ≡ true → V x k ≡ true) → ((x k : ℕ) → B x k ≡ true → k < length rows) → ((r : List ℕ) → slice_get rows k0 ≡ Some r → nat_eq (first_of watches k0) (second_of watches k0) ≡ false → Watched A W truth levels r k0 (first_of watches k0) (second_of watches k0) → Watched B V truth levels r k0 (first_of watches k0) (second_of watches k0)) → Watching rows watches A W truth levels level queue → Watching rows watches B V truth levels level queue
 watching_by rows watches A B W V truth levels level queue k0 lt f g numbers two0 s =
     let lt2 : k0 < length watches = omega (arith, lt, s.paired) in
-    watching_at rows watches watches A B W V truth levels level queue k0 refl (λ k n. (refl, refl)) (s.firsts k0 lt2, s.seconds k0 lt2) f g numbers (λ r h n. two0 r h n (s.two k0 r h n)) (λ r h n. s.one k0 r h n) s
+    watching_at rows watches watches A B W V truth levels level queue k0 refl (λ k n. (refl, refl, refl)) (λ r h. s.pairs k0 r h) (s.firsts k0 lt2, s.seconds k0 lt2) f g numbers (λ r h n. two0 r h n (s.two k0 r h n)) (λ r h n. s.one k0 r h n) s
 
 -- lists
 pub but_here : (lists : List (List ℕ)) (a : ℕ) (list : List ℕ) (k : ℕ) → lists_but lists a list a k ≡ listed list k

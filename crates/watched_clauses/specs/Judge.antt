@@ -7,7 +7,7 @@ use Rattle.watched_clauses.specs.declared.looking.Finding.{Finding}
 use Rattle.watched_clauses.specs.declared.looking.Finding.TheVariants.{Elsewhere, Met, Open, Lone, Clash}
 
 abbrev pub none_watched : Watch
-none_watched = record { first = 0; second = 0 }
+none_watched = record { first = 0; second = 0; pair = false }
 
 -- the literals that a clause watches
 abbrev pub first_of : List Watch → ℕ → ℕ
@@ -15,6 +15,18 @@ first_of watches k = (slice_index_or watches k none_watched).first
 
 abbrev pub second_of : List Watch → ℕ → ℕ
 second_of watches k = (slice_index_or watches k none_watched).second
+
+-- whether the clause is marked as one of two literals
+abbrev pub pair_of : List Watch → ℕ → Bool
+pair_of watches k = (slice_index_or watches k none_watched).pair
+
+-- such a clause has no literal but those that it watches
+abbrev pub IsPair : List Watch → ℕ → List ℕ → Type 0
+IsPair watches k r = pair_of watches k ≡ true → (z : ℕ) → listed r z ≡ true → (z ≡ first_of watches k → ⊥) → z ≡ second_of watches k
+
+-- what the last literal that may be true asks for
+abbrev pub last_finding : List Bool → ℕ → Finding
+last_finding truth other = cond (is_true truth (negation other)) Clash (Lone other)
 
 -- the first literal but one that is not false
 abbrev pub first_open : List Bool → ℕ → List ℕ → Option ℕ

@@ -6,7 +6,7 @@ use Rattle.clause_learning.specs.Trail.{Holds}
 use Rattle.clause_learning.specs.Covers.{RisesFrom, last_level}
 use Rattle.dense_trail.specs.Dense.{negation, is_true, level_of, known_of, entries_of}
 use Rattle.watched_clauses.specs.declared.looking.Watch.{Watch}
-use Rattle.watched_clauses.specs.Judge.{first_of, second_of}
+use Rattle.watched_clauses.specs.Judge.{first_of, second_of, IsPair}
 
 -- whether a clause is in the list of a literal
 abbrev pub lists_in : List (List ℕ) → ℕ → ℕ → Bool
@@ -42,6 +42,7 @@ pub record Watching (rows : List (List ℕ)) (watches : List Watch) (lists waits
   pub firsts : (k : ℕ) → k < length watches → first_of watches k < length truth
   pub seconds : (k : ℕ) → k < length watches → second_of watches k < length truth
   pub numbers : (x k : ℕ) → lists x k ≡ true → k < length rows
+  pub pairs : (k : ℕ) (r : List ℕ) → slice_get rows k ≡ Some r → IsPair watches k r
   pub two : (k : ℕ) (r : List ℕ) → slice_get rows k ≡ Some r → nat_eq (first_of watches k) (second_of watches k) ≡ false → Watched lists waits truth levels r k (first_of watches k) (second_of watches k)
   pub one : (k : ℕ) (r : List ℕ) → slice_get rows k ≡ Some r → nat_eq (first_of watches k) (second_of watches k) ≡ true → Alone truth levels r (first_of watches k)
   pub top : (z : ℕ) → is_true truth z ≡ true → level_of levels z ≤ level

@@ -3,11 +3,14 @@
 //! Each clause of at least two different literals names two different ones that are watched, and each literal has the
 //! list of the clauses that watch it. Of each false watched literal this is kept: it still waits in the queue, or the
 //! clause's other watched literal is true and became so at a level that is not above. So a clause is looked at only when
-//! a watched literal of it becomes false, and nothing is to be mended when the search goes back.
+//! a watched literal of it becomes false, and nothing is to be mended when the search goes back. A clause of two literals
+//! is marked where it says what it watches, so that it need not be read.
 #![tactic(auto)]
 
 mod lists;
 mod looking;
+#[cfg(test)]
+mod tests;
 mod visiting;
 
 pub use lists::WatchLists;

@@ -1,9 +1,9 @@
 //! What a clause asks for when a literal that it watches has become false.
 
-ghost use Rattle.std.specs.Prelude.{◌≡◌, ℕ, ◌<◌, List, length, Some, slice_get, slice_index_or, ◌||◌, nat_eq, MatchOption};
+ghost use Rattle.std.specs.Prelude.{true, ◌≡◌, ℕ, ◌<◌, List, length, Some, slice_get, slice_index_or, ◌||◌, nat_eq, MatchOption};
 ghost use Rattle.resolution_log.specs.Codes.{AllBelow};
 ghost use Rattle.dense_trail.specs.Dense.{negation, is_true};
-ghost use Rattle.watched_clauses.specs.Judge.{first_open, IsFinding, AreWatched, first_of, second_of};
+ghost use Rattle.watched_clauses.specs.Judge.{first_open, last_finding, IsFinding, IsPair, AreWatched, first_of, second_of};
 
 use dense_trail::{Trail, negation};
 use resolution_log::Rows;
@@ -15,6 +15,8 @@ pub struct Watch {
     pub first: u32,
     /// The other one.
     pub second: u32,
+    /// The clause has no other literal, so that it need not be read.
+    pub pair: bool,
 }
 
 /// What is to be done with a clause.
@@ -69,6 +71,19 @@ fn other_of(watch: Watch, falsified: u32) -> Option<u32>
     None
 }
 
+// Where no other literal may be true: whether this one is false too.
+#[inline]
+fn last_finding(trail: &Trail, other: u32) -> Finding
+    requires { other < length trail.now.truth.items }
+    ensures { result ≡ last_finding trail.now.truth.items other }
+{
+    if trail.truth[negation(other) as usize] {
+        Finding::Clash
+    } else {
+        Finding::Lone(other)
+    }
+}
+
 /// Looks at the clause with this number, where the literal has become false.
 #[inline]
 pub fn judge(rows: &Rows, watches: &[Watch], trail: &Trail, falsified: u32, number: u32) -> Finding
@@ -76,23 +91,23 @@ pub fn judge(rows: &Rows, watches: &[Watch], trail: &Trail, falsified: u32, numb
     requires watch { number < length watches.now }
     requires first { first_of watches.now number < length trail.now.truth.items }
     requires second { second_of watches.now number < length trail.now.truth.items }
+    requires falsified { is_true trail.now.truth.items (negation falsified) ≡ true }
+    requires pair { (r : List ℕ) → slice_get rows.now number ≡ Some r → IsPair watches.now number r }
     requires below { (r : List ℕ) → slice_get rows.now number ≡ Some r → AllBelow (length trail.now.truth.items) r }
     ensures { (r : List ℕ) → slice_get rows.now number ≡ Some r → IsFinding trail.now.truth.items falsified (first_of watches.now number) (second_of watches.now number) r result }
 {
-    let Some(other) = other_of(watches[number as usize], falsified) else {
+    let watch = watches[number as usize];
+    let Some(other) = other_of(watch, falsified) else {
         return Finding::Elsewhere;
     };
     if trail.truth[other as usize] {
         return Finding::Met;
     }
+    if watch.pair {
+        return last_finding(trail, other);
+    }
     match open_in(rows.row(number as usize), trail, other) {
         Some(open) => Finding::Open(other, open),
-        None => {
-            if trail.truth[negation(other) as usize] {
-                Finding::Clash
-            } else {
-                Finding::Lone(other)
-            }
-        }
+        None => last_finding(trail, other),
     }
 }

@@ -44,6 +44,7 @@ fn visit(
                 watches[number as usize] = Watch {
                     first: other,
                     second: open,
+                    pair: false,
                 };
                 lists.push(open, number)?;
                 let _ = list.swap_remove(i);

@@ -1,6 +1,6 @@
 use Rattle.std.proofs.Common.{Option, sym, subst}
 use Rattle.parse_machine.specs.Contexts as m
-use Rattle.parse_steps.specs.ModeView.{Gives, fork}
+use Rattle.parse_values.specs.ModeView.{Gives, fork}
 use Rattle.c_parser.proofs.OtherLemmas.{either_else}
 use Rattle.c_parser.proofs.statements.step_either.Goals as goal
 

@@ -2,7 +2,7 @@ use Rattle.std.proofs.Common.{Option, sym, subst}
 use Rattle.c_tree.specs.View.{attributes_of}
 use Rattle.parse_machine.specs.Declarations as de
 use Rattle.parse_stack.specs.View as v
-use Rattle.parse_steps.specs.ModeView.{GivesTurn}
+use Rattle.parse_values.specs.ModeView.{GivesTurn}
 use Rattle.c_parser.proofs.OtherLemmas.{label_else}
 use Rattle.c_parser.proofs.statements.step_label.Goals as goal
 

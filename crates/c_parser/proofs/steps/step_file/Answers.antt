@@ -1,6 +1,6 @@
 use Rattle.std.proofs.Common.{Option, sym, subst}
 use Rattle.parse_machine.specs.Contexts as m
-use Rattle.parse_steps.specs.ModeView.{Gives}
+use Rattle.parse_values.specs.ModeView.{Gives}
 use Rattle.c_parser.proofs.OtherLemmas.{file_else}
 use Rattle.c_parser.proofs.steps.step_file.Goals as goal
 

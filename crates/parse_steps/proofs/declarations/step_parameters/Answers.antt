@@ -1,7 +1,7 @@
 use Rattle.std.proofs.Common.{Option, sym, subst}
 use Rattle.parse_machine.specs.Contexts as m
 use Rattle.parse_stack.specs.View as v
-use Rattle.parse_steps.specs.ModeView.{Gives}
+use Rattle.parse_values.specs.ModeView.{Gives}
 use Rattle.parse_steps.proofs.ElseLemmas.{parameters_else}
 use Rattle.parse_steps.proofs.declarations.step_parameters.Goals as goal
 

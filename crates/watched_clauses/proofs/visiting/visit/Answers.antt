@@ -26,6 +26,12 @@ judge-requires-clause-first c = c.clauses.invariant.passing.watching.firsts c.in
 pub judge-requires-clause-second : goal.judge-requires-clause-second
 judge-requires-clause-second c = c.clauses.invariant.passing.watching.seconds c.index-number.result.now (pass_watch c.args.rows.now c.clauses.watches c.clauses.lists c.clauses.trail c.args.level c.args.head c.args.falsified c.clauses.list.items c.clauses.i c.clauses.invariant.passing c.clauses-test.true c.index-number.result.now c.index-number.ensures)
 
+pub judge-requires-clause-falsified : goal.judge-requires-clause-falsified
+judge-requires-clause-falsified c = c.clauses.invariant.passing.falsified
+
+pub judge-requires-clause-pair : goal.judge-requires-clause-pair
+judge-requires-clause-pair c = c.clauses.invariant.passing.watching.pairs c.index-number.result.now
+
 pub judge-requires-clause-below : goal.judge-requires-clause-below
 judge-requires-clause-below c = pass_row c.args.rows.now c.clauses.watches c.clauses.lists c.clauses.trail c.args.level c.args.head c.args.falsified c.clauses.list.items c.clauses.i c.clauses.invariant.passing c.clauses-test.true c.index-number.result.now c.index-number.ensures
 

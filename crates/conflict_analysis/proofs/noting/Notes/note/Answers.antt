@@ -1,4 +1,4 @@
-use Rattle.std.proofs.Common.{rules, arith, ◌≡◌, ℕ, ◌+◌, ◌*◌, ◌/◌, ◌<◌, ◌≤◌, length, get_or, ap, sym, ◌∙◌, false, length-set}
+use Rattle.std.proofs.Common.{rules, arith, ◌≡◌, ◌/◌, length, get_or, ap, sym, ◌∙◌, false, length-set}
 use Rattle.conflict_analysis.specs.Notes.{is_noted}
 use Rattle.resolution_log.proofs.MarkLaws.{most_set}
 use Rattle.conflict_analysis.proofs.RowLaws.{code_fits, stamps_next, learnt_here, here_here, learnt_low, here_low}

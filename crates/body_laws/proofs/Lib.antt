@@ -1,0 +1,13 @@
+mod Agreeing
+mod Values
+mod Bodies
+mod Numbers
+mod Tokens
+mod Entries
+mod Plain
+mod Words
+mod Spans
+mod Rights
+mod Calls
+mod Owned
+mod Whole

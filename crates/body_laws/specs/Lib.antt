@@ -1,0 +1,4 @@
+pub mod Held
+pub mod Told
+pub mod Short
+pub mod Laws

@@ -1,0 +1,21 @@
+//! Calls of `reach_error` in typed trees.
+#![tactic(auto)]
+
+ghost use Rattle.reach_laws.specs.Laws.{ReachesKept};
+
+use fit_laws::sources_fit;
+use offset_laws::sources_hold;
+use source_laws::tokens_rise;
+
+/// The functions of the typed tree of a source that breaks no rule have the names of the source's functions with a body, in their
+/// order, and each calls `reach_error` at the same offsets in the same order.
+pub fn reaches_kept()
+    ensures { ReachesKept }
+{
+    tokens_rise();
+    sources_hold();
+    sources_fit();
+}
+
+#[cfg(test)]
+mod tests;

@@ -1,0 +1,6 @@
+use crate::reaches_kept;
+
+#[test]
+fn the_laws_are_there() {
+    reaches_kept();
+}
