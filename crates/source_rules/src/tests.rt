@@ -18,20 +18,40 @@ const BROKEN: [(&str, u8, u32); 20] = [
     ("int x; int a = x; int main() { }", 10, 15),
     ("int main() { switch (1) { case 1: case 1: ; } }", 18, 34),
     ("int main() { switch (1) { default: default: ; } }", 18, 35),
-    ("int main() { switch (1) { case 1: switch (2) { case 1: ; } } }", 0, 0),
+    (
+        "int main() { switch (1) { case 1: switch (2) { case 1: ; } } }",
+        0,
+        0,
+    ),
     ("int main() { int x; switch (x) { case x: ; } }", 10, 38),
     ("void v(void) { } int main() { if (v()) ; }", 8, 34),
     ("void v(void) { return v(); } int main() { }", 0, 0),
     ("int f(void) { return f; } int main() { }", 8, 21),
     ("int main() { for (int i = y; ; ) ; }", 6, 26),
     ("int main() { while (1) z; }", 6, 23),
-    ("int main() { unsigned char c; switch (c) { case 256: case 0: ; } }", 0, 0),
+    (
+        "int main() { unsigned char c; switch (c) { case 256: case 0: ; } }",
+        0,
+        0,
+    ),
     ("int main() { do ; while (w); }", 6, 25),
-    ("int main() { switch (1u) { case -1: case 4294967295u: ; } }", 18, 36),
-    ("int main() { int a[2], b[] = {1, 2}, c[2] = {a[0]}; }", 0, 0),
+    (
+        "int main() { switch (1u) { case -1: case 4294967295u: ; } }",
+        18,
+        36,
+    ),
+    (
+        "int main() { int a[2], b[] = {1, 2}, c[2] = {a[0]}; }",
+        0,
+        0,
+    ),
     ("int main() { if (1) { int c[-1]; } else ; }", 10, 28),
     ("int f(enum E x); int main() { }", 6, 11),
-    ("const int c = 1; int main() { c = 2; goto L; L: c = 3; }", 17, 32),
+    (
+        "const int c = 1; int main() { c = 2; goto L; L: c = 3; }",
+        17,
+        32,
+    ),
 ];
 
 fn read(alloc: Global, source: &str) -> Option<Unit> {
