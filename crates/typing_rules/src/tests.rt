@@ -144,7 +144,7 @@ fn parts_break_their_rules_by_themselves(rt: HostRuntime) -> Result<(), Fail> {
         (0, 0)
     );
     assert_eq!(rt; first(value_line(&env, Model::Lp64, call), 0), (0, 0));
-    assert_eq!(rt; first(constant_lines(&env, Model::Lp64, call), 0), (10, 64));
+    assert_eq!(rt; first(constant_lines(&env, Model::Lp64, call), 0), (10, 63));
     assert!(rt; is_object_name(named_entity(&env, b"x", 64)));
     assert!(rt; !is_object_name(named_entity(&env, b"f", 64)));
     Ok(())
