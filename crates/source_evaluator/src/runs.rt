@@ -1,4 +1,4 @@
-ghost use Rattle.std.specs.Prelude.{◌≡◌, IfOk, Option, ℤ};
+ghost use Rattle.std.specs.Prelude.{◌≡◌, IfOk, IsErrOf, Option, ℤ};
 ghost use Rattle.c_tree.specs.View as v;
 ghost use Rattle.c_meaning.specs.Program as program;
 ghost use Rattle.name_bindings.specs.Cut as cut;
@@ -7,6 +7,8 @@ ghost use Rattle.run_machine.specs.Seen.{state_of, Gives, same};
 ghost use Rattle.expression_parts.specs.Seen.{functions_of};
 ghost use Rattle.source_evaluator.specs.Ends.{main_at, end_of};
 ghost use Rattle.c_run.specs.Run as meant;
+ghost use Rattle.source_evaluator.specs.declared.runs.NoRun.TheVariants.{Great};
+ghost use Rattle.type_scopes.specs.Seen as seen;
 
 use crate::evaluation::body;
 use crate::functions::bodies_of;
@@ -14,9 +16,11 @@ use crate::store::start_store;
 use c_tree::Unit;
 use expression_parts::{Program, function_number};
 use lv_base::{ErrorKind, Memory, Model};
+use name_limits::is_uncut;
 use run_machine::{Cells, Halt, Machine};
 use source_bindings::bind_all;
 use std::alloc::Global;
+use type_scopes::Env;
 
 /// How a run ends. An error has the offset of its token and the number of inputs drawn; a bad input its number, from 0; a run that is
 /// out of turns the offset of what asked for one more, and the values of the objects there.
@@ -27,6 +31,25 @@ pub enum End {
     NoInput,
     BadInput(usize),
     Spent(u32, Vec<Cells>),
+}
+
+/// Why there is no run: a number of the source is too great for this evaluator, an array of 2^64 - 1 elements or more or a
+/// constant of an enumeration of 2^127 - 1 or more; or there is no more memory.
+#[derive(Drop)]
+pub enum NoRun {
+    Great,
+    Memory,
+}
+
+impl From<Memory> for NoRun {
+    ghost use Rattle.std.specs.Prelude.{◌≡◌};
+    ghost use Rattle.source_evaluator.specs.declared.runs.NoRun.TheVariants.{Memory};
+
+    ghost from_gives = { λ _ e. e ≡ Memory };
+
+    fn from(_: Memory) -> NoRun {
+        NoRun::Memory
+    }
 }
 
 fn main_number(p: &Program<'_>) -> Option<usize>
@@ -64,20 +87,18 @@ fn end_from(machine: Machine, got: Result<Option<i128>, Halt>) -> Result<End, Me
     }
 }
 
-/// A run of a source with so many turns, on these inputs, as the meaning of C says (C11 5.1.2.2.3). Numbers that a source declares
-/// end where a machine's do: an array has less than 2^64 - 1 elements, and a constant behind another one is less than 2^127.
-///
-/// Fails with `Memory` where there is no more memory, or more than 2^32 objects or functions.
-pub fn run(
+// The run over names that are bound.
+fn run_bound(
     alloc: Global,
+    env: Env<'_>,
     unit: &Unit,
     model: Model,
     turns: u64,
     inputs: &[i128],
 ) -> Result<End, Memory>
-    ensures { IfOk result (λ end. Within (cut.env_of (v.items_of unit.now.items.items) model) → end_of end ≡ program.run turns (v.items_of unit.now.items.items) model inputs.now) }
+    requires { seen.env_of env.entry ≡ program.env_of (v.items_of unit.now.items.items) model }
+    ensures { IfOk result (λ end. end_of end ≡ program.run turns (v.items_of unit.now.items.items) model inputs.now) }
 {
-    let env = bind_all(alloc, unit, model)?;
     let bodies = bodies_of(alloc, &env, &unit.items)?;
     let Ok(store) = start_store(alloc, &env, model) else {
         return Err(Memory);
@@ -95,4 +116,27 @@ pub fn run(
     };
     let got = run_main(alloc, &program, &mut machine, turns);
     end_from(machine, got)
+}
+
+/// A run of a source with so many turns, on these inputs, as the meaning of C says (C11 5.1.2.2.3).
+///
+/// Fails with `Great` where an array that is declared has 2^64 - 1 elements or more or a constant of an enumeration is 2^127 - 1
+/// or more, and with `Memory` where there is no more memory, or more than 2^32 objects or functions.
+pub fn run(
+    alloc: Global,
+    unit: &Unit,
+    model: Model,
+    turns: u64,
+    inputs: &[i128],
+) -> Result<End, NoRun>
+    ensures value { IfOk result (λ end. end_of end ≡ program.run turns (v.items_of unit.now.items.items) model inputs.now) }
+    ensures small { IfOk result (λ _. Within (cut.env_of (v.items_of unit.now.items.items) model)) }
+    ensures great { IsErrOf result Great → Within (cut.env_of (v.items_of unit.now.items.items) model) → ⊥ }
+{
+    let env = bind_all(alloc, unit, model)?;
+    if !is_uncut(&env) {
+        return Err(NoRun::Great);
+    }
+    let end = run_bound(alloc, env, unit, model, turns, inputs)?;
+    Ok(end)
 }

@@ -1,5 +1,5 @@
-use crate::run_text;
-use lv_base::{ErrorKind, Model, place_of};
+use crate::{NoRunOfText, run_text};
+use lv_base::{ErrorKind, Model, SourceFail, place_of};
 use source_evaluator::End;
 use std::alloc::Global;
 use std::process::Abort;
@@ -387,5 +387,16 @@ fn turns_and_models_decide(rt: HostRuntime) -> Result<(), Fail> {
             Ending::Ended
         )
     );
+    Ok(())
+}
+
+#[test]
+fn what_is_too_great_has_no_run(rt: HostRuntime) -> Result<(), Fail> {
+    let alloc = rt.alloc();
+    let array = "int a[18446744073709551615u];\nint main() { }\n";
+    let great = run_text(alloc, array.as_bytes(), Model::Lp64, 1, &[]);
+    assert!(rt; matches!(great, Err(NoRunOfText::Great)));
+    let refused = run_text(alloc, "int a[;".as_bytes(), Model::Lp64, 1, &[]);
+    assert!(rt; matches!(refused, Err(NoRunOfText::Refused(SourceFail::Fault(_, 6)))));
     Ok(())
 }
