@@ -339,7 +339,7 @@ fn answer_of(
 {
     match ending {
         Ending::Met(vars) => Ok(Answer::Sat(Assignment::from_trues(vars))),
-        Ending::Refuted(log) => match trimmed(alloc, clauses, &log) {
+        Ending::Refuted(log) => match trimmed(alloc, clauses, log) {
             Ok(needed) => Ok(Answer::Unsat(needed)),
             Err(_) => Err(SolveFail::Memory),
         },
