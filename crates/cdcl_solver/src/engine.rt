@@ -94,7 +94,7 @@ fn learn_from(
     )?;
     let total = pairs + a.pairs.len() as u64;
     let Some(uip) = a.uip else { unreachable!() };
-    let next = join_learned(&vars, board, &notes, uip, a.left)?;
+    let next = join_learned(&vars, board, &notes, a.gone.as_slice(), uip, a.left)?;
     log.push(Chain {
         first: k,
         pairs: a.pairs,
