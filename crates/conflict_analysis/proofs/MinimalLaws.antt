@@ -1,15 +1,15 @@
 -- Minimization ends where no literal is implied any more: marks only go, so that what is not implied stays so.
-use Rattle.std.proofs.Common.{◌≡◌, ℕ, ◌+◌, ◌-◌, ◌*◌, ◌/◌, ◌<◌, ◌≤◌, Bool, true, false, cond, not, ◌||◌, List, [], ◌∷◌, Option, Some, None, inl, inr, refl, sym, ap, ◌∙◌, subst, arith, nat_eq, length, get_or, get_or-take, length-take-le, set, take}
+use Rattle.std.proofs.Common.{◌≡◌, ℕ, ◌+◌, ◌-◌, ◌/◌, ◌<◌, ◌≤◌, Bool, true, false, cond, not, ◌||◌, List, [], ◌∷◌, Option, Some, None, inl, inr, refl, sym, ap, ◌∙◌, subst, arith, nat_eq, length, get_or, get_or-take, length-take-le, set, take}
 use Rattle.std.proofs.lemmas.Bool.{both_ways, cases_eq, eqb-true, eq-eqb, ne_eqb, false_from_ne_true, or_cases, or_left, or_right, and_parts, and_from}
 use Rattle.prop.specs.Trues.{listed}
 use Rattle.resolution_log.specs.Marks.{is_marked}
 use Rattle.resolution_log.proofs.Places.{listed_true}
 use Rattle.dense_trail.specs.Dense.{negation}
-use Rattle.dense_trail.proofs.CodeLaws.{negation_half, negation_twice}
+use Rattle.dense_trail.proofs.CodeLaws.{negation_half}
 use Rattle.dense_trail.specs.declared.Trail.{Trail}
 use Rattle.conflict_analysis.specs.Notes.{is_noted, counted}
 use Rattle.conflict_analysis.specs.Minimizing.{all_noted, all_in, reason_within, is_some, is_implied, kept, IsMinimal, Minimizing}
-use Rattle.conflict_analysis.proofs.KeptLaws.{kept_to, kept_from, still_marked}
+use Rattle.conflict_analysis.proofs.KeptLaws.{kept_to, still_marked}
 use Rattle.conflict_analysis.proofs.NoteLaws.{counted_none}
 
 -- A clause whose literals all have marks, and of which none is implied by what has marks, is minimal.
@@ -17,16 +17,16 @@ module _ (epoch : ℕ) (stamps : List ℕ) (rows : List (List ℕ)) (reasons : L
   pub implied_given : (z r : ℕ) → (z ≡ uip → ⊥) → get_or reasons (z / 2) None ≡ Some r → all_noted epoch stamps (negation z) (get_or rows r []) ≡ true → is_implied epoch stamps rows reasons uip z ≡ true
   implied_given z r ne h a =
       and_from (not (nat_eq z uip)) (is_some (reason_within epoch stamps rows (negation z) (get_or reasons (z / 2) None)))
-          (ap not (ne_eqb z uip ne))
-          (ap (λ o. is_some (reason_within epoch stamps rows (negation z) o)) h ∙ ap (λ b. is_some (cond b (Some r) None)) a)
+      (ap not (ne_eqb z uip ne))
+      (ap (λ o. is_some (reason_within epoch stamps rows (negation z) o)) h ∙ ap (λ b. is_some (cond b (Some r) None)) a)
 
   all_in_noted : (clause : List ℕ) → ((z : ℕ) → listed clause z ≡ true → is_marked epoch stamps (z / 2) ≡ true) → (but : ℕ) (row : List ℕ) → all_in clause but row ≡ true → all_noted epoch stamps but row ≡ true
   all_in_noted clause marks but [] h = refl
   all_in_noted clause marks but (k ∷ row) h =
       let p = and_parts (nat_eq k but || listed clause k) (all_in clause but row) h in
       and_from (is_noted epoch stamps but k) (all_noted epoch stamps but row)
-          (elim (or_cases (nat_eq k but) (listed clause k) p.0) [ inl a ↦ or_left (nat_eq k but) (is_marked epoch stamps (k / 2)) a | inr b ↦ or_right (nat_eq k but) (is_marked epoch stamps (k / 2)) (marks k b) ])
-          (all_in_noted clause marks but row p.1)
+      (elim (or_cases (nat_eq k but) (listed clause k) p.0) [ inl a ↦ or_left (nat_eq k but) (is_marked epoch stamps (k / 2)) a | inr b ↦ or_right (nat_eq k but) (is_marked epoch stamps (k / 2)) (marks k b) ])
+      (all_in_noted clause marks but row p.1)
 
   pub minimal_from : (clause : List ℕ) → ((z : ℕ) → listed clause z ≡ true → is_marked epoch stamps (z / 2) ≡ true) → ((z : ℕ) → listed clause z ≡ true → is_implied epoch stamps rows reasons uip z ≡ false) → IsMinimal rows reasons uip clause
   minimal_from clause marks none z r l ne h = false_from_ne_true (all_in clause (negation z) (get_or rows r [])) (λ a. both_ways (is_implied epoch stamps rows reasons uip z) (none z l) (implied_given z r ne h (all_in_noted clause marks (negation z) (get_or rows r []) a)))
@@ -71,8 +71,8 @@ walked_all vars rows t uip left epoch stamps learnt pairs w at none walked = min
         let half : get_or t.codes.items j 0 / 2 ≡ z / 2 = ap (λ n. n / 2) e2 ∙ negation_half z in
         let no' = walked j (omega (arith, none)) in_left (ap (is_marked epoch stamps) half ∙ k.1) in
         both_ways (is_some (reason_within epoch stamps rows (negation z) (get_or t.reasons.items (z / 2) None)))
-            (ap (λ n. is_some (reason_within epoch stamps rows (negation z) (get_or t.reasons.items n None))) (sym half) ∙ ap (λ n. is_some (reason_within epoch stamps rows n (get_or t.reasons.items (get_or t.codes.items j 0 / 2) None))) (sym e2) ∙ no')
-            p.1
+        (ap (λ n. is_some (reason_within epoch stamps rows (negation z) (get_or t.reasons.items n None))) (sym half) ∙ ap (λ n. is_some (reason_within epoch stamps rows n (get_or t.reasons.items (get_or t.codes.items j 0 / 2) None))) (sym e2) ∙ no')
+        p.1
 
 -- A mark goes.
 module _ (epoch : ℕ) (stamps : List ℕ) (n : ℕ) (some : 0 < epoch) (lt : n < length stamps) where
@@ -84,8 +84,8 @@ module _ (epoch : ℕ) (stamps : List ℕ) (n : ℕ) (some : 0 < epoch) (lt : n 
   all_noted_less but (k ∷ row) h =
       let p = and_parts (is_noted epoch fewer but k) (all_noted epoch fewer but row) h in
       and_from (is_noted epoch stamps but k) (all_noted epoch stamps but row)
-          (elim (or_cases (nat_eq k but) (is_marked epoch fewer (k / 2)) p.0) [ inl a ↦ or_left (nat_eq k but) (is_marked epoch stamps (k / 2)) a | inr b ↦ or_right (nat_eq k but) (is_marked epoch stamps (k / 2)) (still_marked epoch stamps n (k / 2) some lt b).1 ])
-          (all_noted_less but row p.1)
+      (elim (or_cases (nat_eq k but) (is_marked epoch fewer (k / 2)) p.0) [ inl a ↦ or_left (nat_eq k but) (is_marked epoch stamps (k / 2)) a | inr b ↦ or_right (nat_eq k but) (is_marked epoch stamps (k / 2)) (still_marked epoch stamps n (k / 2) some lt b).1 ])
+      (all_noted_less but row p.1)
 
   within_less : (rows : List (List ℕ)) (code : ℕ) (o : Option ℕ) → is_some (reason_within epoch fewer rows code o) ≡ true → is_some (reason_within epoch stamps rows code o) ≡ true
   within_less rows code None h = h
