@@ -2,10 +2,14 @@
 """Makes sets of clauses with a fixed seed, runs `dimacs` and MiniSat on each, and prints a table of ratios.
 
 Usage: python3 bench/solver.py [WORD ..]
-It wants crates/dimacs/out/dimacs, which `rt run` in crates/dimacs makes, and Debian's package minisat, without
-preprocessing (-no-pre, -no-elim). Words choose the sets whose names have one of them. The programs run in turn, RUNS times
-each; the least user time counts, and the most memory that was resident. Where MiniSat is missing only our columns are
-printed. An answer that differs from MiniSat's is an error, and the status is then 1.
+It wants crates/dimacs/out/dimacs, which `rt run` in crates/dimacs makes, and Debian's packages minisat, without
+preprocessing (-no-pre, -no-elim), and time. Words choose the sets whose names have one of them. The programs run in turn,
+RUNS times each; the least user time counts, and the most memory that was resident. The column "log" is what the pairs and
+chains of our refutation take, and "memory" the ratio of all but that. Where MiniSat is missing only our columns are printed.
+An answer that differs from MiniSat's is an error, and the status is then 1.
+
+Linux counts with a program what its process had before it became that program. So each is started by `time`, which is small
+itself (about 2 MB, the least that is seen), and not by this process.
 """
 import itertools
 import math
@@ -25,9 +29,13 @@ from sat_sets import pigeonhole, random_3sat
 ROOT = pathlib.Path(__file__).resolve().parent.parent
 PROGRAM = os.environ.get("DIMACS", str(ROOT / "crates" / "dimacs" / "out" / "dimacs"))
 MINISAT = shutil.which("minisat")
+TIME = shutil.which("time")
 RUNS = int(os.environ.get("RUNS", "3"))
 SECONDS = int(os.environ.get("SECONDS", "60"))
 LOW, HIGH = 10_000, 40_000
+# Bytes: a pair is two numbers of 32 bits; a chain is a number, where its pairs lie, how many they are, and for how many there
+# is room.
+PAIR, CHAIN = 8, 32
 
 
 class Net:
@@ -254,8 +262,7 @@ def scaled(width, factor):
     return net.ask(-net.equal(net.divided(net.times(x, f, width), f)[0], x))
 
 
-# The name of a set, whether it is of bits of words, and what makes its clauses. They are made one at a time, in a process of
-# their own, so that the memory of this one stays small: what a program has is counted from its parent's on.
+# The name of a set, whether it is of bits of words, and what makes its clauses.
 SETS = (
     [(f"random 3-SAT {n}, {s}", False, random_3sat, (s, n, round(n * 4.26))) for n, s in ((100, 1), (150, 2), (150, 3), (175, 4))]
     + [(f"pigeons {n + 1} in {n}", False, pigeonhole, (n + 1, n)) for n in (5, 6, 7)]
@@ -279,29 +286,24 @@ def text(rows):
 
 def made(make, words):
     """The name of a new file with the clauses, and how many they are."""
+    rows = make(*words)
     with tempfile.NamedTemporaryFile("w", suffix=".cnf", delete=False) as file:
-        child = os.fork()
-        if child == 0:
-            file.write(text(make(*words)))
-            file.flush()
-            os._exit(0)
-        os.waitpid(child, 0)
-    with open(file.name) as lines:
-        return file.name, int(lines.readline().split()[3])
+        file.write(text(rows))
+    return file.name, len(rows)
 
 
 def run(words):
     """The status, what was printed, the user time in seconds and the most memory in MB of one run."""
-    with tempfile.TemporaryFile() as out:
+    with tempfile.TemporaryFile() as out, tempfile.NamedTemporaryFile("r") as said:
         child = os.fork()
         if child == 0:
             resource.setrlimit(resource.RLIMIT_CPU, (SECONDS, SECONDS))
             os.dup2(out.fileno(), 1)
             os.dup2(os.open(os.devnull, os.O_WRONLY), 2)
-            os.execv(words[0], words)
+            os.execv(TIME, [TIME, "--quiet", "--format=%M", f"--output={said.name}", *words])
         _, status, used = os.wait4(child, 0)
         out.seek(0)
-        return os.waitstatus_to_exitcode(status), out.read().decode(), used.ru_utime, used.ru_maxrss / 1024
+        return os.waitstatus_to_exitcode(status), out.read().decode(), used.ru_utime, int(said.read() or 0) / 1024
 
 
 def best(runs):
@@ -320,9 +322,11 @@ def mean_of(ratios):
 def main():
     if not os.path.exists(PROGRAM):
         sys.exit("build it first: rt run in crates/dimacs")
+    if not TIME:
+        sys.exit("it wants the program time")
     wanted = [s for s in SETS if not sys.argv[1:] or any(word in s[0] for word in sys.argv[1:])]
-    print("| set | clauses | chains kept | pairs | ours s | MB | MiniSat conflicts | s | MB | time | memory |")
-    print("|---|---|---|---|---|---|---|---|---|---|---|")
+    print("| set | clauses | chains kept | pairs | ours s | MB | log | MiniSat conflicts | s | MB | time | memory |")
+    print("|---|---|---|---|---|---|---|---|---|---|---|---|")
     wrong, ratios, memory = 0, [], []
     for name, bits, make, words in wanted:
         file, count = made(make, words)
@@ -335,7 +339,8 @@ def main():
         status, printed, seconds, megabytes = best(ours)
         answer = {10: "SAT", 20: "UNSAT"}.get(status, f"status {status}")
         chains, pairs = found(r"c chains (\d+)", printed), found(r"c pairs (\d+)", printed)
-        line = f"| {name}, {answer} | {count} | {chains} | {pairs} | {seconds:.3f} | {megabytes:.1f} "
+        log = max(0, PAIR * pairs + CHAIN * chains) / 2**20
+        line = f"| {name}, {answer} | {count} | {chains} | {pairs} | {seconds:.3f} | {megabytes:.1f} | {log:.1f} "
         if not theirs:
             print(line + "| | | | | |", flush=True)
             continue
@@ -344,7 +349,7 @@ def main():
         if status != status2 and status2 in (10, 20):
             wrong += 1
             line += "WRONG "
-        ratio, more = max(seconds, 0.002) / max(seconds2, 0.002), megabytes / megabytes2
+        ratio, more = max(seconds, 0.002) / max(seconds2, 0.002), (megabytes - log) / megabytes2
         if bits:
             ratios.append((conflicts, ratio))
             memory.append(more)
@@ -354,7 +359,7 @@ def main():
         if part:
             print(f"sets of bits with {low} to {high} conflicts: {len(part)}, geometric mean {mean_of(part):.2f}, worst {max(part):.2f}")
     if memory:
-        print(f"memory of sets of bits: geometric mean {mean_of(memory):.2f}, worst {max(memory):.2f}")
+        print(f"memory of sets of bits, apart from the log: geometric mean {mean_of(memory):.2f}, worst {max(memory):.2f}")
     print(f"answers that differ: {wrong}")
     sys.exit(1 if wrong else 0)
 

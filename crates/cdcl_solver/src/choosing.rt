@@ -78,8 +78,8 @@ fn bump_marked(order: &mut Order, trail: &Trail, notes: &Notes, from: usize)
     }
 }
 
-// The variables of the learned clause become more active.
-fn bump_learned(order: &mut Order, trail: &Trail, clause: &[u32])
+// The variables of some literals become more active.
+fn bump_listed(order: &mut Order, trail: &Trail, clause: &[u32])
     requires ordered { length order.old.phases.items ≡ length trail.now.levels.items }
     requires fits { AllBelow (2 * length trail.now.levels.items) clause.now }
     ensures { length order.new.phases.items ≡ length order.old.phases.items }
@@ -90,15 +90,18 @@ fn bump_learned(order: &mut Order, trail: &Trail, clause: &[u32])
 }
 
 /// The variables that took part in an analysis become more active. Of the current level these are the marked ones behind
-/// the implication point, which stands at a place of the trail.
-pub fn bump_all(order: &mut Order, trail: &Trail, notes: &Notes, uip_at: usize)
+/// the implication point, which stands at a place of the trail; the others are those of the learned clause, also of the
+/// literals that it had before it was made shorter.
+pub fn bump_all(order: &mut Order, trail: &Trail, notes: &Notes, gone: &[u32], uip_at: usize)
     requires ordered { length order.old.phases.items ≡ length trail.now.levels.items }
     requires stamps { length notes.now.stamps.items ≡ length trail.now.levels.items }
     requires fits { AllBelow (2 * length trail.now.levels.items) notes.now.learnt.items }
+    requires gone { AllBelow (2 * length trail.now.levels.items) gone.now }
     requires at { uip_at ≤ length trail.now.codes.items }
     ensures { length order.new.phases.items ≡ length order.old.phases.items }
 {
     bump_marked(order, trail, notes, uip_at + 1);
-    bump_learned(order, trail, notes.learnt.as_slice());
+    bump_listed(order, trail, notes.learnt.as_slice());
+    bump_listed(order, trail, gone);
     order.decay();
 }

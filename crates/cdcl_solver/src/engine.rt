@@ -94,7 +94,7 @@ fn learn_from(
     )?;
     let total = pairs + a.pairs.len() as u64;
     let Some(uip) = a.uip else { unreachable!() };
-    let next = join_learned(&vars, board, &notes, uip, a.left)?;
+    let next = join_learned(&vars, board, &notes, a.gone.as_slice(), uip, a.left)?;
     log.push(Chain {
         first: k,
         pairs: a.pairs,
@@ -339,7 +339,7 @@ fn answer_of(
 {
     match ending {
         Ending::Met(vars) => Ok(Answer::Sat(Assignment::from_trues(vars))),
-        Ending::Refuted(log) => match trimmed(alloc, clauses, &log) {
+        Ending::Refuted(log) => match trimmed(alloc, clauses, log) {
             Ok(needed) => Ok(Answer::Unsat(needed)),
             Err(_) => Err(SolveFail::Memory),
         },

@@ -33,12 +33,13 @@ fn next_number(rows: &Rows) -> Result<u32, AllocError>
 }
 
 /// Goes back to the lowest level at which the learned clause, that of the notes, makes its literal true, and adds the
-/// clause. The variables of the analysis become more active; `left` is how many literals of the trail stand before the
-/// implication point.
+/// clause. The variables of the analysis become more active: `gone` are literals that the clause had before it was made
+/// shorter, `left` is how many literals of the trail stand before the implication point.
 pub fn join_learned(
     vars: &[u32],
     board: Board,
     notes: &Notes,
+    gone: &[u32],
     uip: u32,
     left: usize,
 ) -> Result<Board, AllocError>
@@ -46,6 +47,7 @@ pub fn join_learned(
     requires learned { Learned vars.now board.rows board.trail board.level notes.now.learnt.items uip }
     requires fits { AllBelow (2 * length vars.now) notes.now.learnt.items }
     requires in_clause { listed notes.now.learnt.items uip ≡ true }
+    requires gone { AllBelow (2 * length vars.now) gone.now }
     requires stamps { length notes.now.stamps.items ≡ length vars.now }
     requires left { left ≤ length board.trail.codes.items }
     ensures rests { IfOk result (λ b. (clauses : List (List Lit)) (log : List Chain) (ch : Chain) (n : ℕ) → AreAbove board.trail board.level n → IsTaught vars.now board.rows board.trail board.level ch.first notes.now.learnt.items ch.pairs (Some uip) n → Rests clauses vars.now board.rows board.level board.trail log → Rests clauses vars.now b.rows b.level b.trail (log ++ ch ∷ [])) }
@@ -62,7 +64,7 @@ pub fn join_learned(
         ..
     } = board;
     let found = what_to_watch(&trail, notes.learnt.as_slice(), uip);
-    bump_all(&mut order, &trail, notes, left);
+    bump_all(&mut order, &trail, notes, gone, left);
     go_back(&mut trail, &mut order, found.low)?;
     let head = trail.codes.len();
     let number = next_number(&rows)?;

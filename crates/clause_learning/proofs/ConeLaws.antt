@@ -120,6 +120,31 @@ closes_pass m n k chs lt no' c =
     let (ch, g) = some_at chs k lt in
     rw (drop-cons chs k ch lt) ((λ y. absurd (both_ways (need_in m (n + k)) no' y)), subst (λ z. Closes (need_in m) z (drop (suc k) chs)) (omega arith) c)
 
+pub mark_read : (m : List Bool) (i : ℕ) (b : Bool) → i < length m → b ≡ get_or m i b → need_in m i ≡ b
+mark_read [] i b lt e = absurd (omega (arith, lt))
+mark_read (x ∷ m) zero b lt e = sym e
+mark_read (x ∷ m) (suc i) b lt e = mark_read m i b (omega (arith, lt)) e
+
+-- The cut, chain by chain: the log so far, and what is still to come of it.
+module _ (need : ℕ → Bool) (log : List Chain) (n m k m2 k2 : ℕ) (chs : List Chain) (ch : Chain) (lt : k < length chs) (e : ch ≡ get_or chs k ch) (em : m2 ≡ m + 1) (ek : k2 ≡ k + 1) (so_far : log ++ cut_from need m (drop k chs) ≡ cut_from need n chs) where
+  abbrev later : List Chain
+  later = cut_from need m2 (drop k2 chs)
+
+  cut_here : cut_from need m (drop k chs) ≡ cond (need m) (renamed (rank need) ch ∷ later) later
+  cut_here =
+      let up : suc m ≡ m2 = omega (arith, em) in
+      let on : suc k ≡ k2 = omega (arith, ek) in
+      ap (cut_from need m) (drop-cons chs k ch lt)
+      ∙ ap (λ c. cond (need m) (renamed (rank need) c ∷ cut_from need (suc m) (drop (suc k) chs)) (cut_from need (suc m) (drop (suc k) chs))) (sym e)
+      ∙ ap (λ j. cond (need m) (renamed (rank need) ch ∷ cut_from need j (drop (suc k) chs)) (cut_from need j (drop (suc k) chs))) up
+      ∙ ap (λ j. cond (need m) (renamed (rank need) ch ∷ cut_from need m2 (drop j chs)) (cut_from need m2 (drop j chs))) on
+
+  pub cut_kept : (r : Chain) → need m ≡ true → r ≡ renamed (rank need) ch → (log ++ (r ∷ [])) ++ later ≡ cut_from need n chs
+  cut_kept r y q = append_assoc log (r ∷ []) later ∙ ap (λ w. log ++ w) (ap (λ c. c ∷ later) q ∙ sym (cut_here ∙ ap (λ b. cond b (renamed (rank need) ch ∷ later) later) y)) ∙ so_far
+
+  pub cut_left_out : need m ≡ false → log ++ later ≡ cut_from need n chs
+  cut_left_out no' = ap (λ w. log ++ w) (sym (cut_here ∙ ap (λ b. cond b (renamed (rank need) ch ∷ later) later) no')) ∙ so_far
+
 -- one more mark at the end
 pub given_push : (n : ℕ) (m : List Bool) (b : Bool) → n ≤ length m → GivenNeeded n m → GivenNeeded n (m ++ (b ∷ []))
 given_push n m b le g k lt = let q : k < length m = omega (arith, lt, le) in get_or_append_left m (b ∷ []) false k q ∙ g k lt

@@ -109,28 +109,31 @@ fn rename(alloc: Global, cone: &Cone, chain: &Chain) -> Result<Chain, AllocError
     Ok(Chain { first, pairs })
 }
 
-// The needed chains, renamed.
-fn cut(alloc: Global, cone: &Cone, chains: &[Chain], base: usize) -> Result<Log, AllocError>
-    requires all { length cone.now.marks.items ≡ base + length chains.now }
-    requires ranged { Ranged base chains.now }
-    ensures { IfOk result (λ r. r ≡ cut_from (need_in cone.now.marks.items) base chains.now) }
+// The needed chains, renamed. Each chain's memory is given back before the next one is looked at.
+fn cut(alloc: Global, cone: &Cone, chains: Vec<Chain>, base: usize) -> Result<Log, AllocError>
+    requires all { length cone.now.marks.items ≡ base + length chains.items }
+    requires ranged { Ranged base chains.items }
+    ensures { IfOk result (λ r. r ≡ cut_from (need_in cone.now.marks.items) base chains.items) }
 {
     let mut log = Log::new(alloc);
-    for (k, chain) in chains.iter().enumerate() {
-        if cone.marks[base + k] {
-            log.push(rename(alloc, cone, chain)?)?;
+    let mut at = base;
+    for chain in chains {
+        if cone.marks[at] {
+            log.push(rename(alloc, cone, &chain)?)?;
         }
+        at += 1;
     }
     Ok(log)
 }
 
-/// A lean refutation cut to the cone of its last chain: it names the clauses that it needs alone.
-pub fn trimmed(alloc: Global, clauses: &Clauses, log: &Log) -> Result<Log, AllocError>
-    requires { Lean clauses.now log.now }
-    ensures { IfOk result (IsRefuted clauses.now (length log.now)) }
+/// A lean refutation cut to the cone of its last chain: it names the clauses that it needs alone. The old log goes chain by
+/// chain while the new one grows, so that both together take little more than one.
+pub fn trimmed(alloc: Global, clauses: &Clauses, log: Log) -> Result<Log, AllocError>
+    requires { Lean clauses.now log }
+    ensures { IfOk result (IsRefuted clauses.now (length log)) }
 {
     let base = clauses.len() as usize;
-    let chains = log.chains();
-    let cone = last_cone(alloc, chains, base)?;
+    let chains = log.into_chains();
+    let cone = last_cone(alloc, chains.as_slice(), base)?;
     cut(alloc, &cone, chains, base)
 }

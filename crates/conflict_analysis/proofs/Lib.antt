@@ -4,3 +4,4 @@ pub mod WalkLaws
 pub mod StepLaws
 pub mod KeptLaws
 pub mod MinimizeLaws
+pub mod MinimalLaws

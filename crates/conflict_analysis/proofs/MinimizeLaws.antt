@@ -1,6 +1,6 @@
 -- An implied literal is resolved away: what was taught stays taught.
 use Rattle.std.proofs.Common.{◌≡◌, ℕ, ◌+◌, ◌-◌, ◌*◌, ◌/◌, ◌<◌, ◌≤◌, Bool, true, false, List, [], ◌∷◌, ◌++◌, Option, Some, None, zero, suc, inl, inr, refl, sym, ap, ◌∙◌, subst, arith, nat_eq, length, get_or, set, take, slice_get}
-use Rattle.std.proofs.lemmas.Bool.{both_ways, eq-eqb, false_from_ne_true, or_left, or_right, and_from, and_left}
+use Rattle.std.proofs.lemmas.Bool.{both_ways, eqb-true, eq-eqb, false_from_ne_true, or_left, or_right, and_from, and_left}
 use Rattle.std.proofs.lemmas.Grind.{get_or_default_zero}
 use Rattle.std.proofs.lemmas.List.{get_or_default}
 use Rattle.std.specs.List.Sorted.{IsStrictlyIncreasing}
@@ -12,7 +12,7 @@ use Rattle.prop.proofs.Sets.{negated_twice, Has-append, Has-left, Has-without, H
 use Rattle.resolution_log.specs.Codes.{code_of, AllBelow}
 use Rattle.resolution_log.specs.Marks.{is_marked}
 use Rattle.resolution_log.specs.Chains.{absent}
-use Rattle.resolution_log.proofs.MarkLaws.{all_below_listed}
+use Rattle.resolution_log.proofs.MarkLaws.{all_below_listed, all_below_from}
 use Rattle.clause_learning.specs.declared.Entry.{Entry}
 use Rattle.clause_learning.specs.Trail.{Set, TrailOk, EntryOk, Why, Told, Learnt}
 use Rattle.clause_learning.proofs.TrailLaws.{last_ok, quiet_trail, Set-at, Set-left}
@@ -23,8 +23,10 @@ use Rattle.dense_trail.proofs.CodeLaws.{negation_half, negation_twice, negation_
 use Rattle.dense_trail.proofs.ValueLaws.{listed_append, listed_one, true_below}
 use Rattle.dense_trail.proofs.EntryLaws.{entries_push, set_listed, has_code, known_get}
 use Rattle.conflict_analysis.specs.Walk.{first_entries, RowsFit, IsTaught}
-use Rattle.conflict_analysis.specs.Minimizing.{all_noted, reason_within, kept, Minimizing, StaysTaught}
+use Rattle.conflict_analysis.specs.Notes.{counted}
+use Rattle.conflict_analysis.specs.Minimizing.{all_noted, reason_within, is_some, is_implied, kept, Minimizing, StaysTaught}
 use Rattle.conflict_analysis.proofs.WalkLaws.{take_listed, take_more}
+use Rattle.conflict_analysis.proofs.MinimalLaws.{Walked, implied_given, walked_on, walked_less, enough_less}
 use Rattle.conflict_analysis.proofs.KeptLaws.{kept_to, kept_from, kept_small, still_marked, marked_still, all_noted_at, get_given, within_some}
 
 -- what is known of a literal that has a reason: the others are false before it
@@ -139,6 +141,7 @@ module _ (vars : List ℕ) (rows : List (List ℕ)) (t : Trail) (uip left epoch 
       there = λ k l m. w.there k l (still_marked epoch stamps (code / 2) (k / 2) w.some half m).1;
       away = λ k l m. (let p = still_marked epoch stamps (code / 2) (k / 2) w.some half m in absent_push (get_or vars (k / 2) 0) pairs (var, r) (w.away k l p.1) (λ q. p.0 (same_var k (small k l) (sym q ∙ v))));
       falsified = w.falsified;
+      apart = w.apart;
       within = w.within;
       small = w.small;
     }
@@ -292,9 +295,31 @@ module _ (vars : List ℕ) (rows : List (List ℕ)) (t : Trail) (uip left epoch 
   pub loop_half : code / 2 < length vars
   loop_half = half_below code (length vars) (small vars rows t uip left epoch stamps learnt pairs up wide fit long w code here)
 
+  half_long : code / 2 < length stamps
+  half_long = let q = loop_half in omega (arith, q, long)
+
+  code_read : code ≡ get_or t.codes.items (at - 1) 0
+  code_read = let lt : at - 1 < length t.codes.items = omega (arith, pos, in_left, w.within) in read ∙ get_or_default_zero t.codes.items (at - 1) code lt
+
+  pub loop_gone : (gone after : List ℕ) → after ≡ gone ++ (code ∷ []) → AllBelow (2 * length vars) gone → AllBelow (2 * length vars) after
+  loop_gone gone after is b = all_below_from (2 * length vars) after (λ z h. elim (listed_append gone (code ∷ []) z (subst (λ r. listed r z ≡ true) is h)) [
+    | inl a ↦ all_below_listed (2 * length vars) gone b z a
+    | inr q ↦ subst (λ n. n < 2 * length vars) (listed_one code z q) (small vars rows t uip left epoch stamps learnt pairs up wide fit long w code here)
+  ])
+
+  pub loop_unmarked : (m : ℕ) → m ≡ get_or stamps (code / 2) m → (m ≡ epoch → ⊥) → Walked epoch stamps rows t.reasons.items t.codes.items left at → Walked epoch stamps rows t.reasons.items t.codes.items left (at - 1)
+  loop_unmarked m m_is ne walked = walked_on epoch stamps rows t.reasons.items t.codes.items left at walked code code_read (λ mk. absurd (ne (m_is ∙ get_or_default_zero stamps (code / 2) m half_long ∙ eqb-true (get_or stamps (code / 2) 0) epoch mk)))
+
   module _ (o : Option ℕ) (ro : o ≡ get_or t.reasons.items (code / 2) o) where
     reason_read : o ≡ get_or t.reasons.items (code / 2) None
     reason_read = ro ∙ get_or_default t.reasons.items (code / 2) o None (let q = loop_half in omega (arith, q, wide, t.long))
+
+    pub loop_none : (s : List ℕ) → s ≡ stamps → (f : Option ℕ) → f ≡ reason_within epoch s rows code o → ((x : ℕ) → f ≡ Some x → ⊥) → Walked epoch stamps rows t.reasons.items t.codes.items left at → Walked epoch stamps rows t.reasons.items t.codes.items left (at - 1)
+    loop_none s s_is f f_is none walked = walked_on epoch stamps rows t.reasons.items t.codes.items left at walked code code_read (λ mk. ap (λ q. is_some (reason_within epoch stamps rows code q)) (sym reason_read) ∙ ap (λ z. is_some (reason_within epoch z rows code o)) (sym s_is) ∙ ap is_some (sym f_is ∙ is_none f none))
+      where
+        is_none : (f : Option ℕ) → ((x : ℕ) → f ≡ Some x → ⊥) → f ≡ None
+        is_none None n = refl
+        is_none (Some x) n = absurd (n x refl)
 
     pub loop_known : (r : ℕ) → o ≡ Some r → r < length rows
     loop_known r h = reason_known vars rows t uip left epoch stamps learnt pairs up wide fit long w code r here (sym reason_read ∙ h)
@@ -311,6 +336,18 @@ module _ (vars : List ℕ) (rows : List (List ℕ)) (t : Trail) (uip left epoch 
 
       pub loop_taught : (after : List (ℕ × ℕ)) → after ≡ pairs ++ ((get_or vars (code / 2) 0, k) ∷ []) → (clause0 : List ℕ) (pairs0 : List (ℕ × ℕ)) → StaysTaught vars rows t uip left clause0 pairs0 (kept epoch stamps learnt) pairs → StaysTaught vars rows t uip left clause0 pairs0 (kept epoch (set stamps (code / 2) 0) learnt) after
       loop_taught after p_is clause0 pairs0 h = subst (StaysTaught vars rows t uip left clause0 pairs0 (kept epoch (set stamps (code / 2) 0) learnt)) (sym p_is) (stays_taught vars rows t uip left epoch stamps learnt pairs up wide fit long w code k (get_or rows k []) (get_or vars (code / 2) 0) here marked (sym reason_read ∙ found.0) (get_given rows k (loop_known k found.0)) found.1 refl clause0 pairs0 h)
+
+      loop_implied : is_implied epoch stamps rows t.reasons.items uip (negation code) ≡ true
+      loop_implied =
+          let ne : negation code ≡ uip → ⊥ = λ q. w.apart code here (sym (negation_twice code) ∙ ap negation q) in
+          let same : get_or t.reasons.items (negation code / 2) None ≡ Some k = ap (λ n. get_or t.reasons.items n None) (negation_half code) ∙ sym reason_read ∙ found.0 in
+          implied_given epoch stamps rows t.reasons.items uip (negation code) k ne same (ap (λ n. all_noted epoch stamps n (get_or rows k [])) (negation_twice code) ∙ found.1)
+
+      pub loop_enough : (rest : ℕ) → counted (is_implied epoch stamps rows t.reasons.items uip) (kept epoch stamps learnt) ≤ rest → counted (is_implied epoch (set stamps (code / 2) 0) rows t.reasons.items uip) (kept epoch (set stamps (code / 2) 0) learnt) ≤ rest - 1
+      loop_enough rest le = enough_less epoch stamps (code / 2) w.some half_long rows t.reasons.items uip learnt (negation code) rest loop_implied (ap (is_marked epoch stamps) (negation_half code) ∙ marked) (negation_half code) (w.there code here marked) le
+
+      pub loop_walked : Walked epoch stamps rows t.reasons.items t.codes.items left at → Walked epoch (set stamps (code / 2) 0) rows t.reasons.items t.codes.items left (at - 1)
+      loop_walked walked = walked_less epoch stamps (code / 2) w.some half_long rows t.reasons.items t.codes.items left at walked (ap (λ n. n / 2) (sym code_read))
 
 -- the literal that the clause makes true is one of it
 pub taught_uip : (vars : List ℕ) (rows : List (List ℕ)) (t : Trail) (level conflict : ℕ) (clause : List ℕ) (pairs : List (ℕ × ℕ)) (uip left : ℕ) → IsStrictlyIncreasing vars → AllBelow (2 * length vars) clause → uip < 2 * length vars → IsTaught vars rows t level conflict clause pairs (Some uip) left → listed clause uip ≡ true

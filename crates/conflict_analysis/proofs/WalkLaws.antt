@@ -363,6 +363,7 @@ module _ (vars : List ℕ) (rows : List (List ℕ)) (t : Trail) (level conflict 
           | inl a ↦ (let q = w.noted.low_to z a in fewer (negation z) (w.noted.falsified z q.0 q.1) (λ c. ne (sym (negation_twice z) ∙ ap negation (sym c))))
           | inr b ↦ absurd (ne (sym (listed_one (negation code) z b)))
         ];
+        apart = λ k l q. not_code k l (q ∙ negation_twice code);
         within = omega (arith, w.within);
         small = fits;
       }

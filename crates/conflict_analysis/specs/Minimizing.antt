@@ -1,5 +1,5 @@
 -- Literals of a learned clause that the others imply are resolved away. A literal that went has no mark any more.
-use Rattle.std.specs.Prelude.{◌≡◌, ℕ, ◌*◌, ◌/◌, ◌<◌, ◌≤◌, Bool, true, false, not, ◌&&◌, cond, List, [], ◌∷◌, Option, Some, None, take, length, nat_eq, slice_index, slice_index_or}
+use Rattle.std.specs.Prelude.{◌≡◌, ℕ, ◌*◌, ◌/◌, ◌<◌, ◌≤◌, Bool, true, false, not, ◌&&◌, ◌||◌, cond, List, [], ◌∷◌, Option, Some, None, take, length, nat_eq, slice_index, slice_index_or}
 use Rattle.prop.specs.Trues.{listed}
 use Rattle.resolution_log.specs.Chains.{absent}
 use Rattle.resolution_log.specs.Codes.{AllBelow}
@@ -28,6 +28,16 @@ is_some (Some r) = true
 abbrev pub is_implied : ℕ → List ℕ → List (List ℕ) → List (Option ℕ) → ℕ → ℕ → Bool
 is_implied epoch stamps rows reasons uip z = not (nat_eq z uip) && is_some (reason_within epoch stamps rows (negation z) (slice_index_or reasons (z / 2) None))
 
+-- all literals of a row but one are in the clause
+abbrev pub all_in : List ℕ → ℕ → List ℕ → Bool
+all_in clause but [] = true
+all_in clause but (k ∷ ks) = (nat_eq k but || listed clause k) && all_in clause but ks
+
+-- No literal of the clause is implied by the others, but maybe the one that it makes true: a reason of its negation has one
+-- more literal that is not in the clause.
+abbrev pub IsMinimal : List (List ℕ) → List (Option ℕ) → ℕ → List ℕ → Type 0
+IsMinimal rows reasons uip clause = (z r : ℕ) → listed clause z ≡ true → (z ≡ uip → ⊥) → slice_index_or reasons (z / 2) None ≡ Some r → all_in clause (negation z) (slice_index_or rows r []) ≡ false
+
 -- the literals that still have marks
 abbrev pub kept : ℕ → List ℕ → List ℕ → List ℕ
 kept epoch stamps [] = []
@@ -41,6 +51,7 @@ pub record Minimizing (vars : List ℕ) (rows : List (List ℕ)) (t : Trail) (ui
   pub there : (k : ℕ) → listed (take left t.codes.items) k ≡ true → is_marked epoch stamps (k / 2) ≡ true → listed learnt (negation k) ≡ true
   pub away : (k : ℕ) → listed (take left t.codes.items) k ≡ true → is_marked epoch stamps (k / 2) ≡ true → absent (slice_index vars (k / 2)) pairs ≡ true
   pub falsified : (z : ℕ) → listed learnt z ≡ true → (z ≡ uip → ⊥) → listed (take left t.codes.items) (negation z) ≡ true
+  pub apart : (k : ℕ) → listed (take left t.codes.items) k ≡ true → k ≡ negation uip → ⊥
   pub within : left ≤ length t.codes.items
   pub small : AllBelow (2 * length vars) learnt
 

@@ -1,14 +1,14 @@
 //! Literals of the learned clause that the others imply are resolved away: local minimization (N. Sörensson and A. Biere,
 //! Minimizing Learned Clauses, SAT 2009).
 
-ghost use Rattle.std.specs.Prelude.{◌≡◌, ℕ, ◌*◌, ◌/◌, ◌<◌, length, IfOk, List, Some, None, [], slice_get, slice_index_or, true};
+ghost use Rattle.std.specs.Prelude.{◌≡◌, ℕ, ◌*◌, ◌/◌, ◌<◌, ◌≤◌, length, IfOk, List, Some, None, [], slice_get, slice_index_or, true};
 ghost use Rattle.prop.specs.Trues.{listed};
 ghost use Rattle.std.specs.List.Sorted.{IsStrictlyIncreasing};
 ghost use Rattle.resolution_log.specs.Codes.{AllBelow};
 ghost use Rattle.dense_trail.specs.Dense.{negation};
 ghost use Rattle.conflict_analysis.specs.Notes.{counted};
 ghost use Rattle.conflict_analysis.specs.Walk.{RowsFit};
-ghost use Rattle.conflict_analysis.specs.Minimizing.{all_noted, reason_within, is_implied, kept, Minimizing, StaysTaught};
+ghost use Rattle.conflict_analysis.specs.Minimizing.{all_noted, reason_within, is_implied, kept, IsMinimal, Minimizing, StaysTaught};
 
 use crate::Notes;
 use crate::noting::stays_out;
@@ -101,8 +101,9 @@ fn with_marks(
 }
 
 // Resolves the implied literals away, so many at most, last of the trail first: a reason's other literals stand before, so
-// that each literal goes but once. The marks of those that went are taken away.
+// that each literal goes but once. The marks of those that went are taken away; answers their negations.
 fn resolve_implied(
+    alloc: Global,
     vars: &[u32],
     rows: &Rows,
     trail: &Trail,
@@ -111,23 +112,27 @@ fn resolve_implied(
     uip: u32,
     left: usize,
     most: usize,
-) -> Result<(), AllocError>
+) -> Result<Vec<u32>, AllocError>
     requires rising { IsStrictlyIncreasing vars.now }
     requires wide { length trail.now.levels.items ≡ length vars.now }
     requires stamps { length notes.old.stamps.items ≡ length vars.now }
     requires fit { RowsFit vars.now rows.now }
     requires begin { Minimizing vars.now rows.now trail.now uip left notes.old.epoch notes.old.stamps.items notes.old.learnt.items pairs.old }
+    requires enough { counted (is_implied notes.old.epoch notes.old.stamps.items rows.now trail.now.reasons.items uip) (kept notes.old.epoch notes.old.stamps.items notes.old.learnt.items) ≤ most }
     ensures taught { IfOk result (λ _. StaysTaught vars.now rows.now trail.now uip left (kept notes.old.epoch notes.old.stamps.items notes.old.learnt.items) pairs.old (kept notes.new.epoch notes.new.stamps.items notes.new.learnt.items) pairs.new) }
+    ensures minimal { IfOk result (λ _. IsMinimal rows.now trail.now.reasons.items uip (kept notes.new.epoch notes.new.stamps.items notes.new.learnt.items)) }
     ensures learnt { IfOk result (λ _. notes.new.learnt.items ≡ notes.old.learnt.items) }
     ensures stamps { IfOk result (λ _. length notes.new.stamps.items ≡ length notes.old.stamps.items) }
+    ensures gone { IfOk result (λ g. AllBelow (2 * length vars.now) g.items) }
 {
+    let mut gone = Vec::new(alloc);
     let mut at = left;
     let mut rest = most;
     'walk: while at > 0 {
-        at -= 1;
         if rest == 0 {
-            return Ok(());
+            return Ok(gone);
         }
+        at -= 1;
         let code = trail.codes[at];
         let number = (code / 2) as usize;
         if notes.stamps[number] != notes.epoch {
@@ -140,13 +145,15 @@ fn resolve_implied(
         };
         notes.stamps[number] = 0;
         pairs.push(vars[number], clause)?;
+        gone.push(code)?;
         rest -= 1;
     }
-    Ok(())
+    Ok(gone)
 }
 
 /// Resolves the literals of a learned clause away whose reasons have no other literals than the clause, but never the one
-/// that the clause makes true, which is the only one of the current level. What is left stands in the notes.
+/// that the clause makes true, which is the only one of the current level. What is left stands in the notes. Answers the
+/// negations of the literals that went.
 pub fn minimize(
     alloc: Global,
     vars: &[u32],
@@ -156,7 +163,7 @@ pub fn minimize(
     pairs: &mut Pairs,
     uip: u32,
     left: usize,
-) -> Result<(), AllocError>
+) -> Result<Vec<u32>, AllocError>
     requires rising { IsStrictlyIncreasing vars.now }
     requires wide { length trail.now.levels.items ≡ length vars.now }
     requires stamps { length notes.old.stamps.items ≡ length vars.now }
@@ -164,8 +171,10 @@ pub fn minimize(
     requires begin { Minimizing vars.now rows.now trail.now uip left notes.old.epoch notes.old.stamps.items notes.old.learnt.items pairs.old }
     requires marked { kept notes.old.epoch notes.old.stamps.items notes.old.learnt.items ≡ notes.old.learnt.items }
     ensures taught { IfOk result (λ _. StaysTaught vars.now rows.now trail.now uip left notes.old.learnt.items pairs.old notes.new.learnt.items pairs.new) }
+    ensures minimal { IfOk result (λ _. IsMinimal rows.now trail.now.reasons.items uip notes.new.learnt.items) }
     ensures fits { IfOk result (λ _. AllBelow (2 * length vars.now) notes.new.learnt.items) }
     ensures stamps { IfOk result (λ _. length notes.new.stamps.items ≡ length vars.now) }
+    ensures gone { IfOk result (λ g. AllBelow (2 * length vars.now) g.items) }
 {
     let count = implied_count(
         rows,
@@ -176,9 +185,9 @@ pub fn minimize(
         uip,
     );
     if count == 0 {
-        return Ok(());
+        return Ok(Vec::new(alloc));
     }
-    resolve_implied(vars, rows, trail, notes, pairs, uip, left, count)?;
+    let gone = resolve_implied(alloc, vars, rows, trail, notes, pairs, uip, left, count)?;
     let clause = with_marks(
         alloc,
         notes.stamps.as_slice(),
@@ -186,5 +195,5 @@ pub fn minimize(
         notes.learnt.as_slice(),
     )?;
     notes.learnt = clause;
-    Ok(())
+    Ok(gone)
 }

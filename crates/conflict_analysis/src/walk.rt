@@ -26,6 +26,8 @@ pub struct Analysis {
     pub uip: Option<u32>,
     /// How many literals of the trail stand before the negation of that one.
     pub left: usize,
+    /// The negations of literals that the clause had before it was made shorter.
+    pub gone: Vec<u32>,
 }
 
 // Whether one literal of the current level is left, which is not the lowest.
@@ -59,6 +61,7 @@ pub fn first_point(
     ensures minimizing { IfOk result (λ a. MatchOption a.uip (Unit {0}) (λ k. Minimizing vars.now rows.now trail.now k a.left notes.new.epoch notes.new.stamps.items notes.new.learnt.items a.pairs)) }
     ensures marked { IfOk result (λ a. MatchOption a.uip (Unit {0}) (λ k. kept notes.new.epoch notes.new.stamps.items notes.new.learnt.items ≡ notes.new.learnt.items)) }
     ensures left { IfOk result (λ a. a.left ≤ length trail.now.codes.items) }
+    ensures gone { IfOk result (λ a. a.gone.items ≡ []) }
     ensures fits { IfOk result (λ _. AllBelow (2 * length vars.now) notes.new.learnt.items) }
     ensures stamps { IfOk result (λ _. length notes.new.stamps.items ≡ length vars.now) }
 {
@@ -80,6 +83,7 @@ pub fn first_point(
                 pairs,
                 uip: Some(uip),
                 left: at,
+                gone: Vec::new(alloc),
             });
         }
         let Some(reason) = trail.reasons[number] else {
@@ -93,5 +97,6 @@ pub fn first_point(
         pairs,
         uip: None,
         left: 0,
+        gone: Vec::new(alloc),
     })
 }

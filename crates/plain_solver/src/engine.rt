@@ -354,7 +354,7 @@ fn answer_of(
             Ok(vars) => Ok(Answer::Sat(Assignment::from_trues(vars))),
             Err(_) => Err(SolveFail::Memory),
         },
-        Ending::Refuted(log) => match trimmed(alloc, clauses, &log) {
+        Ending::Refuted(log) => match trimmed(alloc, clauses, log) {
             Ok(needed) => Ok(Answer::Unsat(needed)),
             Err(_) => Err(SolveFail::Memory),
         },

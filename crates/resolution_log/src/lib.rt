@@ -54,6 +54,13 @@ impl Pairs {
         Ok(())
     }
 
+    /// Gives back the memory that is not used.
+    pub fn fit(&mut self)
+        ensures { self.new ≡ self.old }
+    {
+        self.items.shrink_to_fit();
+    }
+
     /// How many pairs there are.
     pub fn len(&self) -> usize
         ensures value { result ≡ length self.now }
@@ -122,7 +129,8 @@ impl Log {
         Log { chains }
     }
 
-    /// Adds a chain at the end. It fails where memory runs out, or a number of 32 bits for the chain does.
+    /// Adds a chain at the end, in no more memory than its pairs need. It fails where memory runs out, or a number of 32
+    /// bits for the chain does.
     pub fn push(&mut self, chain: Chain) -> Result<(), AllocError>
         ensures pushed { IfOk result (λ _. self.new ≡ self.old ++ chain ∷ []) }
         ensures kept { OnErr result (self.new ≡ self.old) }
@@ -130,7 +138,9 @@ impl Log {
         if self.chains.len() >= 0xffff_ffff {
             return Err(AllocError);
         }
-        self.chains.push(chain)?;
+        let Chain { first, mut pairs } = chain;
+        pairs.fit();
+        self.chains.push(Chain { first, pairs })?;
         Ok(())
     }
 
@@ -154,6 +164,14 @@ impl Log {
         ensures few { length self.now < 4294967296 }
     {
         self.chains.as_slice()
+    }
+
+    /// The chains, to be taken apart. It takes no memory.
+    pub fn into_chains(self) -> Vec<Chain>
+        ensures value { result.items ≡ self }
+        ensures few { length self < 4294967296 }
+    {
+        self.chains
     }
 }
 

@@ -30,6 +30,9 @@ join_learned-requires-clause-learned c = record {
 pub join_learned-requires-clause-fits : goal.join_learned-requires-clause-fits
 join_learned-requires-clause-fits c = subst (λ (w : List ℕ). AllBelow (2 * length w) c.analyze.new.notes.learnt.items) (c.deref.ensures.value ∙ sym c.deref-2.ensures.value) c.in_ok-a.ensures.fits
 
+pub join_learned-requires-clause-gone : goal.join_learned-requires-clause-gone
+join_learned-requires-clause-gone c = subst (λ (w : List ℕ). AllBelow (2 * length w) c.as_slice.result.now) (c.deref.ensures.value ∙ sym c.deref-2.ensures.value) (subst (AllBelow (2 * length c.deref.result.now)) (sym c.as_slice.ensures.value) c.in_ok-a.ensures.gone)
+
 pub join_learned-requires-clause-in_clause : goal.join_learned-requires-clause-in_clause
 join_learned-requires-clause-in_clause c = subst (λ (o : Option ℕ). MatchOption o (Unit {0}) (λ k. listed c.analyze.new.notes.learnt.items k ≡ true)) c.in-Some.is c.in_ok-a.ensures.uip
 

@@ -1,6 +1,7 @@
 use Rattle.std.proofs.Common.{arith, ◌∙◌, ◌/◌, length-set}
 use Rattle.resolution_log.proofs.MarkLaws.{most_set}
-use Rattle.conflict_analysis.proofs.MinimizeLaws.{loop_half, loop_known, loop_minimizing, loop_taught}
+use Rattle.conflict_analysis.proofs.MinimalLaws.{minimal_few, walked_all}
+use Rattle.conflict_analysis.proofs.MinimizeLaws.{loop_half, loop_known, loop_gone, loop_unmarked, loop_none, loop_minimizing, loop_taught, loop_enough, loop_walked}
 use Rattle.conflict_analysis.proofs.minimizing.resolve_implied.Goals as goal
 
 pub index-requires : goal.index-requires
@@ -28,4 +29,37 @@ walk-preserved c = record {
   learnt = c.walk.invariant.learnt;
   stamps = length-set c.walk.notes.stamps.items (c.index-code.result.now / 2) 0 ∙ c.walk.invariant.stamps;
   within = omega (arith, c.walk.invariant.within);
+  walked = loop_walked c.args.vars.now c.args.rows.now c.args.trail.now c.args.uip c.args.left c.walk.notes.epoch c.walk.notes.stamps.items c.walk.notes.learnt.items c.walk.pairs c.requires.rising c.requires.wide c.requires.fit c.walk.invariant.stamps c.walk.invariant.minimizing c.walk.at c.walk-test.true c.walk.invariant.within c.index-code.result.now c.index-code.ensures c.index-reason.result.now c.index-reason.ensures c.index.result.now c.index.ensures c.if-index-notes.false c.as_slice.result.now c.as_slice.ensures.value c.implied_by-found.result c.implied_by-found.ensures c.in-Some.clause c.in-Some.is c.walk.invariant.walked;
+  enough = loop_enough c.args.vars.now c.args.rows.now c.args.trail.now c.args.uip c.args.left c.walk.notes.epoch c.walk.notes.stamps.items c.walk.notes.learnt.items c.walk.pairs c.requires.rising c.requires.wide c.requires.fit c.walk.invariant.stamps c.walk.invariant.minimizing c.walk.at c.walk-test.true c.walk.invariant.within c.index-code.result.now c.index-code.ensures c.index-reason.result.now c.index-reason.ensures c.index.result.now c.index.ensures c.if-index-notes.false c.as_slice.result.now c.as_slice.ensures.value c.implied_by-found.result c.implied_by-found.ensures c.in-Some.clause c.in-Some.is c.walk.rest c.walk.invariant.enough;
+  gone = loop_gone c.args.vars.now c.args.rows.now c.args.trail.now c.args.uip c.args.left c.walk.notes.epoch c.walk.notes.stamps.items c.walk.notes.learnt.items c.walk.pairs c.requires.rising c.requires.wide c.requires.fit c.walk.invariant.stamps c.walk.invariant.minimizing c.walk.at c.walk-test.true c.walk.invariant.within c.index-code.result.now c.index-code.ensures c.walk.gone.items c.push-in-walk.new.self.items c.in_ok-push-2.ensures.items c.walk.invariant.gone;
 }
+
+pub walk-preserved-then-index-notes : goal.walk-preserved-then-index-notes
+walk-preserved-then-index-notes c = record {
+  minimizing = c.walk.invariant.minimizing;
+  taught = c.walk.invariant.taught;
+  learnt = c.walk.invariant.learnt;
+  stamps = c.walk.invariant.stamps;
+  within = omega (arith, c.walk.invariant.within);
+  walked = loop_unmarked c.args.vars.now c.args.rows.now c.args.trail.now c.args.uip c.args.left c.walk.notes.epoch c.walk.notes.stamps.items c.walk.notes.learnt.items c.walk.pairs c.requires.rising c.requires.wide c.requires.fit c.walk.invariant.stamps c.walk.invariant.minimizing c.walk.at c.walk-test.true c.walk.invariant.within c.index-code.result.now c.index-code.ensures c.index.result.now c.index.ensures c.if-index-notes.true c.walk.invariant.walked;
+  enough = c.walk.invariant.enough;
+  gone = c.walk.invariant.gone;
+}
+
+pub walk-preserved-in_default : goal.walk-preserved-in_default
+walk-preserved-in_default c = record {
+  minimizing = c.walk.invariant.minimizing;
+  taught = c.walk.invariant.taught;
+  learnt = c.walk.invariant.learnt;
+  stamps = c.walk.invariant.stamps;
+  within = omega (arith, c.walk.invariant.within);
+  walked = loop_none c.args.vars.now c.args.rows.now c.args.trail.now c.args.uip c.args.left c.walk.notes.epoch c.walk.notes.stamps.items c.walk.notes.learnt.items c.walk.pairs c.requires.rising c.requires.wide c.requires.fit c.walk.invariant.stamps c.walk.invariant.minimizing c.walk.at c.walk-test.true c.walk.invariant.within c.index-code.result.now c.index-code.ensures c.index-reason.result.now c.index-reason.ensures c.as_slice.result.now c.as_slice.ensures.value c.implied_by-found.result c.implied_by-found.ensures c.in_default.not-Some c.walk.invariant.walked;
+  enough = c.walk.invariant.enough;
+  gone = c.walk.invariant.gone;
+}
+
+pub returns-then-rest-eq0-clause-minimal : goal.returns-then-rest-eq0-clause-minimal
+returns-then-rest-eq0-clause-minimal c = minimal_few c.walk.notes.epoch c.walk.notes.stamps.items c.args.rows.now c.args.trail.now.reasons.items c.args.uip c.walk.notes.learnt.items c.walk.rest c.walk.invariant.enough c.if-rest-eq0.true
+
+pub returns-clause-minimal : goal.returns-clause-minimal
+returns-clause-minimal c = walked_all c.args.vars.now c.args.rows.now c.args.trail.now c.args.uip c.args.left c.walk.notes.epoch c.walk.notes.stamps.items c.walk.notes.learnt.items c.walk.pairs c.walk.invariant.minimizing c.walk.at (omega (arith, c.walk-test.false)) c.walk.invariant.walked

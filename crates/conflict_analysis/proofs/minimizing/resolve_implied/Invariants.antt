@@ -1,5 +1,8 @@
-use Rattle.std.proofs.Common.{◌≡◌, ◌≤◌, length}
-use Rattle.conflict_analysis.specs.Minimizing.{kept, Minimizing, StaysTaught}
+use Rattle.std.proofs.Common.{◌≡◌, ◌*◌, ◌≤◌, length}
+use Rattle.resolution_log.specs.Codes.{AllBelow}
+use Rattle.conflict_analysis.specs.Notes.{counted}
+use Rattle.conflict_analysis.specs.Minimizing.{is_implied, kept, Minimizing, StaysTaught}
+use Rattle.conflict_analysis.proofs.MinimalLaws.{Walked}
 use Rattle.conflict_analysis.proofs.minimizing.resolve_implied.Given as goal
 
 abbrev pub invariant-walk : goal.invariant-walk
@@ -9,6 +12,9 @@ invariant-walk l = record {
   learnt : l.notes.learnt.items ≡ l.initial.notes.learnt.items;
   stamps : length l.notes.stamps.items ≡ length l.vars;
   within : l.at ≤ l.left;
+  walked : Walked l.notes.epoch l.notes.stamps.items l.rows l.trail.reasons.items l.trail.codes.items l.left l.at;
+  enough : counted (is_implied l.notes.epoch l.notes.stamps.items l.rows l.trail.reasons.items l.uip) (kept l.notes.epoch l.notes.stamps.items l.notes.learnt.items) ≤ l.rest;
+  gone : AllBelow (2 * length l.vars) l.gone.items;
 }
 
 abbrev pub decreases-walk : goal.decreases-walk

@@ -1,6 +1,6 @@
 use Rattle.std.proofs.Common.{arith, ◌≡◌, ◌<◌, ◌/◌, length}
 use Rattle.conflict_analysis.proofs.RowLaws.{code_fits}
-use Rattle.cdcl_solver.proofs.choosing.bump_learned.Goals as goal
+use Rattle.cdcl_solver.proofs.choosing.bump_listed.Goals as goal
 
 pub bump-requires : goal.bump-requires
 bump-requires c =
