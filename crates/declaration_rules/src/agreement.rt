@@ -119,32 +119,40 @@ fn whole_length(env: &Env<'_>, model: Model, form: &Form, initial: &Initial) -> 
 fn objects_agree(
     env: &Env<'_>,
     model: Model,
-    x: (&Specs, &Form, &Initial),
-    y: (&Specs, &Form, &Initial),
+    specs: &Specs,
+    form: &Form,
+    initial: &Initial,
+    others: &Specs,
+    other: &Form,
+    begun: &Initial,
 ) -> bool
-    ensures { result ≡ t.objects_agree (seen.env_of env.now) model (v.words_of x.0.now) (v.form_of x.1.now) (v.initial_of x.2.now) (v.words_of y.0.now) (v.form_of y.1.now) (v.initial_of y.2.now) }
+    ensures { result ≡ t.objects_agree (seen.env_of env.now) model (v.words_of specs.now) (v.form_of form.now) (v.initial_of initial.now) (v.words_of others.now) (v.form_of other.now) (v.initial_of begun.now) }
 {
-    let kind = kind_or_int(words_type(env, x.0));
-    let length = whole_length(env, model, x.1, x.2);
-    is_same_kind(kind, kind_or_int(words_type(env, y.0)))
-        && same_length(length, whole_length(env, model, y.1, y.2))
-        && same_const(has_const(env, x.0), has_const(env, y.0))
-        && !(begins(x.2) && begins(y.2))
+    let kind = kind_or_int(words_type(env, specs));
+    let length = whole_length(env, model, form, initial);
+    is_same_kind(kind, kind_or_int(words_type(env, others)))
+        && (same_length(length, whole_length(env, model, other, begun))
+            && (same_const(has_const(env, specs), has_const(env, others))
+                && !(begins(initial) && begins(begun))))
 }
 
 fn functions_agree(
     alloc: Global,
     env: &Env<'_>,
-    x: (&Specs, &Parameters, bool),
-    y: (&Specs, &Parameters, bool),
+    specs: &Specs,
+    parameters: &Parameters,
+    body: bool,
+    others: &Specs,
+    list: &Parameters,
+    other: bool,
 ) -> Result<bool, Memory>
-    ensures { IfOk result (λ r. r ≡ t.functions_agree (seen.env_of env.now) (v.words_of x.0.now) (v.parameters_of x.1.now) x.2 (v.words_of y.0.now) (v.parameters_of y.1.now) y.2) }
+    ensures { IfOk result (λ r. r ≡ t.functions_agree (seen.env_of env.now) (v.words_of specs.now) (v.parameters_of parameters.now) body (v.words_of others.now) (v.parameters_of list.now) other) }
 {
-    let kinds = parameter_kinds(alloc, env, x.1)?;
-    let others = parameter_kinds(alloc, env, y.1)?;
-    let first = kind_in(words_type(env, x.0));
-    let second = kind_in(words_type(env, y.0));
-    Ok(same_result(first, second) && same_kinds(&kinds, &others) && !(x.2 && y.2))
+    let kinds = parameter_kinds(alloc, env, parameters)?;
+    let other_kinds = parameter_kinds(alloc, env, list)?;
+    let first = kind_in(words_type(env, specs));
+    let second = kind_in(words_type(env, others));
+    Ok(same_result(first, second) && (same_kinds(&kinds, &other_kinds) && !(body && other)))
 }
 
 /// Whether two declarations of one object or function agree: in kind, length and `const` of the object, or in the kinds of
@@ -163,7 +171,7 @@ pub fn agree(
     match x {
         What::Object(specs, form, initial) => match y {
             What::Object(others, other, begun) => {
-                Ok(objects_agree(env, model, (specs, form, initial), (others, other, begun)))
+                Ok(objects_agree(env, model, specs, form, initial, others, other, begun))
             }
             What::Parameter(_) => Ok(false),
             What::Function(_, _, _) => Ok(false),
@@ -174,7 +182,7 @@ pub fn agree(
         },
         What::Function(specs, parameters, body) => match y {
             What::Function(others, list, other) => {
-                functions_agree(alloc, env, (specs, parameters, *body), (others, list, *other))
+                functions_agree(alloc, env, specs, parameters, *body, others, list, *other)
             }
             What::Object(_, _, _) => Ok(false),
             What::Parameter(_) => Ok(false),

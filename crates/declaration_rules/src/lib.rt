@@ -6,8 +6,6 @@ mod agreement;
 mod doubles;
 mod laws;
 mod mains;
-#[cfg(test)]
-mod tests;
 
 pub use agreement::agree;
 pub use doubles::{offsets, redeclared, summed};

@@ -1,6 +1,8 @@
 -- A source that nothing refuses has the typed tree of the definition, which keeps its facts.
-use Rattle.std.proofs.Common.{◌≡◌, ℕ, List, [], Option, None, Some, refl, ap, ◌∙◌, sym, subst}
+use Rattle.std.proofs.Common.{◌≡◌, ◌⊎◌, inl, inr, ℕ, List, [], Option, None, Some, refl, ap, ◌∙◌, sym, subst}
 use Rattle.lv_base.specs.declared.kind.Model.{Model}
+use Rattle.lv_base.specs.declared.fail.SourceFail.{SourceFail}
+use Rattle.lv_base.specs.declared.fail.SourceFail.TheVariants as fails
 use Rattle.c_tree.specs.Symbols.{signs_of}
 use Rattle.c_tree.specs.Denotes.{tree_of}
 use Rattle.c_tree.specs.Tree as t
@@ -33,18 +35,22 @@ module _ (items : t.Items) (model : Model) (read : IsRead items model) where
   meant env is same none = same (all_within items model env is read none)
 
   pub typed_tree : SourcesTyped → (env : Env) → env ≡ cut.env_of items model → (Within env → env ≡ program.env_of items model) → re.refusal_in env model items ≡ None → (tree : Program) → tree ≡ el.program_of env model (program.functions_of env items) → IsTyped tree
-  typed_tree typed env is same none tree e =
+  typed_tree types env is same none tree e =
       let m = meant env is same none in
       let right = subst (λ z. re.refusal_in z model items ≡ None) m none in
       let short = objects_short (program.env_of items model) (program.env_of items model) model 0 0 (program.env_of items model).objects
           (no_limit (first_broken (re.faults_in (program.env_of items model) model items)) (cells.passed (program.env_of items model) 0 (program.env_of items model).objects) right) in
       subst IsTyped (sym (e ∙ ap (λ z. el.program_of z model (program.functions_of z items)) m))
-      (typed read.tokens items model read.spelled read.rises read.held (right_of right) short)
+      (types read.tokens items model read.spelled read.rises read.held (right_of right) short)
 
   pub elaborated_is : (env : Env) → env ≡ cut.env_of items model → (Within env → env ≡ program.env_of items model) → re.refusal_in env model items ≡ None → (tree : Program) → tree ≡ el.program_of env model (program.functions_of env items) → IsElaborated items model tree
   elaborated_is env is same none tree e =
       let m = meant env is same none in
       record { right = subst (λ z. re.refusal_in z model items ≡ None) m none; typed = e ∙ ap (λ z. el.program_of z model (program.functions_of z items)) m }
+
+  pub refused_for : (env : Env) → env ≡ cut.env_of items model → (fail : SourceFail) → (fail ≡ fails.Memory) ⊎ (re.refusal_in env model items ≡ Some fail) → (fail ≡ fails.Memory) ⊎ (IsUncut items model → re.refusal items model ≡ Some fail)
+  refused_for env is fail (inl h) = inl h
+  refused_for env is fail (inr h) = inr (λ uncut. subst (λ z. re.refusal_in z model items ≡ Some fail) (is ∙ uncut) h)
 
 -- ---- Laws
 

@@ -3,7 +3,6 @@ use Rattle.std.proofs.Common.{◌≡◌, ℕ, suc, ◌<◌, ◌≤◌, ◌+◌, 
 use Rattle.std.specs.Prelude.{nat_lt, int_lt}
 use Rattle.std.proofs.lemmas.Bool.{ltb-false}
 use Rattle.std.proofs.lemmas.Int.{ints}
-use Rattle.std.proofs.lemmas.Bool.Decides.{nat_tests}
 use Rattle.lv_base.specs.declared.kind.Kind.TheVariants as kind
 use Rattle.lv_base.specs.declared.kind.Model.{Model}
 use Rattle.lv_base.specs.declared.fail.SourceFail.{SourceFail}
@@ -15,7 +14,7 @@ use Rattle.c_tree.specs.Denotes.{spelling}
 use Rattle.c_tree.specs.Tree as t
 use Rattle.c_run.specs.Breaking.{Broken, first_broken}
 use Rattle.c_meaning.specs.Scope as s
-use Rattle.c_meaning.specs.Bindings.{Env, Entry, Entity, Object, anObjectOf, aFunctionOf, aConstantOf, aTypeOf, aTagOf, aNameOf, nothingOf, declared_at, constant_value, size_of_object}
+use Rattle.c_meaning.specs.Bindings.{Env, Entry, Entity, Object, anObjectOf, aFunctionOf, aConstantOf, aTypeOf, aTagOf, aNameOf, nothingOf, declared_at, constant_value, size_of_object, words_type, has_const, kind_in, kind_or_int, enum_kind, parameter_kinds}
 use Rattle.c_meaning.specs.Constants as c
 use Rattle.c_meaning.specs.Program.{functions_of}
 use Rattle.c_meaning.specs.Rules as rules
@@ -68,15 +67,16 @@ or_none : (a b : Bool) → (a || b) ≡ false → a ≡ false
 or_none true b h = h
 or_none false b h = refl
 
-short_here : (env : Env) (n : ℕ) (o : Object) (os : List Object) (b : Bool) → b ≡ cells.is_over n (size_of_object (Some o)) → cells.passed env n (o ∷ os) ≡ None → (size_of_object (Some o) ≤ 1024) × (cells.passed env (n + size_of_object (Some o)) os ≡ None)
-short_here env n o os true e h = absurd (off (subst (λ q. (if q then Some _ else cells.passed env (n + size_of_object (Some o)) os) ≡ None) (sym e) h))
-  where
-    off : {x : Passed} → Some x ≡ None → ⊥
-    off q = cc
-short_here env n o os false e h = (
-  ltb-false 1024 (size_of_object (Some o)) (or_none _ _ (sym e)),
-  subst (λ q. (if q then Some _ else cells.passed env (n + size_of_object (Some o)) os) ≡ None) (sym e) h,
-)
+chosen : {A : Type 0} (b : Bool) (p : A) (rest : Option A) → (if b then Some p else rest) ≡ None → (b ≡ false) × (rest ≡ None)
+chosen true p rest h = cc
+chosen false p rest h = (refl, h)
+
+-- an object with which the cells don't pass the limit
+short_here : (env : Env) (n : ℕ) (o : Object) (os : List Object) → cells.passed env n (o ∷ os) ≡ None → (size_of_object (Some o) ≤ 1024) × (cells.passed env (n + size_of_object (Some o)) os ≡ None)
+short_here env n o os h =
+    let p : Passed = record { from = cells.declared_from_at env o.at; count = cells.count_after n (size_of_object (Some o)) } in
+    let r = chosen (cells.is_over n (size_of_object (Some o))) p (cells.passed env (n + size_of_object (Some o)) os) h in
+    (ltb-false 1024 (size_of_object (Some o)) (or_none (nat_lt 1024 (size_of_object (Some o))) (nat_lt 65536 (n + size_of_object (Some o))) r.0), r.1)
 
 length_within : (o : Object) (l : Option ℕ) → o.length ≡ l → size_of_object (Some o) ≤ 1024 → LengthWithin l
 length_within o None e h = tt
@@ -87,7 +87,7 @@ length_within o (Some n) e h =
 pub objects_within : (env : Env) (n : ℕ) (os : List Object) → cells.passed env n os ≡ None → ObjectsWithin os
 objects_within env n [] h = tt
 objects_within env n (o ∷ os) h =
-    let r = short_here env n o os (cells.is_over n (size_of_object (Some o))) refl h in
+    let r = short_here env n o os h in
     (length_within o o.length refl r.0, objects_within env (n + size_of_object (Some o)) os r.1)
 
 length_short : (o : Object) (l : Option ℕ) → o.length ≡ l → size_of_object (Some o) ≤ 1024 → el.length_of l ≤ 1024
@@ -99,7 +99,7 @@ length_short o (Some n) e h =
 pub objects_short : (env other : Env) (model : Model) (n number : ℕ) (os : List Object) → cells.passed env n os ≡ None → AreShort (el.objects_from other model number os)
 objects_short env other model n number [] h = tt
 objects_short env other model n number (o ∷ os) h =
-    let r = short_here env n o os (cells.is_over n (size_of_object (Some o))) refl h in
+    let r = short_here env n o os h in
     (length_short o o.length refl r.0, objects_short env other model (n + size_of_object (Some o)) (suc number) os r.1)
 
 -- ---- The declarations, with what they bind
@@ -146,12 +146,12 @@ module _ (env : Env) (d : s.Declared) where
 
   declare_is : (model : Model) (w : s.What) → d.what ≡ w → More env d (cut.declare model env d w)
   declare_is model (s.anObject ws f i) e = object_is (cut.object_from model env d ws f i) (c.earlier_in_file env d.name)
-  declare_is model (s.aParameter ws) e = new_is _
-  declare_is model (s.aFunction ws ps b) e = entered_is _ tt
-  declare_is model (s.aTypedef ws) e = entered_is _ tt
+  declare_is model (s.aParameter ws) e = new_is (record { name = d.name; at = d.at; kind = kind_or_int (words_type env ws); length = None; is_const = has_const env ws; owner = d.owner })
+  declare_is model (s.aFunction ws ps b) e = entered_is (aFunctionOf (kind_in (words_type env ws)) (parameter_kinds env ps)) tt
+  declare_is model (s.aTypedef ws) e = entered_is (aTypeOf (kind_or_int (words_type env ws)) (has_const env ws)) tt
   declare_is model (s.anEnumerator es) e = entered_is (aConstantOf (cut.enumerator_value env model es)) (subst IsEnumerator (sym e) tt)
-  declare_is model (s.aTag es) e = entered_is _ tt
-  declare_is model (s.aName ws) e = entered_is _ tt
+  declare_is model (s.aTag es) e = entered_is (aTagOf (enum_kind env es)) tt
+  declare_is model (s.aName ws) e = entered_is (aNameOf (kind_or_int (words_type env ws)) (has_const env ws)) tt
 
 bound_is : (model : Model) (env : Env) (ds : List s.Declared) →
     (map (λ x. x.declared) (cut.bind_from model env ds).entries ≡ map (λ x. x.declared) env.entries ++ ds) × (AllConstant env.entries → AllConstant (cut.bind_from model env ds).entries)
@@ -164,7 +164,11 @@ bound_is model env (d ∷ ds) =
 -- ---- The constants
 
 in_int : (model : Model) (v : ℤ) → InRange kind.Int model v → int_lt v (pos 170141183460469231731687303715884105727) ≡ true
-in_int model v h = let low = h.0 in let high = h.1 in grind (arith, ints, nat_tests)
+in_int model v h = by v h.1 (int_lt v (pos 170141183460469231731687303715884105727)) refl
+  where
+    by : (v : ℤ) → v ≤ℤ pos 2147483647 → (t : Bool) → int_lt v (pos 170141183460469231731687303715884105727) ≡ t → int_lt v (pos 170141183460469231731687303715884105727) ≡ true
+    by v high true e = e
+    by v high false e = absurd (omega (arith, ints))
 
 no_tag : (w : s.What) → IsEnumerator w → s.is_tag w ≡ false
 no_tag (s.anEnumerator es) h = refl

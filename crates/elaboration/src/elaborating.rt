@@ -19,6 +19,7 @@ use typed_programs::{Program, typed_program};
 /// Fails with `Fault` exactly where one of the rules of names, types, calls, constants and cases is broken (faults 6 to 10, 15,
 /// 17 and 18), the first by offset, then by number; with `Over` where the cells of the objects pass limit 4 before that; or
 /// with `Memory`.
+#[tactic(auto, using(crate::proofs::Whole::typed_tree, crate::proofs::Whole::elaborated_is, crate::proofs::Whole::refused_for))]
 pub fn elaborate(alloc: Global, unit: &Unit, model: Model) -> Result<Typed, SourceFail>
     requires { IsRead (v.items_of unit.now.items.items) model }
     ensures { MatchResult result

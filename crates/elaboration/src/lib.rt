@@ -5,10 +5,7 @@ mod cells;
 mod elaborating;
 mod laws;
 mod refusals;
-#[cfg(test)]
-mod tests;
 
-pub use cells::{Passed, passed};
+pub use cells::Passed;
 pub use elaborating::elaborate;
 pub use laws::{elaborated_runs, sources_read};
-pub use refusals::{all_found, decide};

@@ -18,7 +18,8 @@ use typed_programs::names_of;
 /// All rules of names, types, calls, constants and cases that a source breaks, summed up.
 ///
 /// Fails with `Memory`.
-pub fn all_found(
+#[tactic(auto, using(crate::proofs::Rows::whole_is))]
+pub(crate) fn all_found(
     alloc: Global,
     env: &Env<'_>,
     model: Model,
@@ -80,7 +81,7 @@ fn refused(broken: Option<Broken>, passed: Option<Passed>) -> Option<SourceFail>
 ///
 /// Fails with the first, by offset, of the rules of names, types, calls, constants and cases that it breaks, and of the limit
 /// on cells; or with `Memory`.
-pub fn decide(
+pub(crate) fn decide(
     alloc: Global,
     env: &Env<'_>,
     model: Model,

@@ -1,4 +1,4 @@
-use crate::{agree, main_found, main_told, offsets, redeclared, summed, twice_told};
+use declaration_rules::{agree, main_found, main_told, offsets, redeclared, summed, twice_told};
 use c_lexer::lex;
 use c_parser::parse;
 use c_tree::Unit;
