@@ -48,19 +48,13 @@ module _ (env : Env) (model : Model) (bodies : List (List ℕ)) where
 
   agrees_same : (w v : s.What) → d.agrees env model w v ≡ r.agrees env model bodies w v
   agrees_same (s.anObject ws f i) (s.anObject vs g j) =
+      let kind = r.is_same_kind (kind_or_int (words_type env ws)) (kind_or_int (words_type env vs)) in
+      let long = r.same_length env model bodies (object_length env model f i) (object_length env model g j) in
+      let same = r.same_const env model bodies (has_const env ws) (has_const env vs) in
       ap (λ z. kind && (z && (d.same_const (has_const env ws) (has_const env vs) && not (d.begins i && d.begins j)))) (length_same (object_length env model f i) (object_length env model g j))
       ∙ ap (λ z. kind && (long && (z && not (d.begins i && d.begins j)))) (const_same (has_const env ws) (has_const env vs))
-      ∙ ap (λ z. kind && (long && (const && not (z && d.begins j)))) (begins_same i)
-      ∙ ap (λ z. kind && (long && (const && not (r.begins env model bodies i && z)))) (begins_same j)
-    where
-      abbrev kind : Bool
-      kind = r.is_same_kind (kind_or_int (words_type env ws)) (kind_or_int (words_type env vs))
-
-      abbrev long : Bool
-      long = r.same_length env model bodies (object_length env model f i) (object_length env model g j)
-
-      abbrev const : Bool
-      const = r.same_const env model bodies (has_const env ws) (has_const env vs)
+      ∙ ap (λ z. kind && (long && (same && not (z && d.begins j)))) (begins_same i)
+      ∙ ap (λ z. kind && (long && (same && not (r.begins env model bodies i && z)))) (begins_same j)
   agrees_same (s.aFunction ws ps b) (s.aFunction vs qs c) =
       ap (λ z. z && (d.same_kinds (parameter_kinds env ps) (parameter_kinds env qs) && not (b && c))) (result_same (kind_in (words_type env ws)) (kind_in (words_type env vs)))
       ∙ ap (λ z. r.same_result env model bodies (kind_in (words_type env ws)) (kind_in (words_type env vs)) && (z && not (b && c))) (kinds_same (parameter_kinds env ps) (parameter_kinds env qs))

@@ -1,4 +1,4 @@
-ghost use Rattle.std.specs.Prelude.{◌≡◌, length, IfOk};
+ghost use Rattle.std.specs.Prelude.{◌≡◌, ◌&&◌, length, IfOk};
 ghost use Rattle.c_tree.specs.View as v;
 ghost use Rattle.c_meaning.specs.Constants as c;
 ghost use Rattle.type_scopes.specs.Seen as seen;
@@ -12,6 +12,12 @@ use type_constants::constant;
 use type_kinds::{is_same_kind, kind_in, kind_or_int};
 use type_scopes::{Env, What, has_const, parameter_kinds, words_type};
 
+fn both_same(x: bool, y: bool) -> bool
+    ensures { result ≡ (x && y) }
+{
+    x && y
+}
+
 // Lists of one length.
 #[tactic(auto, using(crate::proofs::KindRows::same_more, std::proofs::lemmas::List::take_all))]
 fn all_same(xs: &[Kind], ys: &[Kind]) -> bool
@@ -20,7 +26,7 @@ fn all_same(xs: &[Kind], ys: &[Kind]) -> bool
 {
     let mut same = true;
     for (i, x) in xs.iter().enumerate() {
-        same = same && is_same_kind(*x, ys[i]);
+        same = both_same(same, is_same_kind(*x, ys[i]));
     }
     same
 }

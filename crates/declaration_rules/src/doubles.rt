@@ -1,4 +1,4 @@
-ghost use Rattle.std.specs.Prelude.{◌≡◌, ◌++◌, [], map, IfOk};
+ghost use Rattle.std.specs.Prelude.{◌≡◌, ◌++◌, ◌||◌, [], map, IfOk};
 ghost use Rattle.std.specs.List.{list_any};
 ghost use Rattle.c_run.specs.Breaking as br;
 ghost use Rattle.c_meaning.specs.Bindings as b;
@@ -84,6 +84,12 @@ fn clashes(
     Ok(!same)
 }
 
+fn or_found(test: bool, found: bool) -> bool
+    ensures { result ≡ (test || found) }
+{
+    test || found
+}
+
 #[tactic(auto, using(crate::proofs::Rows::any_more, std::proofs::lemmas::List::take_all))]
 fn clashes_before(
     alloc: Global,
@@ -97,7 +103,7 @@ fn clashes_before(
     let mut found = false;
     for earlier in before {
         let test = clashes(alloc, env, model, entry, earlier)?;
-        found = test || found;
+        found = or_found(test, found);
     }
     Ok(found)
 }
