@@ -59,3 +59,8 @@ items_push_behind (y ∷ xs) x is = items_push_behind xs x (t.items_and is (item
 
 pub mains_more : (env : b.Env) (xs : List Item) (i : ℕ) (f : Item) → i < length xs → m.mains_in env (items_of (take (i + 1) xs)) ≡ m.with_item env (m.mains_in env (items_of (take i xs))) (item_of (get_or xs i f))
 mains_more env xs i f h = ap (λ ys. m.mains_in env (items_of ys)) (take_more xs i f h) ∙ ap (m.mains_in env) (items_push_behind (take i xs) (get_or xs i f) t.no_items)
+
+pub any_step : (p : b.Entry → Bool) (xs : List Entry) (i : ℕ) (x : Entry) (found test new : Bool) → i < length xs → x ≡ get_or xs i x →
+    found ≡ list_any p (map entry_of (take i xs)) → test ≡ p (entry_of x) → new ≡ (test || found) → new ≡ list_any p (map entry_of (take (i + 1) xs))
+any_step p xs i x found test new h e f t n =
+    n ∙ ap (λ z. z || found) t ∙ ap (λ z. p (entry_of x) || z) f ∙ ap (λ y. p (entry_of y) || list_any p (map entry_of (take i xs))) e ∙ sym (any_more p xs i x h)

@@ -1,7 +1,7 @@
-use declaration_rules::{agree, main_found, main_told, offsets, redeclared, summed, twice_told};
 use c_lexer::lex;
 use c_parser::parse;
 use c_tree::Unit;
+use declaration_rules::{agree, main_found, main_told, offsets, redeclared, summed, twice_told};
 use lv_base::Model;
 use rule_lines::Found;
 use source_bindings::bind_all;

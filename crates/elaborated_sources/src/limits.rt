@@ -61,10 +61,18 @@ fn cells_are_counted_together(rt: HostRuntime) -> Result<(), Fail> {
     let rows = [
         (64, "int main() { }", (0, 0)),
         (64, "int x; int main() { }", (104, 65_537)),
-        (64, "int f(int x) { return x; } int main() { }", (104, 65_537)),
+        (
+            64,
+            "int f(int x) { return x; } int main() { }",
+            (104, 65_537),
+        ),
         (64, "int f(int x); int main() { }", (0, 0)),
         (64, "int main() { char x; }", (104, 65_537)),
-        (63, "int a[1024]; extern int a[1024]; int main() { }", (0, 0)),
+        (
+            63,
+            "int a[1024]; extern int a[1024]; int main() { }",
+            (0, 0),
+        ),
         (65, "int main() { }", (104, 66_560)),
         (63, "int a[1023], x, y; int main() { }", (104, 65_537)),
     ];

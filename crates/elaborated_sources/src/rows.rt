@@ -27,9 +27,15 @@ pub const BOTH: [(&str, u8); 158] = [
     ("int x = 1; int @x = 2; int main() { }", 7),
     ("int x; int x; int x = 3; int main() { }", 0),
     ("extern int x; int x; int main() { }", 0),
-    ("int f(int a); int f(int b) { return b; } int main() { return f(1); }", 0),
+    (
+        "int f(int a); int f(int b) { return b; } int main() { return f(1); }",
+        0,
+    ),
     ("int f(); int @f(int x) { return x; } int main() { }", 7),
-    ("int f(void) { return 1; } int @f(void) { return 2; } int main() { }", 7),
+    (
+        "int f(void) { return 1; } int @f(void) { return 2; } int main() { }",
+        7,
+    ),
     ("int f(int x) { int @x; return 0; } int main() { }", 7),
     ("int f(int x) { { int x; } return 0; } int main() { }", 0),
     ("int f(int x, int @x) { return 0; } int main() { }", 7),
@@ -93,7 +99,10 @@ pub const BOTH: [(&str, u8); 158] = [
     ("void f(void) { } int main() { (f)@(); }", 9),
     ("void f(void) { } int main() { f()@(); }", 9),
     ("void reach_error(void); int main() { reach_error(); }", 0),
-    ("int __VERIFIER_nondet_int(void); int main() { return __VERIFIER_nondet_int(); }", 0),
+    (
+        "int __VERIFIER_nondet_int(void); int main() { return __VERIFIER_nondet_int(); }",
+        0,
+    ),
     ("void reach_error(void); int main() { @reach_error(1); }", 9),
     ("void f(void); int main() { f(); } void f(void) { }", 0),
     ("void exit(int x); int main() { @exit(1); }", 9),
@@ -142,28 +151,67 @@ pub const BOTH: [(&str, u8); 158] = [
     ("const int c; int main() { @--c; }", 17),
     ("const int a[2]; int main() { a[0] @= 1; }", 17),
     ("typedef const int T; T c; int main() { c @+= 1; }", 17),
-    ("int f(const int x) { x @= 1; return x; } int main() { }", 17),
-    ("int main() { const int c = 1; { int c; c = 2; } return c; }", 0),
+    (
+        "int f(const int x) { x @= 1; return x; } int main() { }",
+        17,
+    ),
+    (
+        "int main() { const int c = 1; { int c; c = 2; } return c; }",
+        0,
+    ),
     ("int main() { const int c = 1; (c) @= 1; }", 17),
     ("int const c; int main() { c @<<= 1; y; }", 17),
     ("int main() { switch (1) { case 1: ; @case 1: ; } }", 18),
     ("int main() { switch (1) { default: ; @default: ; } }", 18),
-    ("int main() { unsigned char c; switch (c) { case 0: ; case 256: ; } }", 0),
-    ("int main() { unsigned u; switch (u) { case -1: ; @case 4294967295u: ; } }", 18),
-    ("int main() { int i; switch (i) { case 1: switch (i) { case 1: ; } } }", 0),
-    ("int main() { int i; switch (i) { case 0: ; case 1: ; @case 1 - 1: ; } }", 18),
-    ("int main() { int i; switch (i) { case 0: ; @case 4294967296: ; } }", 18),
-    ("int main() { int i; switch (i) { case 'a': ; @case 97: ; } }", 18),
-    ("int main() { int i; switch (i) { { case 1: ; } if (i) { @case 1: ; } } }", 18),
-    ("int main() { int i; switch (i) { case 1: ; default: ; case 2: ; } }", 0),
-    ("enum { A, B = 0 }; int main() { switch (1) { case A: ; @case B: ; } }", 18),
-    ("int main() { int i; switch (i) { while (i) { case 3: ; } @case 3: ; } }", 18),
+    (
+        "int main() { unsigned char c; switch (c) { case 0: ; case 256: ; } }",
+        0,
+    ),
+    (
+        "int main() { unsigned u; switch (u) { case -1: ; @case 4294967295u: ; } }",
+        18,
+    ),
+    (
+        "int main() { int i; switch (i) { case 1: switch (i) { case 1: ; } } }",
+        0,
+    ),
+    (
+        "int main() { int i; switch (i) { case 0: ; case 1: ; @case 1 - 1: ; } }",
+        18,
+    ),
+    (
+        "int main() { int i; switch (i) { case 0: ; @case 4294967296: ; } }",
+        18,
+    ),
+    (
+        "int main() { int i; switch (i) { case 'a': ; @case 97: ; } }",
+        18,
+    ),
+    (
+        "int main() { int i; switch (i) { { case 1: ; } if (i) { @case 1: ; } } }",
+        18,
+    ),
+    (
+        "int main() { int i; switch (i) { case 1: ; default: ; case 2: ; } }",
+        0,
+    ),
+    (
+        "enum { A, B = 0 }; int main() { switch (1) { case A: ; @case B: ; } }",
+        18,
+    ),
+    (
+        "int main() { int i; switch (i) { while (i) { case 3: ; } @case 3: ; } }",
+        18,
+    ),
 ];
 
 /// The same where a long has 32 bits.
 pub const NARROW: [(&str, u8); 15] = [
     ("long x = @2147483647L + 1; int main() { }", 10),
-    ("int main() { long l; switch (l) { case 0: ; @case 4294967296: ; } }", 18),
+    (
+        "int main() { long l; switch (l) { case 0: ; @case 4294967296: ; } }",
+        18,
+    ),
     ("enum { A = @1L << 31 }; int main() { }", 10),
     ("long x = @1L << 40; int main() { }", 10),
     ("int a[sizeof(long) == 4]; int main() { }", 0),
@@ -183,7 +231,10 @@ pub const NARROW: [(&str, u8); 15] = [
 pub const WIDE: [(&str, u8); 15] = [
     ("long x = 2147483647L + 1; int main() { }", 0),
     ("long x = @9223372036854775807L + 1; int main() { }", 10),
-    ("int main() { long l; switch (l) { case 0: ; case 4294967296: ; } }", 0),
+    (
+        "int main() { long l; switch (l) { case 0: ; case 4294967296: ; } }",
+        0,
+    ),
     ("enum { A = @1L << 31 }; int main() { }", 10),
     ("long x = 1L << 40; int main() { }", 0),
     ("int a[@sizeof(long) == 4]; int main() { }", 10),
@@ -194,6 +245,9 @@ pub const WIDE: [(&str, u8); 15] = [
     ("long long x; long @x; int main() { }", 7),
     ("int x; long @x; int main() { }", 7),
     ("enum { A = -2147483648 }; int main() { }", 0),
-    ("int main() { unsigned long u; switch (u) { case -1: ; @case 18446744073709551615u: ; } }", 18),
+    (
+        "int main() { unsigned long u; switch (u) { case -1: ; @case 18446744073709551615u: ; } }",
+        18,
+    ),
     ("int a[@18446744073709551615u + 1]; int main() { }", 10),
 ];

@@ -39,7 +39,7 @@ module _ (items : t.Items) (model : Model) (read : IsRead items model) where
       let m = meant env is same none in
       let right = subst (λ z. re.refusal_in z model items ≡ None) m none in
       let short = objects_short (program.env_of items model) (program.env_of items model) model 0 0 (program.env_of items model).objects
-          (no_limit (first_broken (re.faults_in (program.env_of items model) model items)) (cells.passed (program.env_of items model) 0 (program.env_of items model).objects) right) in
+      (no_limit (first_broken (re.faults_in (program.env_of items model) model items)) (cells.passed (program.env_of items model) 0 (program.env_of items model).objects) right) in
       subst IsTyped (sym (e ∙ ap (λ z. el.program_of z model (program.functions_of z items)) m))
       (types read.tokens items model read.spelled read.rises read.held (right_of right) short)
 
@@ -60,6 +60,7 @@ sources_read_are rise source list tree model tokens denotes =
 
 pub elaborated_runs_are : SourcesRun → SourcesBreak → ElaboratedRuns
 elaborated_runs_are runs breaks items model tree read is =
-    let right = right_of items model read is.right in
-    (ap broken is.typed ∙ breaks read.tokens items model read.spelled read.rises right,
-     λ turns inputs. ap (λ z. typed.run turns z inputs) is.typed ∙ runs read.tokens items model read.spelled read.rises right turns inputs)
+    let right = right_of items model read is.right in (
+      ap broken is.typed ∙ breaks read.tokens items model read.spelled read.rises right,
+      λ turns inputs. ap (λ z. typed.run turns z inputs) is.typed ∙ runs read.tokens items model read.spelled read.rises right turns inputs,
+    )

@@ -50,7 +50,11 @@ fn count_after(cells: u64, count: u64) -> u64
     requires { cells ≤ 65536 }
     ensures { result ≡ c.count_after cells count }
 {
-    if count > MOST_ELEMENTS { count } else { cells + count }
+    if count > MOST_ELEMENTS {
+        count
+    } else {
+        cells + count
+    }
 }
 
 /// The first object with which the cells of the objects pass the limit of 65,536, or that is an array of more than 1,024
