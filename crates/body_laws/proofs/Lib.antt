@@ -1,12 +1,12 @@
 mod Agreeing
 mod Values
 mod Bodies
-mod Numbers
-mod Tokens
-mod Entries
+pub mod Numbers
+pub mod Tokens
+pub mod Entries
 mod Plain
 mod Words
-mod Spans
+pub mod Spans
 mod Rights
 mod Calls
 mod Owned

@@ -1,0 +1,4 @@
+mod KindRows
+mod Rows
+mod Agreeing
+mod Telling

@@ -1,0 +1,9 @@
+use Rattle.std.proofs.Common.{◌≡◌, [], take, map}
+use Rattle.rule_lines.specs.Seen.{broken_of}
+use Rattle.type_scopes.specs.Seen as seen
+use Rattle.declaration_rules.specs.Twice as t
+use Rattle.declaration_rules.proofs.doubles.redeclared.Given as goal
+
+-- the lines of those so far
+abbrev pub invariant-loop-i : goal.invariant-loop-i
+invariant-loop-i l = map broken_of l.found.items ≡ t.twice (seen.env_of l.env) l.model [] (map seen.entry_of (take l.i l.env.entries.items))

@@ -1,0 +1,3 @@
+pub mod Twice
+pub mod Mains
+pub mod Laws
