@@ -140,53 +140,53 @@ fn object_in(target: &Target) -> u32
 /// Fails with `Memory` where there is no more memory for the lists of objects.
 #[cycle(effects)]
 #[tactic(auto, using(crate::proofs::Views::value_Call, crate::proofs::Views::value_Comma))]
-pub fn effects(alloc: Global, value: &Value) -> Result<Effects, Memory>
+pub fn value_effects(alloc: Global, value: &Value) -> Result<Effects, Memory>
     ensures { IfOk result (λ x. seen.effects_of x ≡ e.effects (v.value value.now)) }
 {
     match value {
         Value::Constant(_, _) => Ok(nothing(alloc)),
         Value::Read(_, object) => reading(alloc, *object),
         Value::Element(_, at, object, index) => {
-            let index = effects(alloc, index)?;
+            let index = value_effects(alloc, index)?;
             element(alloc, *at, *object, &index)
         }
         Value::Whole(object) => reading(alloc, *object),
         Value::Nothing => Ok(nothing(alloc)),
-        Value::Convert(_, inner) => effects(alloc, inner),
-        Value::Discard(inner) => effects(alloc, inner),
-        Value::Negate(_, _, inner) => effects(alloc, inner),
-        Value::Complement(_, _, inner) => effects(alloc, inner),
-        Value::Not(inner) => effects(alloc, inner),
+        Value::Convert(_, inner) => value_effects(alloc, inner),
+        Value::Discard(inner) => value_effects(alloc, inner),
+        Value::Negate(_, _, inner) => value_effects(alloc, inner),
+        Value::Complement(_, _, inner) => value_effects(alloc, inner),
+        Value::Not(inner) => value_effects(alloc, inner),
         Value::Binary(_, _, at, first, second) => {
-            let first = effects(alloc, first)?;
-            let second = effects(alloc, second)?;
+            let first = value_effects(alloc, first)?;
+            let second = value_effects(alloc, second)?;
             operands(*at, first, &second)
         }
         Value::Both(first, second) => {
-            let first = effects(alloc, first)?;
-            let second = effects(alloc, second)?;
+            let first = value_effects(alloc, first)?;
+            let second = value_effects(alloc, second)?;
             joined(first, &second)
         }
         Value::Either(first, second) => {
-            let first = effects(alloc, first)?;
-            let second = effects(alloc, second)?;
+            let first = value_effects(alloc, first)?;
+            let second = value_effects(alloc, second)?;
             joined(first, &second)
         }
         Value::Cond(_, test, first, second) => {
-            let test = effects(alloc, test)?;
-            let first = effects(alloc, first)?;
-            let second = effects(alloc, second)?;
+            let test = value_effects(alloc, test)?;
+            let first = value_effects(alloc, first)?;
+            let second = value_effects(alloc, second)?;
             let front = joined(test, &first)?;
             joined(front, &second)
         }
         Value::Assign(_, at, target, inner) => {
             let index = goal_effects(alloc, target)?;
-            let inner = effects(alloc, inner)?;
+            let inner = value_effects(alloc, inner)?;
             assigned(alloc, false, *at, object_in(target), &index, &inner)
         }
         Value::Update(_, _, _, at, target, inner) => {
             let index = goal_effects(alloc, target)?;
-            let inner = effects(alloc, inner)?;
+            let inner = value_effects(alloc, inner)?;
             assigned(alloc, true, *at, object_in(target), &index, &inner)
         }
         Value::Change(_, _, _, at, target) => {
@@ -199,7 +199,7 @@ pub fn effects(alloc: Global, value: &Value) -> Result<Effects, Memory>
         Value::Draw(_) => Ok(nothing(alloc)),
         Value::Comma(values, last) => {
             let front = list_effects(alloc, values)?;
-            let last = effects(alloc, last)?;
+            let last = value_effects(alloc, last)?;
             joined(front, &last)
         }
     }
@@ -212,7 +212,7 @@ fn goal_effects(alloc: Global, target: &Target) -> Result<Effects, Memory>
 {
     match target {
         Target::Object(_) => Ok(nothing(alloc)),
-        Target::Element(_, _, index) => effects(alloc, index),
+        Target::Element(_, _, index) => value_effects(alloc, index),
     }
 }
 
@@ -222,7 +222,7 @@ fn list_effects(alloc: Global, values: &[Value]) -> Result<Effects, Memory>
 {
     let mut all = nothing(alloc);
     for value in values {
-        let own = effects(alloc, value)?;
+        let own = value_effects(alloc, value)?;
         all = joined(all, &own)?;
     }
     Ok(all)
@@ -236,7 +236,7 @@ fn argument_effects(alloc: Global, bracket: u32, values: &[Value]) -> Result<Eff
     let mut all = nothing(alloc);
     let mut test = false;
     for value in values {
-        let own = effects(alloc, value)?;
+        let own = value_effects(alloc, value)?;
         test = parts_clash(&all, &own) || test;
         all = joined(all, &own)?;
     }

@@ -9,6 +9,6 @@ mod marks;
 
 
 pub use clashes::{clash, has};
-pub use effects::{Effects, effects};
+pub use effects::{Effects, value_effects};
 pub use laws::effects_summed;
 pub use marks::effects_found;

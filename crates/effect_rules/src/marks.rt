@@ -4,7 +4,7 @@ ghost use Rattle.rule_lines.specs.Seen as lines;
 ghost use Rattle.rule_lines.specs.Found.{summary};
 ghost use Rattle.step_values.specs.Seen as values;
 
-use crate::effects::effects;
+use crate::effects::value_effects;
 use c_typed::Value;
 use lv_base::Memory;
 use rule_lines::{Found, both, none};
@@ -16,7 +16,7 @@ pub fn effects_found(alloc: Global, all: &[&Value]) -> Result<Found, Memory>
 {
     let mut found = none();
     for value in all {
-        let own = effects(alloc, value)?;
+        let own = value_effects(alloc, value)?;
         found = both(found, own.found);
     }
     Ok(found)
