@@ -82,6 +82,12 @@ fn parts_clash(first: &Effects, second: &Effects) -> bool
     clash(&first.writes, &first.reads, &second.writes, &second.reads)
 }
 
+fn either(first: bool, second: bool) -> bool
+    ensures { result ≡ (first || second) }
+{
+    first || second
+}
+
 fn operands(at: u32, first: Effects, second: &Effects) -> Result<Effects, Memory>
     ensures { IfOk result (λ x. seen.effects_of x ≡ e.operands at (seen.effects_of first) (seen.effects_of second.now)) }
 {
@@ -237,7 +243,8 @@ fn argument_effects(alloc: Global, bracket: u32, values: &[Value]) -> Result<Eff
     let mut test = false;
     for value in values {
         let own = value_effects(alloc, value)?;
-        test = parts_clash(&all, &own) || test;
+        let clashes = parts_clash(&all, &own);
+        test = either(clashes, test);
         all = joined(all, &own)?;
     }
     Ok(lined(all, test, bracket))

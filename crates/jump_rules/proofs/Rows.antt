@@ -107,3 +107,8 @@ entering_step labels xs i x test all own new l e t m o n =
     ∙ sym (joined_is (r.entering_gotos (jumps labels) (jumps (take i xs))) (entering_line (jumps labels) (jump_of x)))
     ∙ ap summary (sym (entering_behind (jumps labels) (jumps (take i xs)) (jump_of x)))
     ∙ ap (λ z. summary (r.entering_gotos (jumps labels) z)) (sym (taken xs i x l e))
+
+-- three lists of lines
+pub three : (xs ys zs : List Broken) (x y xy z all : Summary) → x ≡ summary xs → y ≡ summary ys → xy ≡ both x y → z ≡ summary zs → all ≡ both xy z → all ≡ summary (xs ++ ys ++ zs)
+three xs ys zs x y xy z all p q m s n =
+    n ∙ ap (λ u. both u z) (m ∙ ap (λ u. both u y) p ∙ ap (both (summary xs)) q ∙ sym (joined_is xs ys)) ∙ ap (both (summary (xs ++ ys))) s ∙ sym (joined_is (xs ++ ys) zs)
