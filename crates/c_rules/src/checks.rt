@@ -3,6 +3,7 @@ ghost use Rattle.c_typed.specs.Parts.{tree_of};
 ghost use Rattle.c_typed.specs.Rules as r;
 ghost use Rattle.c_typed.specs.View as v;
 ghost use Rattle.jump_rules.specs.Seen as jumps;
+ghost use Rattle.rule_lines.specs.Seen as lines;
 ghost use Rattle.c_rules.specs.Examined as e;
 ghost use Rattle.c_rules.specs.Gathered as g;
 ghost use Rattle.c_rules.specs.Refusals.{IsRefused};
@@ -110,6 +111,26 @@ fn gather(alloc: Global, functions: &[Function]) -> Result<Gathered, Memory>
     Ok(gathered)
 }
 
+// Together with the calls on cycles.
+fn check(alloc: Global, functions: &[Function]) -> Result<Gathered, Memory>
+    ensures { IfOk result (λ x. seen.gathering_of x ≡ g.checked (map v.function_of functions.now)) }
+{
+    let mut gathered = gather(alloc, functions)?;
+    let cycles = recursion_found(alloc, &gathered.calls)?;
+    gathered.found = both(gathered.found, cycles);
+    Ok(gathered)
+}
+
+/// The first of the rules of faults 11 to 14 and 19 that these functions break, whose calls are of one another.
+///
+/// Fails with `Memory` where there is no more memory.
+pub fn faults_found(alloc: Global, functions: &[Function]) -> Result<Found, Memory>
+    ensures { IfOk result (λ x. lines.found_of x ≡ (g.checked (map v.function_of functions.now)).found) }
+{
+    let checked = check(alloc, functions)?;
+    Ok(checked.found)
+}
+
 /// The same tree, with its labels and an order of its functions in which each stands behind those that it calls.
 ///
 /// Fails with `Fault` where a rule of faults 11 to 14 or 19 is broken: the first by offset, then by number. A label that is
@@ -120,12 +141,12 @@ pub fn examine(alloc: Global, typed: Typed) -> Result<Examined, SourceFail>
     ensures ok { IfOk result (λ x. x.typed ≡ typed) }
     ensures refused { IfErr result (IsRefused (tree_of typed)) }
 {
-    let gathered = gather(alloc, typed.functions())?;
-    let cycles = recursion_found(alloc, &gathered.calls)?;
-    let found = both(gathered.found, cycles);
-    if let Some(broken) = found.least {
-        return Err(SourceFail::Fault(broken.fault, broken.at));
+    let gathered = check(alloc, typed.functions())?;
+    match gathered.found.least {
+        Some(broken) => Err(SourceFail::Fault(broken.fault, broken.at)),
+        None => {
+            let order = order_of(alloc, &gathered.calls)?;
+            Ok(Examined::new(typed, gathered.labels, order))
+        }
     }
-    let order = order_of(alloc, &gathered.calls)?;
-    Ok(Examined::new(typed, gathered.labels, order))
 }

@@ -8,6 +8,6 @@ mod label;
 #[cfg(test)]
 mod tests;
 
-pub use checks::examine;
+pub use checks::{examine, faults_found};
 pub use examined::Examined;
 pub use label::LabelAt;

@@ -16,11 +16,11 @@ length_first (suc n) goal = let e : length (l.first_layer n goal) ≡ n = length
 
 number_at : (n goal i : ℕ) → i < n → get_or (l.first_layer n goal) i false ≡ nat_eq i goal
 number_at zero goal i h = absurd (omega (arith, h))
-number_at (suc n) goal i h = by (nat_lt i n) refl
+number_at (suc n) goal i h = by (number_at n goal i) (nat_lt i n) refl
   where
-    by : (b : Bool) → b ≡ nat_lt i n → get_or (l.first_layer n goal ++ nat_eq n goal ∷ []) i false ≡ nat_eq i goal
-    by true e = get_or_append_left (l.first_layer n goal) (nat_eq n goal ∷ []) false i (omega (arith, length_first n goal, ltb-true i n (sym e))) ∙ number_at n goal i (ltb-true i n (sym e))
-    by false e =
+    by : (i < n → get_or (l.first_layer n goal) i false ≡ nat_eq i goal) → (b : Bool) → b ≡ nat_lt i n → get_or (l.first_layer n goal ++ nat_eq n goal ∷ []) i false ≡ nat_eq i goal
+    by ih true e = get_or_append_left (l.first_layer n goal) (nat_eq n goal ∷ []) false i (omega (arith, length_first n goal, ltb-true i n (sym e))) ∙ ih (ltb-true i n (sym e))
+    by ih false e =
         let k : i ≡ n = omega (arith, h, ltb-false i n (sym e)) in
         ap (λ z. get_or (l.first_layer n goal ++ nat_eq n goal ∷ []) z false) k ∙ get_or_push (l.first_layer n goal) (nat_eq n goal) false n (length_first n goal) ∙ ap (λ z. nat_eq z goal) (sym k)
 

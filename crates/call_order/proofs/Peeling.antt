@@ -1,5 +1,5 @@
 -- Functions that are taken round by round, each behind those that it calls, are an order of all where there is no cycle.
-use Rattle.std.proofs.Common.{◌≡◌, ◌≢◌, ◌⊎◌, inl, inr, ℕ, zero, suc, ◌<◌, ◌≤◌, ◌+◌, Bool, true, false, ◌||◌, List, [], ◌∷◌, ◌++◌, length, get_or, set, replicate, refl, ap, ◌∙◌, sym, subst, arith, append_assoc, append-nil, length-append, length-set, get_or-set_same, get_or-set_other, eq-eqb}
+use Rattle.std.proofs.Common.{◌≡◌, ◌≢◌, ◌⊎◌, inl, inr, ℕ, zero, suc, ◌<◌, ◌≤◌, ◌+◌, Bool, true, false, ◌||◌, List, [], ◌∷◌, ◌++◌, length, get_or, set, replicate, refl, ap, ◌∙◌, sym, subst, arith, append_assoc, append-nil, length-append, length-set, get_or-set_same, get_or-set_other, eq-eqb, zero-add}
 use Rattle.std.specs.Prelude.{nat_eq, nat_lt, ◌&&◌, not}
 use Rattle.std.specs.List.{list_any, list_all}
 use Rattle.std.proofs.lemmas.Bool.{ltb-true, ltb-false, lt-ltb, eqb-true, eqb-false}
@@ -25,11 +25,11 @@ first_append graph before (y ∷ xs) f h k =
 -- what stands among these stands there
 stands : (f : ℕ) (xs : List ℕ) → times f xs ≡ 1 → has xs f ≡ true
 stands f [] h = absurd (omega (arith, h))
-stands f (x ∷ xs) h = by (nat_eq f x) refl
+stands f (x ∷ xs) h = by (stands f xs) (nat_eq f x) refl
   where
-    by : (b : Bool) → b ≡ nat_eq f x → (nat_eq f x || list_any (nat_eq f) xs) ≡ true
-    by true e = ap (λ z. z || list_any (nat_eq f) xs) (sym e)
-    by false e = ap (λ z. z || list_any (nat_eq f) xs) (sym e) ∙ stands f xs (ap (λ z. bit z + times f xs) e ∙ h)
+    by : (times f xs ≡ 1 → has xs f ≡ true) → (b : Bool) → b ≡ nat_eq f x → (nat_eq f x || list_any (nat_eq f) xs) ≡ true
+    by ih true e = ap (λ z. z || list_any (nat_eq f) xs) (sym e)
+    by ih false e = ap (λ z. z || list_any (nat_eq f) xs) (sym e) ∙ ih (sym (zero-add (times f xs)) ∙ ap (λ z. bit z + times f xs) e ∙ h)
 
 record Peeled (graph : List (List ℕ)) (st : Taking) : Type 0 where
   count : length st.taken ≡ length graph

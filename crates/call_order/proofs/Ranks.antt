@@ -32,11 +32,11 @@ tally_more f g (suc m) h = omega (arith, bit_more (f m) (g m) (h m (omega arith)
 
 pub tally_less : (f g : ℕ → Bool) (m x : ℕ) → ((y : ℕ) → y < m → f y ≡ true → g y ≡ true) → x < m → f x ≡ false → g x ≡ true → tally f m < tally g m
 tally_less f g zero x h k a b = absurd (omega (arith, k))
-tally_less f g (suc m) x h k a b = by (nat_lt x m) refl
+tally_less f g (suc m) x h k a b = by (λ j. tally_less f g m x (λ y i. h y (omega (arith, i))) j a b) (nat_lt x m) refl
   where
-    by : (c : Bool) → c ≡ nat_lt x m → bit (f m) + tally f m < bit (g m) + tally g m
-    by true e = omega (arith, bit_more (f m) (g m) (h m (omega arith)), tally_less f g m x (λ y j. h y (omega (arith, j))) (ltb-true x m (sym e)) a b)
-    by false e =
+    by : (x < m → tally f m < tally g m) → (c : Bool) → c ≡ nat_lt x m → bit (f m) + tally f m < bit (g m) + tally g m
+    by ih true e = omega (arith, bit_more (f m) (g m) (h m (omega arith)), ih (ltb-true x m (sym e)))
+    by ih false e =
         let here : x ≡ m = omega (arith, k, ltb-false x m (sym e)) in
         let low : bit (f m) ≡ 0 = ap (λ z. bit (f z)) (sym here) ∙ ap bit a in
         let high : bit (g m) ≡ 1 = ap (λ z. bit (g z)) (sym here) ∙ ap bit b in
@@ -62,13 +62,13 @@ module _ (graph : List (List ℕ)) (bounded : IsBounded graph) where
 
   leads_more : (k x y : ℕ) → leads graph k x y ≡ true → leads graph (suc k) x y ≡ true
   leads_more zero x y h = or_first (nat_eq x y) _ h
-  leads_more (suc k) x y h = by (nat_eq x y) refl
+  leads_more (suc k) x y h = by (λ f. leads_more k f y) (nat_eq x y) refl
     where
-      by : (b : Bool) → b ≡ nat_eq x y → (nat_eq x y || list_any (λ f. leads graph (suc k) f y) (get_or graph x [])) ≡ true
-      by true e = or_first (nat_eq x y) _ (sym e)
-      by false e =
+      by : ((f : ℕ) → leads graph k f y ≡ true → leads graph (suc k) f y ≡ true) → (b : Bool) → b ≡ nat_eq x y → (nat_eq x y || list_any (λ f. leads graph (suc k) f y) (get_or graph x [])) ≡ true
+      by ih true e = or_first (nat_eq x y) _ (sym e)
+      by ih false e =
           or_second (nat_eq x y) _
-          (any_more (λ f. leads graph k f y) (λ f. leads graph (suc k) f y) (get_or graph x []) (λ f j. leads_more k f y j)
+          (any_more (λ f. leads graph k f y) (λ f. leads graph (suc k) f y) (get_or graph x []) ih
            (ap (λ z. z || list_any (λ f. leads graph k f y) (get_or graph x [])) e ∙ h))
 
   abbrev Stationary : ℕ → ℕ → Type 0

@@ -1,5 +1,5 @@
 -- Tests of lists.
-use Rattle.std.proofs.Common.{◌≡◌, ℕ, ◌<◌, Bool, true, false, ◌||◌, List, [], ◌∷◌, ◌++◌, length, get_or, refl, ap, ◌∙◌, sym, subst, arith}
+use Rattle.std.proofs.Common.{◌≡◌, ℕ, zero, suc, ◌<◌, Bool, true, false, ◌||◌, List, [], ◌∷◌, ◌++◌, length, get_or, refl, ap, ◌∙◌, sym, subst, arith}
 use Rattle.std.specs.Prelude.{nat_eq, nat_lt, ◌&&◌, not}
 use Rattle.std.specs.List.{list_any, list_all}
 use Rattle.std.proofs.lemmas.Bool.{eqb-true, ltb-true}
@@ -41,11 +41,11 @@ any_same n p q (f ∷ fs) b h =
 
 pub any_more : (p q : ℕ → Bool) (fs : List ℕ) → ((f : ℕ) → p f ≡ true → q f ≡ true) → list_any p fs ≡ true → list_any q fs ≡ true
 any_more p q [] h a = a
-any_more p q (f ∷ fs) h a = by (p f) refl
+any_more p q (f ∷ fs) h a = by (any_more p q fs h) (p f) refl
   where
-    by : (b : Bool) → b ≡ p f → (q f || list_any q fs) ≡ true
-    by true e = or_first (q f) (list_any q fs) (h f (sym e))
-    by false e = or_second (q f) (list_any q fs) (any_more p q fs h (ap (λ z. z || list_any p fs) e ∙ a))
+    by : (list_any p fs ≡ true → list_any q fs ≡ true) → (b : Bool) → b ≡ p f → (q f || list_any q fs) ≡ true
+    by ih true e = or_first (q f) (list_any q fs) (h f (sym e))
+    by ih false e = or_second (q f) (list_any q fs) (ih (ap (λ z. z || list_any p fs) e ∙ a))
 
 pub has_head : (f : ℕ) (fs : List ℕ) → has (f ∷ fs) f ≡ true
 has_head f fs = or_first (nat_eq f f) (list_any (nat_eq f) fs) (eq-eqb f f refl)
@@ -53,19 +53,19 @@ has_head f fs = or_first (nat_eq f f) (list_any (nat_eq f) fs) (eq-eqb f f refl)
 -- an element passes a test
 pub any_in : (p : ℕ → Bool) (fs : List ℕ) (c : ℕ) → has fs c ≡ true → p c ≡ true → list_any p fs ≡ true
 any_in p [] c h t = h
-any_in p (f ∷ fs) c h t = by (nat_eq c f) refl
+any_in p (f ∷ fs) c h t = by (λ k. any_in p fs c k t) (nat_eq c f) refl
   where
-    by : (b : Bool) → b ≡ nat_eq c f → (p f || list_any p fs) ≡ true
-    by true e = or_first (p f) (list_any p fs) (ap p (sym (eqb-true c f (sym e))) ∙ t)
-    by false e = or_second (p f) (list_any p fs) (any_in p fs c (ap (λ z. z || list_any (nat_eq c) fs) e ∙ h) t)
+    by : (has fs c ≡ true → list_any p fs ≡ true) → (b : Bool) → b ≡ nat_eq c f → (p f || list_any p fs) ≡ true
+    by ih true e = or_first (p f) (list_any p fs) (ap p (sym (eqb-true c f (sym e))) ∙ t)
+    by ih false e = or_second (p f) (list_any p fs) (ih (ap (λ z. z || list_any (nat_eq c) fs) e ∙ h))
 
 pub all_in : (p : ℕ → Bool) (fs : List ℕ) (c : ℕ) → list_all p fs ≡ true → has fs c ≡ true → p c ≡ true
 all_in p [] c a h = absurd (true_is_not_false false h refl)
-all_in p (f ∷ fs) c a h = by (nat_eq c f) refl
+all_in p (f ∷ fs) c a h = by (all_in p fs c (and_second (p f) (list_all p fs) a)) (nat_eq c f) refl
   where
-    by : (b : Bool) → b ≡ nat_eq c f → p c ≡ true
-    by true e = ap p (eqb-true c f (sym e)) ∙ and_first (p f) (list_all p fs) a
-    by false e = all_in p fs c (and_second (p f) (list_all p fs) a) (ap (λ z. z || list_any (nat_eq c) fs) e ∙ h)
+    by : (has fs c ≡ true → p c ≡ true) → (b : Bool) → b ≡ nat_eq c f → p c ≡ true
+    by ih true e = ap p (eqb-true c f (sym e)) ∙ and_first (p f) (list_all p fs) a
+    by ih false e = ih (ap (λ z. z || list_any (nat_eq c) fs) e ∙ h)
 
 pub all_of : (q : ℕ → Bool) (fs : List ℕ) → ((c : ℕ) → has fs c ≡ true → q c ≡ true) → list_all q fs ≡ true
 all_of q [] h = refl

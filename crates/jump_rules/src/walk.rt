@@ -1,4 +1,4 @@
-ghost use Rattle.std.specs.Prelude.{◌≡◌, ◌++◌, IfOk, List, []};
+ghost use Rattle.std.specs.Prelude.{◌≡◌, IfOk, length};
 ghost use Rattle.c_typed.specs.View as v;
 ghost use Rattle.c_typed.specs.Rules as r;
 ghost use Rattle.rule_lines.specs.Seen as lines;
@@ -61,6 +61,13 @@ fn add_found(walk: &mut Walk, found: Found)
     walk.found = both(walk.found, found);
 }
 
+// How many objects are in scope.
+fn depth_of(walk: &Walk) -> usize
+    ensures { result ≡ length (seen.state_of walk.now).scope }
+{
+    walk.scope.len()
+}
+
 // In the scope of the first objects alone.
 fn leave(walk: &mut Walk, depth: usize)
     ensures { seen.state_of walk.new ≡ w.leaving depth (seen.state_of walk.old) }
@@ -110,7 +117,7 @@ fn walk_step(
         Step::Draw(_) => Ok(()),
         Step::Begin(_, _) => Ok(()),
         Step::Block(steps) => {
-            let depth = walk.scope.len();
+            let depth = depth_of(walk);
             walk_steps(alloc, kind, in_loop, switch, walk, steps)?;
             leave(walk, depth);
             Ok(())
@@ -124,12 +131,12 @@ fn walk_step(
         }
         Step::While(_, _, inner) => walk_step(alloc, kind, true, switch, walk, inner),
         Step::Switch(_, _, _, inner) => {
-            let depth = walk.scope.len();
+            let depth = depth_of(walk);
             walk_step(alloc, kind, in_loop, Some(depth), walk, inner)
         }
         Step::Do(_, inner, _) => walk_step(alloc, kind, true, switch, walk, inner),
         Step::For(_, start, _, _, inner) => {
-            let depth = walk.scope.len();
+            let depth = depth_of(walk);
             add_all_declared(walk, start)?;
             walk_step(alloc, kind, true, switch, walk, inner)?;
             leave(walk, depth);
