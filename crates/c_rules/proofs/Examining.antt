@@ -7,23 +7,16 @@ use Rattle.c_typed.specs.Facts.{IsTyped}
 use Rattle.rule_lines.specs.Found.{Summary, summary, both}
 use Rattle.rule_lines.proofs.Least.{joined_is}
 use Rattle.call_order.specs.declared.calls.CallAt.{CallAt}
-use Rattle.call_order.specs.Seen.{calls, targets, all_calls, graph_of}
+use Rattle.call_order.specs.Seen.{all_calls, graph_of}
 use Rattle.call_order.specs.Order.{callees, IsOrder}
-use Rattle.call_order.specs.Layers.{IsBounded, HasNoCycle, all_lines}
-use Rattle.call_order.proofs.Leading.{cycles_found, cycles_broken}
+use Rattle.call_order.specs.Layers.{IsBounded, HasNoCycle}
+use Rattle.call_order.proofs.Leading.{cycles_broken}
 use Rattle.c_rules.specs.declared.label.LabelAt.{LabelAt}
 use Rattle.c_rules.specs.Examined.{IsExamined, labels_from}
 use Rattle.c_rules.specs.Gathered as g
 use Rattle.c_rules.proofs.Bounds.{bounded}
+use Rattle.call_order.proofs.Arms.{graphs}
 use Rattle.c_rules.proofs.Arms.{none_broken}
-
-targets_are : (cs : List CallAt) → targets cs ≡ map (λ c. c.to) (calls cs)
-targets_are [] = refl
-targets_are (c ∷ cs) = ap (λ z. c.to ∷ z) (targets_are cs)
-
-graphs : (xs : List (Vec CallAt Global)) → graph_of xs ≡ map (λ cs. map (λ c. c.to) cs) (all_calls xs)
-graphs [] = refl
-graphs (x ∷ xs) = ap (λ z. z ∷ graph_of xs) (targets_are x.items) ∙ ap (λ z. map (λ c. c.to) (calls x.items) ∷ z) (graphs xs)
 
 pub graph_is : (xs : List (Vec CallAt Global)) (cs : List (List r.Call)) → all_calls xs ≡ cs → graph_of xs ≡ map (λ ds. map (λ c. c.to) ds) cs
 graph_is xs cs h = graphs xs ∙ ap (map (λ ds. map (λ c. c.to) ds)) h
@@ -31,25 +24,25 @@ graph_is xs cs h = graphs xs ∙ ap (map (λ ds. map (λ c. c.to) ds)) h
 -- gathering, with the calls on cycles
 pub with_cycles : (fs : List Function) (xs : List (Vec CallAt Global)) (labels : List LabelAt) (old cycles new : Summary) →
     (let z : g.Gathering = record { found = old; labels = labels; calls = all_calls xs } in z) ≡ g.gathering fs →
-    cycles ≡ summary (all_lines (graph_of xs) 0 (all_calls xs)) → new ≡ both old cycles →
+    (IsBounded (graph_of xs) → cycles ≡ summary (r.recursion (graph_of xs) 0 (all_calls xs))) → new ≡ both old cycles → IsBounded (g.callees fs) →
     (let z : g.Gathering = record { found = new; labels = labels; calls = all_calls xs } in z) ≡ g.checked fs
-with_cycles fs xs labels old cycles new e c n =
+with_cycles fs xs labels old cycles new e c n b =
+    let calls_are : all_calls xs ≡ r.calls_of_functions fs = ap (λ (z : g.Gathering). z.calls) e in
+    let same : graph_of xs ≡ g.callees fs = graph_is xs (r.calls_of_functions fs) calls_are in
+    let bound : IsBounded (graph_of xs) = subst IsBounded (sym same) b in
     ap (λ (f : Summary). let z : g.Gathering = record { found = f; labels = labels; calls = all_calls xs } in z)
     (n ∙ ap (λ z. both z cycles) (ap (λ (z : g.Gathering). z.found) e)
      ∙ ap (both (summary (r.functions_faults fs)))
-       (c ∙ ap (λ z. summary (all_lines z 0 (all_calls xs))) (graph_is xs (r.calls_of_functions fs) (ap (λ (z : g.Gathering). z.calls) e))
-        ∙ ap (λ z. summary (all_lines (g.callees fs) 0 z)) (ap (λ (z : g.Gathering). z.calls) e)))
-    ∙ ap (λ (l : List LabelAt). let z : g.Gathering = record { found = both (summary (r.functions_faults fs)) (summary (all_lines (g.callees fs) 0 (r.calls_of_functions fs))); labels = l; calls = all_calls xs } in z) (ap (λ (z : g.Gathering). z.labels) e)
-    ∙ ap (λ (k : List (List r.Call)). let z : g.Gathering = record { found = both (summary (r.functions_faults fs)) (summary (all_lines (g.callees fs) 0 (r.calls_of_functions fs))); labels = labels_from 0 fs; calls = k } in z) (ap (λ (z : g.Gathering). z.calls) e)
+       (c bound ∙ ap (λ z. summary (r.recursion z 0 (all_calls xs))) same ∙ ap (λ z. summary (r.recursion (g.callees fs) 0 z)) calls_are))
+    ∙ ap (λ (l : List LabelAt). let z : g.Gathering = record { found = both (summary (r.functions_faults fs)) (summary (r.recursion_faults fs)); labels = l; calls = all_calls xs } in z) (ap (λ (z : g.Gathering). z.labels) e)
+    ∙ ap (λ (k : List (List r.Call)). let z : g.Gathering = record { found = both (summary (r.functions_faults fs)) (summary (r.recursion_faults fs)); labels = labels_from 0 fs; calls = k } in z) calls_are
 
-found_is : (p : Program) → IsTyped p → (g.checked p.functions).found ≡ summary (r.broken p)
-found_is p h =
-    ap (λ z. both (summary (r.functions_faults p.functions)) (summary z)) (cycles_found (r.calls_of_functions p.functions) (bounded p h))
-    ∙ sym (joined_is (r.functions_faults p.functions) (r.recursion_faults p.functions))
+found_is : (p : Program) → (g.checked p.functions).found ≡ summary (r.broken p)
+found_is p = sym (joined_is (r.functions_faults p.functions) (r.recursion_faults p.functions))
 
 -- the first rule that is broken
 pub least_is : (p : Program) (x : g.Gathering) → IsTyped p → x ≡ g.checked p.functions → x.found.least ≡ first_broken (r.broken p)
-least_is p x h e = ap (λ (z : g.Gathering). z.found.least) e ∙ ap (λ (z : Summary). z.least) (found_is p h)
+least_is p x h e = ap (λ (z : g.Gathering). z.found.least) e ∙ ap (λ (z : Summary). z.least) (found_is p)
 
 good : (p : Program) (x : g.Gathering) → IsTyped p → x ≡ g.checked p.functions → x.found.least ≡ None → r.broken p ≡ []
 good p x h e n = none_broken (r.broken p) (sym n ∙ least_is p x h e)

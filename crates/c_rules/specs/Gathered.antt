@@ -1,6 +1,5 @@
 -- What the functions of a typed tree break, with their labels and calls, gathered one by one.
 use Rattle.std.specs.Prelude.{◌≡◌, ℕ, List, [], ◌∷◌, ◌++◌, map}
-use Rattle.call_order.specs.Layers.{all_lines}
 use Rattle.rule_lines.specs.Found.{Summary, summary, both}
 use Rattle.c_typed.specs.Tree.{Function}
 use Rattle.c_typed.specs.Rules as r
@@ -35,7 +34,7 @@ callees fs = map (λ cs. map (λ c. c.to) cs) (r.calls_of_functions fs)
 -- together with the calls on cycles
 abbrev pub checked : List Function → Gathering
 checked fs = record {
-  found = both (summary (r.functions_faults fs)) (summary (all_lines (callees fs) 0 (r.calls_of_functions fs)));
+  found = both (summary (r.functions_faults fs)) (summary (r.recursion_faults fs));
   labels = labels_from 0 fs;
   calls = r.calls_of_functions fs;
 }

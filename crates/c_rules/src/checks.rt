@@ -2,6 +2,7 @@ ghost use Rattle.std.specs.Prelude.{◌≡◌, ◌++◌, ◌<◌, length, map, I
 ghost use Rattle.c_typed.specs.Parts.{tree_of};
 ghost use Rattle.c_typed.specs.Rules as r;
 ghost use Rattle.c_typed.specs.View as v;
+ghost use Rattle.call_order.specs.Layers.{IsBounded};
 ghost use Rattle.jump_rules.specs.Seen as jumps;
 ghost use Rattle.rule_lines.specs.Seen as lines;
 ghost use Rattle.c_rules.specs.Examined as e;
@@ -113,7 +114,7 @@ fn gather(alloc: Global, functions: &[Function]) -> Result<Gathered, Memory>
 
 // Together with the calls on cycles.
 fn check(alloc: Global, functions: &[Function]) -> Result<Gathered, Memory>
-    ensures { IfOk result (λ x. seen.gathering_of x ≡ g.checked (map v.function_of functions.now)) }
+    ensures { IfOk result (λ x. IsBounded (g.callees (map v.function_of functions.now)) → seen.gathering_of x ≡ g.checked (map v.function_of functions.now)) }
 {
     let mut gathered = gather(alloc, functions)?;
     let cycles = recursion_found(alloc, &gathered.calls)?;
@@ -121,11 +122,11 @@ fn check(alloc: Global, functions: &[Function]) -> Result<Gathered, Memory>
     Ok(gathered)
 }
 
-/// The first of the rules of faults 11 to 14 and 19 that these functions break, whose calls are of one another.
+/// The first of the rules of faults 11 to 14 and 19 that these functions break, whose calls are all of functions among them.
 ///
 /// Fails with `Memory` where there is no more memory.
 pub fn faults_found(alloc: Global, functions: &[Function]) -> Result<Found, Memory>
-    ensures { IfOk result (λ x. lines.found_of x ≡ (g.checked (map v.function_of functions.now)).found) }
+    ensures { IfOk result (λ x. IsBounded (g.callees (map v.function_of functions.now)) → lines.found_of x ≡ (g.checked (map v.function_of functions.now)).found) }
 {
     let checked = check(alloc, functions)?;
     Ok(checked.found)

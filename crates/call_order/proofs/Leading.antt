@@ -8,7 +8,7 @@ use Rattle.lv_base.specs.declared.fault.SourceFault.TheVariants as fault
 use Rattle.c_run.specs.Breaking.{Broken, line}
 use Rattle.c_typed.specs.Rules.{Call, leads, recursion, recursion_in}
 use Rattle.call_order.specs.Layers as l
-use Rattle.call_order.proofs.Tests.{and_first, and_second, and_both, all_at, any_same}
+use Rattle.call_order.proofs.Tests.{and_first, and_second, and_both, all_at, any_same, not_true}
 
 pub length_first : (n goal : ℕ) → length (l.first_layer n goal) ≡ n
 length_first zero goal = refl
@@ -100,3 +100,27 @@ cycles_broken calls h f k =
     let e : f < length calls = omega (arith, k, length-map calls targets_of) in
     ap (λ z. list_all (λ c. not (leads graph (length graph) c f)) z) (get_or-map targets_of calls f [] [] e)
     ∙ none_in graph f (get_or calls f []) (ap (λ z. recursion_in graph z (get_or calls f [])) (sym (zero-add f)) ∙ none_at graph 0 calls f h e)
+
+-- ---- No cycle, no line
+
+no_lines : (graph : List (List ℕ)) (caller : ℕ) (cs : List Call) → list_all (λ c. not (leads graph (length graph) c caller)) (targets_of cs) ≡ true → recursion_in graph caller cs ≡ []
+no_lines graph caller [] h = refl
+no_lines graph caller (c ∷ cs) h =
+    ap (λ z. line z fault.Recursion c.at ++ recursion_in graph caller cs) (not_true (leads graph (length graph) c.to caller) (and_first (not (leads graph (length graph) c.to caller)) _ h))
+    ∙ no_lines graph caller cs (and_second (not (leads graph (length graph) c.to caller)) _ h)
+
+none_left : (graph : List (List ℕ)) (caller : ℕ) (calls : List (List Call)) →
+    ((i : ℕ) → i < length calls → list_all (λ c. not (leads graph (length graph) c (caller + i))) (targets_of (get_or calls i [])) ≡ true) → recursion graph caller calls ≡ []
+none_left graph caller [] h = refl
+none_left graph caller (cs ∷ rest) h =
+    ap (λ z. z ++ recursion graph (suc caller) rest) (no_lines graph caller cs (ap (λ z. list_all (λ c. not (leads graph (length graph) c z)) (targets_of cs)) (sym (add-zero caller)) ∙ h 0 (omega arith)))
+    ∙ none_left graph (suc caller) rest
+      (λ i k. ap (λ z. list_all (λ c. not (leads graph (length graph) c z)) (targets_of (get_or rest i []))) (let e : suc caller + i ≡ caller + suc i = omega arith in e) ∙ h (suc i) (omega (arith, k)))
+
+pub cycles_none : l.CyclesNone
+cycles_none calls h =
+    let graph : List (List ℕ) = map targets_of calls in
+    none_left graph 0 calls
+    (λ i k. ap (λ z. list_all (λ c. not (leads graph (length graph) c z)) (targets_of (get_or calls i []))) (zero-add i)
+       ∙ ap (λ z. list_all (λ c. not (leads graph (length graph) c i)) z) (sym (get_or-map targets_of calls i [] [] k))
+       ∙ h i (omega (arith, k, length-map calls targets_of)))

@@ -1,6 +1,7 @@
 pub mod Views
 mod Tests
-mod Leading
+pub mod Leading
 mod Ranks
+mod Acyclic
 mod Peeling
-mod Arms
+pub mod Arms

@@ -7,8 +7,9 @@ use Rattle.std.proofs.lemmas.List.{get_or-replicate, get_or_at}
 use Rattle.c_typed.specs.Rules.{has}
 use Rattle.call_order.specs.Order.{IsOrder, bit, times, callees_first}
 use Rattle.call_order.specs.Layers.{IsBounded, HasNoCycle}
-use Rattle.call_order.specs.Peel.{Taking, start, is_ready, marked, take_if, visit, round, rounds, order_of, OrdersFound}
-use Rattle.call_order.proofs.Tests.{and_first, and_second, and_both, true_is_not_false, all_in, all_of, all_append, not_true}
+use Rattle.call_order.specs.Peel.{Taking, start, is_ready, marked, take_if, visit, round, is_whole, unless_whole, next_round, rounds, all_rounds, order_of, WholeAcyclic, OrdersFound}
+use Rattle.call_order.proofs.Tests.{and_first, and_second, and_both, true_is_not_false, all_at, all_in, all_of, all_append, not_true}
+use Rattle.call_order.proofs.Acyclic.{none_back}
 use Rattle.call_order.proofs.Ranks.{rank, rank_less, rank_le, rank_some, callee_there}
 
 times_append : (f : ℕ) (xs : List ℕ) (x : ℕ) → times f (xs ++ x ∷ []) ≡ times f xs + bit (nat_eq f x)
@@ -36,6 +37,27 @@ record Peeled (graph : List (List ℕ)) (st : Taking) : Type 0 where
   below : list_all (λ f. nat_lt f (length graph)) st.order ≡ true
   once : (f : ℕ) → f < length graph → times f st.order ≡ bit (get_or st.taken f false)
   behind : callees_first graph [] st.order ≡ true
+
+length_replicate : (n : ℕ) → length (replicate n false) ≡ n
+length_replicate zero = refl
+length_replicate (suc n) = omega (arith, length_replicate n)
+
+bit_small : (b : Bool) → bit b ≤ 1
+bit_small true = omega arith
+bit_small false = omega arith
+
+-- what is not below does not stand there
+stands_not : (n f : ℕ) (xs : List ℕ) → list_all (λ g. nat_lt g n) xs ≡ true → n ≤ f → times f xs ≡ 0
+stands_not n f [] b h = refl
+stands_not n f (x ∷ xs) b h =
+    let small : x < n = ltb-true x n (and_first (nat_lt x n) _ b) in
+    let none : bit (nat_eq f x) ≡ 0 = differs (nat_eq f x) refl small in
+    let rest : times f xs ≡ 0 = stands_not n f xs (and_second (nat_lt x n) _ b) h in
+    omega (arith, none, rest)
+  where
+    differs : (c : Bool) → c ≡ nat_eq f x → x < n → bit (nat_eq f x) ≡ 0
+    differs true e s = absurd (omega (arith, s, h, eqb-true f x (sym e)))
+    differs false e s = ap bit (sym e)
 
 module _ (graph : List (List ℕ)) (bounded : IsBounded graph) where
   taken_stand : (st : Taking) (f : ℕ) → Peeled graph st → f < length graph → is_ready st.taken (get_or graph f []) ≡ true → list_all (has st.order) (get_or graph f []) ≡ true
@@ -96,6 +118,35 @@ module _ (graph : List (List ℕ)) (bounded : IsBounded graph) where
           ∙ ap (λ z. get_or (take_if z f st).taken f false) r
           ∙ get_or-set_same st.taken f true false (omega (arith, c, h))
 
+  -- ---- What is taken stands in order, with or without cycles
+
+  round_peeled : (done rest : List (List ℕ)) (st : Taking) → done ++ rest ≡ graph → Peeled graph st → Peeled graph (round (length done) rest st)
+  round_peeled done [] st e p = p
+  round_peeled done (fs ∷ rest) st e p =
+      let here : get_or graph (length done) [] ≡ fs = ap (λ z. get_or z (length done) []) (sym e) ∙ get_or_at done fs rest [] (length done) refl in
+      let h : length done < length graph = omega (arith, ap length e, length-append done (fs ∷ rest)) in
+      let next : length done + 1 ≡ length (done ++ fs ∷ []) = omega (arith, length-append done (fs ∷ [])) in
+      let v : Taking = visit (length done) fs st in
+      let p1 : Peeled graph v = subst (λ (z : List ℕ). Peeled graph (visit (length done) z st)) here (visit_is st (length done) p h) in
+      subst (λ (z : ℕ). Peeled graph (round z rest v)) (sym next) (round_peeled (done ++ fs ∷ []) rest v (append_assoc done (fs ∷ []) rest ∙ e) p1)
+
+  start_peeled : Peeled graph (start (length graph))
+  start_peeled = record {
+    count = length_replicate (length graph);
+    below = refl;
+    once = λ f h. sym (ap bit (get_or-replicate (length graph) f false false h));
+    behind = refl;
+  }
+
+  rounds_peeled : (n : ℕ) → Peeled graph (rounds graph n (start (length graph)))
+  rounds_peeled zero = start_peeled
+  rounds_peeled (suc n) = by (rounds_peeled n) (is_whole (rounds graph n (start (length graph))).taken) refl
+    where
+      by : Peeled graph (rounds graph n (start (length graph))) → (b : Bool) → b ≡ is_whole (rounds graph n (start (length graph))).taken →
+          Peeled graph (unless_whole (is_whole (rounds graph n (start (length graph))).taken) graph (rounds graph n (start (length graph))))
+      by p true e = subst (λ (z : Bool). Peeled graph (unless_whole z graph (rounds graph n (start (length graph))))) e p
+      by p false e = subst (λ (z : Bool). Peeled graph (unless_whole z graph (rounds graph n (start (length graph))))) e (round_peeled [] graph (rounds graph n (start (length graph))) refl p)
+
   module _ (acyclic : HasNoCycle graph) where
     -- each function of at most this rank is taken
     abbrev Reached : ℕ → Taking → Type 0
@@ -141,24 +192,22 @@ module _ (graph : List (List ℕ)) (bounded : IsBounded graph) where
         subst (λ (z : ℕ). After (k + 1) (round z rest v)) (sym next)
         (round_is k (done ++ fs ∷ []) rest v (append_assoc done (fs ∷ []) rest ∙ e) p1 re1 pa1)
 
-    rounds_are : (n : ℕ) → After n (rounds graph n (start (length graph)))
-    rounds_are zero = record {
-      peeled = record {
-        count = length_replicate (length graph);
-        below = refl;
-        once = λ f h. sym (ap bit (get_or-replicate (length graph) f false false h));
-        behind = refl;
-      };
-      reached = λ f h le. absurd (omega (arith, le, rank_some graph bounded f h));
-    }
+    next_is : (k : ℕ) (st : Taking) → After k st → After (k + 1) (next_round graph st)
+    next_is k st a = by (is_whole st.taken) refl
       where
-        length_replicate : (n : ℕ) → length (replicate n false) ≡ n
-        length_replicate zero = refl
-        length_replicate (suc n) = omega (arith, length_replicate n)
+        by : (b : Bool) → b ≡ is_whole st.taken → After (k + 1) (unless_whole (is_whole st.taken) graph st)
+        by true e =
+            subst (λ (z : Bool). After (k + 1) (unless_whole z graph st)) e
+            (record { peeled = a.peeled; reached = λ f h le. all_at (λ t. t) st.taken f false (sym e) (omega (arith, h, a.peeled.count)) })
+        by false e =
+            subst (λ (z : Bool). After (k + 1) (unless_whole z graph st)) e
+            (round_is k [] graph st refl a.peeled a.reached (λ f j. absurd (omega (arith, j))))
+
+    rounds_are : (n : ℕ) → After n (rounds graph n (start (length graph)))
+    rounds_are zero = record { peeled = start_peeled; reached = λ f h le. absurd (omega (arith, le, rank_some graph bounded f h)) }
     rounds_are (suc n) =
-        let a : After n (rounds graph n (start (length graph))) = rounds_are n in
-        subst (λ (z : ℕ). After z (round 0 graph (rounds graph n (start (length graph))))) (let e : n + 1 ≡ suc n = omega arith in e)
-        (round_is n [] graph (rounds graph n (start (length graph))) refl a.peeled a.reached (λ f j. absurd (omega (arith, j))))
+        subst (λ (z : ℕ). After z (next_round graph (rounds graph n (start (length graph))))) (let e : n + 1 ≡ suc n = omega arith in e)
+        (next_is n (rounds graph n (start (length graph))) (rounds_are n))
 
 pub orders_found : OrdersFound
 orders_found graph bounded acyclic =
@@ -168,3 +217,17 @@ orders_found graph bounded acyclic =
       once = λ f h. a.peeled.once f h ∙ ap bit (a.reached f h (rank_le graph bounded f));
       behind = a.peeled.behind;
     }
+
+pub whole_acyclic : WholeAcyclic
+whole_acyclic graph bounded whole f h =
+    none_back graph (length graph) [] (order_of graph) (λ x k. absurd (true_is_not_false false k refl)) p.behind once f
+    (stands f (order_of graph) (p.once f h ∙ ap bit (all_at (λ t. t) (all_rounds graph).taken f false whole (omega (arith, h, p.count)))))
+  where
+    p : Peeled graph (all_rounds graph)
+    p = rounds_peeled graph bounded (length graph)
+    once : (x : ℕ) → times x (order_of graph) ≤ 1
+    once x = by (nat_lt x (length graph)) refl
+      where
+        by : (b : Bool) → b ≡ nat_lt x (length graph) → times x (order_of graph) ≤ 1
+        by true e = omega (arith, p.once x (ltb-true x (length graph) (sym e)), bit_small (get_or (all_rounds graph).taken x false))
+        by false e = omega (arith, stands_not (length graph) x (order_of graph) p.below (ltb-false x (length graph) (sym e)))

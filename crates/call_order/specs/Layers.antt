@@ -52,6 +52,10 @@ abbrev pub CyclesFound : Type 0
 CyclesFound = (calls : List (List Call)) → IsBounded (map (λ cs. map (λ c. c.to) cs) calls) →
     all_lines (map (λ cs. map (λ c. c.to) cs) calls) 0 calls ≡ recursion (map (λ cs. map (λ c. c.to) cs) calls) 0 calls
 
+-- where there is no cycle no line is broken
+abbrev pub CyclesNone : Type 0
+CyclesNone = (calls : List (List Call)) → HasNoCycle (map (λ cs. map (λ c. c.to) cs) calls) → recursion (map (λ cs. map (λ c. c.to) cs) calls) 0 calls ≡ []
+
 -- where no line is broken there is no cycle
 abbrev pub CyclesBroken : Type 0
 CyclesBroken = (calls : List (List Call)) → recursion (map (λ cs. map (λ c. c.to) cs) calls) 0 calls ≡ [] → HasNoCycle (map (λ cs. map (λ c. c.to) cs) calls)

@@ -31,12 +31,30 @@ abbrev pub round : ℕ → List (List ℕ) → Taking → Taking
 round number [] st = st
 round number (fs ∷ rest) st = round (number + 1) rest (visit number fs st)
 
+abbrev pub is_whole : List Bool → Bool
+is_whole taken = list_all (λ t. t) taken
+
+abbrev pub unless_whole : Bool → List (List ℕ) → Taking → Taking
+unless_whole true graph st = st
+unless_whole false graph st = round 0 graph st
+
+-- nothing is left to do where each function is taken
+abbrev pub next_round : List (List ℕ) → Taking → Taking
+next_round graph st = unless_whole (is_whole st.taken) graph st
+
 abbrev pub rounds : List (List ℕ) → ℕ → Taking → Taking
 rounds graph zero st = st
-rounds graph (suc n) st = round 0 graph (rounds graph n st)
+rounds graph (suc n) st = next_round graph (rounds graph n st)
+
+abbrev pub all_rounds : List (List ℕ) → Taking
+all_rounds graph = rounds graph (length graph) (start (length graph))
 
 abbrev pub order_of : List (List ℕ) → List ℕ
-order_of graph = (rounds graph (length graph) (start (length graph))).order
+order_of graph = (all_rounds graph).order
+
+-- where each function is taken no call lies on a cycle
+abbrev pub WholeAcyclic : Type 0
+WholeAcyclic = (graph : List (List ℕ)) → IsBounded graph → is_whole (all_rounds graph).taken ≡ true → HasNoCycle graph
 
 -- without a cycle each function is taken
 abbrev pub OrdersFound : Type 0

@@ -1,4 +1,4 @@
-ghost use Rattle.std.specs.Prelude.{◌≡◌, ℕ, nat_eq, ◌||◌, ◌<◌, length, IfOk, slice_index_or, Bool, false};
+ghost use Rattle.std.specs.Prelude.{◌≡◌, length, IfOk, slice_index_or, false};
 ghost use Rattle.std.specs.List.{list_any};
 ghost use Rattle.c_typed.specs.Rules as r;
 ghost use Rattle.rule_lines.specs.Found.{summary};
@@ -7,24 +7,23 @@ ghost use Rattle.call_order.specs.Layers as layers;
 ghost use Rattle.call_order.specs.Seen as seen;
 
 use crate::calls::CallAt;
+use crate::marks::is_marked;
+use crate::order::{is_whole, rounds};
 use lv_base::{Memory, SourceFault};
 use rule_lines::{Found, both, line, none};
 use std::alloc::Global;
 
-pub(crate) fn is_marked(marks: &[bool], function: u32) -> bool
-    ensures { result ≡ slice_index_or marks.now function false }
+fn any_call(calls: &[CallAt], marks: &[bool]) -> bool
+    ensures { result ≡ list_any (λ (c : CallAt). slice_index_or marks.now c.to false) calls.now }
 {
-    match marks.get(function as usize) {
-        None => false,
-        Some(mark) => *mark,
-    }
+    calls.iter().any(|call| is_marked(marks, call.to))
 }
 
 // Whether one of these calls is of a marked function.
 fn calls_marked(calls: &[CallAt], marks: &[bool]) -> bool
     ensures { result ≡ layers.any_marked marks.now (seen.targets calls.now) }
 {
-    calls.iter().any(|call| is_marked(marks, call.to))
+    any_call(calls, marks)
 }
 
 // The goal itself, among so many functions.
@@ -77,10 +76,8 @@ fn cycle_lines(calls: &[CallAt], marks: &[bool]) -> Found
     all
 }
 
-/// The first call that lies on a cycle of calls, where functions make these calls.
-///
-/// Fails with `Memory` where there is no more memory for marks of the functions.
-pub fn recursion_found(alloc: Global, calls: &[Vec<CallAt>]) -> Result<Found, Memory>
+// The calls that lie on a cycle, function by function.
+fn lines_found(alloc: Global, calls: &[Vec<CallAt>]) -> Result<Found, Memory>
     ensures { IfOk result (λ x. lines.found_of x ≡ summary (layers.all_lines (seen.graph_of calls.now) 0 (seen.all_calls calls.now))) }
 {
     let mut all = none();
@@ -89,4 +86,17 @@ pub fn recursion_found(alloc: Global, calls: &[Vec<CallAt>]) -> Result<Found, Me
         all = both(all, cycle_lines(own, &marks));
     }
     Ok(all)
+}
+
+/// The first call that lies on a cycle of calls, where functions make these calls, each of one of them.
+///
+/// Fails with `Memory` where there is no more memory for marks of the functions.
+pub fn recursion_found(alloc: Global, calls: &[Vec<CallAt>]) -> Result<Found, Memory>
+    ensures { IfOk result (λ x. layers.IsBounded (seen.graph_of calls.now) → lines.found_of x ≡ summary (r.recursion (seen.graph_of calls.now) 0 (seen.all_calls calls.now))) }
+{
+    let taking = rounds(alloc, calls)?;
+    if is_whole(&taking.taken) {
+        return Ok(none());
+    }
+    lines_found(alloc, calls)
 }

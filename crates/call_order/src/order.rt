@@ -1,18 +1,19 @@
-ghost use Rattle.std.specs.Prelude.{◌≡◌, ◌<◌, ℕ, IfOk, OnOk, length, slice_index_or, Bool, false};
+ghost use Rattle.std.specs.Prelude.{◌≡◌, IfOk, slice_index_or, false};
+ghost use Rattle.std.specs.List.{list_all};
 ghost use Rattle.call_order.specs.Layers.{IsBounded, HasNoCycle};
 ghost use Rattle.call_order.specs.Order.{IsOrder};
 ghost use Rattle.call_order.specs.Peel as peel;
 ghost use Rattle.call_order.specs.Seen as seen;
 
 use crate::calls::CallAt;
-use crate::cycles::is_marked;
+use crate::marks::is_marked;
 use lv_base::Memory;
 use std::alloc::Global;
 
 // The functions that are taken, and these in the order in which they were.
 #[derive(Drop)]
-struct Taking {
-    taken: Vec<bool>,
+pub(crate) struct Taking {
+    pub(crate) taken: Vec<bool>,
     order: Vec<u32>,
 }
 
@@ -25,11 +26,17 @@ fn number_of(i: usize) -> Result<u32, Memory>
     Ok(i as u32)
 }
 
+fn all_calls(calls: &[CallAt], taken: &[bool]) -> bool
+    ensures { result ≡ list_all (λ (c : CallAt). slice_index_or taken.now c.to false) calls.now }
+{
+    calls.iter().all(|call| is_marked(taken, call.to))
+}
+
 // Whether each function that these calls are of is taken.
 fn is_ready(calls: &[CallAt], taken: &[bool]) -> bool
     ensures { result ≡ peel.is_ready taken.now (seen.targets calls.now) }
 {
-    calls.iter().all(|call| is_marked(taken, call.to))
+    all_calls(calls, taken)
 }
 
 fn start(alloc: Global, count: usize) -> Result<Taking, Memory>
@@ -71,14 +78,38 @@ fn round(taking: &mut Taking, calls: &[Vec<CallAt>]) -> Result<(), Memory>
     Ok(())
 }
 
-fn rounds(alloc: Global, calls: &[Vec<CallAt>]) -> Result<Vec<u32>, Memory>
-    ensures { IfOk result (λ x. x.items ≡ peel.order_of (seen.graph_of calls.now)) }
+/// Whether each function is taken.
+pub(crate) fn is_whole(taken: &[bool]) -> bool
+    ensures { result ≡ peel.is_whole taken.now }
+{
+    taken.iter().all(|is_taken| *is_taken)
+}
+
+// Nothing is left to do where each function is taken.
+fn next_round(taking: &mut Taking, calls: &[Vec<CallAt>]) -> Result<(), Memory>
+    ensures { IfOk result (λ _. seen.taking_of taking.new ≡ peel.next_round (seen.graph_of calls.now) (seen.taking_of taking.old)) }
+{
+    if is_whole(&taking.taken) {
+        return Ok(());
+    }
+    round(taking, calls)
+}
+
+/// The functions that are taken when as many rounds are over as there are functions.
+pub(crate) fn rounds(alloc: Global, calls: &[Vec<CallAt>]) -> Result<Taking, Memory>
+    ensures { IfOk result (λ x. seen.taking_of x ≡ peel.all_rounds (seen.graph_of calls.now)) }
 {
     let mut taking = start(alloc, calls.len())?;
     for _round in 0..calls.len() {
-        round(&mut taking, calls)?;
+        next_round(&mut taking, calls)?;
     }
-    Ok(taking.order)
+    Ok(taking)
+}
+
+fn order_in(taking: Taking) -> Vec<u32>
+    ensures { result.items ≡ taking.order.items }
+{
+    taking.order
 }
 
 /// An order of the functions in which each stands behind those that it calls, where they make these calls and no call lies on a
@@ -90,5 +121,6 @@ pub fn order_of(alloc: Global, calls: &[Vec<CallAt>]) -> Result<Vec<u32>, Memory
     requires acyclic { HasNoCycle (seen.graph_of calls.now) }
     ensures { IfOk result (λ x. IsOrder (seen.graph_of calls.now) x.items) }
 {
-    rounds(alloc, calls)
+    let taking = rounds(alloc, calls)?;
+    Ok(order_in(taking))
 }

@@ -3,7 +3,7 @@ use Rattle.rule_lines.specs.Seen.{found_of}
 use Rattle.rule_lines.specs.Found.{summary}
 use Rattle.call_order.specs.Layers as layers
 use Rattle.call_order.specs.Seen as seen
-use Rattle.call_order.proofs.cycles.recursion_found.Given as goal
+use Rattle.call_order.proofs.cycles.lines_found.Given as goal
 
 -- the sum of those so far
 abbrev pub invariant-loop-i : goal.invariant-loop-i
