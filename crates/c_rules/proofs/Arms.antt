@@ -14,6 +14,9 @@ use Rattle.jump_rules.specs.declared.jumps.Jump.{Jump}
 use Rattle.jump_rules.specs.Seen.{jump_of, jumps}
 use Rattle.c_rules.specs.declared.label.LabelAt.{LabelAt}
 use Rattle.c_rules.specs.Examined.{labels_at, labels_from}
+use Rattle.jump_rules.specs.Walk as w
+use Rattle.call_order.specs.declared.calls.CallAt.{CallAt}
+use Rattle.call_order.specs.Seen.{calls, all_calls}
 use Rattle.c_rules.specs.Gathered as g
 
 -- ---- Labels
@@ -77,3 +80,30 @@ gather_step xs i x old new h e m n =
 pub none_broken : (bs : List Broken) → None ≡ first_broken bs → bs ≡ []
 none_broken [] h = refl
 none_broken (b ∷ bs) h = absurd (cc)
+
+pub function_arm : (f : t.Function) (number fn : ℕ) (body : t.Steps) (walk : w.State) (labels gotos lent : List r.Jump) (jumped two own alone new : Summary) (called : List r.Call) (old : g.Gathering) (ls : List LabelAt) (cs : List (List r.Call)) →
+    body ≡ f.body → walk ≡ w.walk_of f.result body → labels ≡ walk.labels → gotos ≡ walk.gotos → lent ≡ walk.labels →
+    jumped ≡ summary (r.repeated_labels [] labels ++ r.lost_gotos labels gotos ++ r.entering_gotos labels gotos) → two ≡ both jumped walk.found →
+    (let z : g.Checked = record { found = alone; calls = called } in z) ≡ g.values_checked f → own ≡ both two alone → fn ≡ number → ls ≡ old.labels ++ labels_at fn lent → cs ≡ old.calls ++ called ∷ [] → new ≡ both old.found own →
+    (let z : g.Gathering = record { found = new; labels = ls; calls = cs } in z) ≡ g.with_function old number f
+function_arm f number fn body walk labels gotos lent jumped two own alone new called old ls cs b h a k m j tw ch o nu li ca n =
+    let here : walk ≡ w.walk_of f.result f.body = h ∙ ap (w.walk_of f.result) b in
+    let ll : labels ≡ r.labels_of_all [] f.body = a ∙ ap (λ (z : w.State). z.labels) here in
+    let gg : gotos ≡ r.gotos_of_all [] f.body = k ∙ ap (λ (z : w.State). z.gotos) here in
+    let lines : List r.Jump → List r.Jump → List Broken = λ x y. r.repeated_labels [] x ++ r.lost_gotos x y ++ r.entering_gotos x y in
+    let first : jumped ≡ summary (lines (r.labels_of_all [] f.body) (r.gotos_of_all [] f.body)) = j ∙ ap (λ z. summary (lines z gotos)) ll ∙ ap (λ z. summary (lines (r.labels_of_all [] f.body) z)) gg in
+    let second : two ≡ summary (lines (r.labels_of_all [] f.body) (r.gotos_of_all [] f.body) ++ r.misplaced_all f.result false None [] f.body) =
+        tw ∙ ap (λ z. both z walk.found) first ∙ ap (λ (z : w.State). both (summary (lines (r.labels_of_all [] f.body) (r.gotos_of_all [] f.body))) z.found) here
+        ∙ sym (joined_is (lines (r.labels_of_all [] f.body) (r.gotos_of_all [] f.body)) (r.misplaced_all f.result false None [] f.body)) in
+    let third : own ≡ summary (r.function_faults f) =
+        o ∙ ap (λ z. both z alone) second ∙ ap (λ (z : g.Checked). both (summary (lines (r.labels_of_all [] f.body) (r.gotos_of_all [] f.body) ++ r.misplaced_all f.result false None [] f.body)) z.found) ch
+        ∙ sym (joined_is (lines (r.labels_of_all [] f.body) (r.gotos_of_all [] f.body) ++ r.misplaced_all f.result false None [] f.body) (r.unsequenced_of (r.all_of_all f.body))) in
+    ap (λ (z : Summary). let y : g.Gathering = record { found = z; labels = ls; calls = cs } in y) (n ∙ ap (both old.found) third)
+    ∙ ap (λ (z : List LabelAt). let y : g.Gathering = record { found = both old.found (summary (r.function_faults f)); labels = z; calls = cs } in y)
+      (li ∙ ap (λ z. old.labels ++ labels_at z lent) nu ∙ ap (λ z. old.labels ++ labels_at number z) (m ∙ ap (λ (z : w.State). z.labels) here))
+    ∙ ap (λ (z : List (List r.Call)). let y : g.Gathering = record { found = both old.found (summary (r.function_faults f)); labels = old.labels ++ labels_at number (r.labels_of_all [] f.body); calls = z } in y)
+      (ca ∙ ap (λ (z : g.Checked). old.calls ++ z.calls ∷ []) ch)
+
+pub all_calls_behind : (xs : List (Vec CallAt Global)) (x : Vec CallAt Global) → all_calls (xs ++ x ∷ []) ≡ all_calls xs ++ calls x.items ∷ []
+all_calls_behind [] x = refl
+all_calls_behind (y ∷ xs) x = ap (λ zs. calls y.items ∷ zs) (all_calls_behind xs x)

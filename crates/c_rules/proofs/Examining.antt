@@ -4,6 +4,10 @@ use Rattle.c_run.specs.Breaking.{Broken, first_broken}
 use Rattle.c_typed.specs.Tree.{Program, Function}
 use Rattle.c_typed.specs.Rules as r
 use Rattle.c_typed.specs.Facts.{IsTyped}
+use Rattle.c_typed.specs.Parts as typed
+use Rattle.c_typed.specs.Parts.{tree_of}
+use Rattle.c_typed.specs.View.{function_of}
+use Rattle.c_typed.specs.declared.tree.Function.{Function as F}
 use Rattle.rule_lines.specs.Found.{Summary, summary, both}
 use Rattle.rule_lines.proofs.Least.{joined_is}
 use Rattle.call_order.specs.declared.calls.CallAt.{CallAt}
@@ -66,3 +70,14 @@ is_examined p x xs order h e c n o = record {
   labels_are = ap (λ (z : g.Gathering). z.labels) e;
   ordered = subst (λ z. IsOrder z order) (graph_is xs (r.calls_of_functions p.functions) (sym c ∙ ap (λ (z : g.Gathering). z.calls) e)) o;
 }
+
+-- what is gathered of a typed tree's functions
+pub known : (t : typed.Parts) (fs : List F) (x : g.Gathering) → IsTyped (tree_of t) → fs ≡ t.functions → (IsBounded (g.callees (map function_of fs)) → x ≡ g.checked (map function_of fs)) → x ≡ g.checked (tree_of t).functions
+known t fs x h e k =
+    let P : List F → Type 0 = λ z. IsBounded (g.callees (map function_of z)) → x ≡ g.checked (map function_of z) in
+    let f : P t.functions = subst P e k in
+    f (bounded (tree_of t) h)
+
+pub lent_cycles : (ys xs : List (Vec CallAt Global)) (found : Summary) → ys ≡ xs → (IsBounded (graph_of ys) → found ≡ summary (r.recursion (graph_of ys) 0 (all_calls ys))) →
+    IsBounded (graph_of xs) → found ≡ summary (r.recursion (graph_of xs) 0 (all_calls xs))
+lent_cycles ys xs found e h = let P : List (Vec CallAt Global) → Type 0 = λ z. IsBounded (graph_of z) → found ≡ summary (r.recursion (graph_of z) 0 (all_calls z)) in subst P e h
