@@ -64,9 +64,9 @@ one_more fs f number e =
     ap (λ (z : Summary). let y : g.Gathering = record { found = z; labels = labels_from 0 (fs ++ f ∷ []); calls = r.calls_of_functions (fs ++ f ∷ []) } in y)
     (ap summary (faults_behind fs f) ∙ joined_is (r.functions_faults fs) (r.function_faults f))
     ∙ ap (λ (z : List LabelAt). let y : g.Gathering = record { found = both (summary (r.functions_faults fs)) (summary (r.function_faults f)); labels = z; calls = r.calls_of_functions (fs ++ f ∷ []) } in y)
-      (labels_behind 0 fs f ∙ ap (λ z. labels_from 0 fs ++ labels_at z (r.labels_of_all [] f.body)) (let k : 0 + length fs ≡ number = omega (arith, e) in k))
+    (labels_behind 0 fs f ∙ ap (λ z. labels_from 0 fs ++ labels_at z (r.labels_of_all [] f.body)) (let k : 0 + length fs ≡ number = omega (arith, e) in k))
     ∙ ap (λ (z : List (List r.Call)). let y : g.Gathering = record { found = both (summary (r.functions_faults fs)) (summary (r.function_faults f)); labels = labels_from 0 fs ++ labels_at number (r.labels_of_all [] f.body); calls = z } in y)
-      (calls_behind fs f)
+    (calls_behind fs f)
 
 pub gather_step : (xs : List Function) (i : ℕ) (x : Function) (old new : g.Gathering) → i < length xs → x ≡ get_or xs i x → old ≡ g.gathering (map v.function_of (take i xs)) → new ≡ g.with_function old i (v.function_of x) →
     new ≡ g.gathering (map v.function_of (take (i + 1) xs))
@@ -93,16 +93,16 @@ function_arm f number fn body walk labels gotos lent jumped two own alone new ca
     let lines : List r.Jump → List r.Jump → List Broken = λ x y. r.repeated_labels [] x ++ r.lost_gotos x y ++ r.entering_gotos x y in
     let first : jumped ≡ summary (lines (r.labels_of_all [] f.body) (r.gotos_of_all [] f.body)) = j ∙ ap (λ z. summary (lines z gotos)) ll ∙ ap (λ z. summary (lines (r.labels_of_all [] f.body) z)) gg in
     let second : two ≡ summary (lines (r.labels_of_all [] f.body) (r.gotos_of_all [] f.body) ++ r.misplaced_all f.result false None [] f.body) =
-        tw ∙ ap (λ z. both z walk.found) first ∙ ap (λ (z : w.State). both (summary (lines (r.labels_of_all [] f.body) (r.gotos_of_all [] f.body))) z.found) here
-        ∙ sym (joined_is (lines (r.labels_of_all [] f.body) (r.gotos_of_all [] f.body)) (r.misplaced_all f.result false None [] f.body)) in
+    tw ∙ ap (λ z. both z walk.found) first ∙ ap (λ (z : w.State). both (summary (lines (r.labels_of_all [] f.body) (r.gotos_of_all [] f.body))) z.found) here
+    ∙ sym (joined_is (lines (r.labels_of_all [] f.body) (r.gotos_of_all [] f.body)) (r.misplaced_all f.result false None [] f.body)) in
     let third : own ≡ summary (r.function_faults f) =
-        o ∙ ap (λ z. both z alone) second ∙ ap (λ (z : g.Checked). both (summary (lines (r.labels_of_all [] f.body) (r.gotos_of_all [] f.body) ++ r.misplaced_all f.result false None [] f.body)) z.found) ch
-        ∙ sym (joined_is (lines (r.labels_of_all [] f.body) (r.gotos_of_all [] f.body) ++ r.misplaced_all f.result false None [] f.body) (r.unsequenced_of (r.all_of_all f.body))) in
+    o ∙ ap (λ z. both z alone) second ∙ ap (λ (z : g.Checked). both (summary (lines (r.labels_of_all [] f.body) (r.gotos_of_all [] f.body) ++ r.misplaced_all f.result false None [] f.body)) z.found) ch
+    ∙ sym (joined_is (lines (r.labels_of_all [] f.body) (r.gotos_of_all [] f.body) ++ r.misplaced_all f.result false None [] f.body) (r.unsequenced_of (r.all_of_all f.body))) in
     ap (λ (z : Summary). let y : g.Gathering = record { found = z; labels = ls; calls = cs } in y) (n ∙ ap (both old.found) third)
     ∙ ap (λ (z : List LabelAt). let y : g.Gathering = record { found = both old.found (summary (r.function_faults f)); labels = z; calls = cs } in y)
-      (li ∙ ap (λ z. old.labels ++ labels_at z lent) nu ∙ ap (λ z. old.labels ++ labels_at number z) (m ∙ ap (λ (z : w.State). z.labels) here))
+    (li ∙ ap (λ z. old.labels ++ labels_at z lent) nu ∙ ap (λ z. old.labels ++ labels_at number z) (m ∙ ap (λ (z : w.State). z.labels) here))
     ∙ ap (λ (z : List (List r.Call)). let y : g.Gathering = record { found = both old.found (summary (r.function_faults f)); labels = old.labels ++ labels_at number (r.labels_of_all [] f.body); calls = z } in y)
-      (ca ∙ ap (λ (z : g.Checked). old.calls ++ z.calls ∷ []) ch)
+    (ca ∙ ap (λ (z : g.Checked). old.calls ++ z.calls ∷ []) ch)
 
 pub all_calls_behind : (xs : List (Vec CallAt Global)) (x : Vec CallAt Global) → all_calls (xs ++ x ∷ []) ≡ all_calls xs ++ calls x.items ∷ []
 all_calls_behind [] x = refl

@@ -36,8 +36,8 @@ with_cycles fs xs labels old cycles new e c n b =
     let bound : IsBounded (graph_of xs) = subst IsBounded (sym same) b in
     ap (λ (f : Summary). let z : g.Gathering = record { found = f; labels = labels; calls = all_calls xs } in z)
     (n ∙ ap (λ z. both z cycles) (ap (λ (z : g.Gathering). z.found) e)
-     ∙ ap (both (summary (r.functions_faults fs)))
-       (c bound ∙ ap (λ z. summary (r.recursion z 0 (all_calls xs))) same ∙ ap (λ z. summary (r.recursion (g.callees fs) 0 z)) calls_are))
+    ∙ ap (both (summary (r.functions_faults fs)))
+    (c bound ∙ ap (λ z. summary (r.recursion z 0 (all_calls xs))) same ∙ ap (λ z. summary (r.recursion (g.callees fs) 0 z)) calls_are))
     ∙ ap (λ (l : List LabelAt). let z : g.Gathering = record { found = both (summary (r.functions_faults fs)) (summary (r.recursion_faults fs)); labels = l; calls = all_calls xs } in z) (ap (λ (z : g.Gathering). z.labels) e)
     ∙ ap (λ (k : List (List r.Call)). let z : g.Gathering = record { found = both (summary (r.functions_faults fs)) (summary (r.recursion_faults fs)); labels = labels_from 0 fs; calls = k } in z) calls_are
 

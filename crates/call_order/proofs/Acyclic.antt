@@ -86,12 +86,12 @@ module _ (graph : List (List ℕ)) where
   none_back n before [] c b once f h = absurd (true_is_not_false false h refl)
   none_back n before (g ∷ rest) c b once f h =
       by (none_back n (before ++ g ∷ []) rest (wider before g c (called before rest g b)) (and_second (list_all (has before) (get_or graph g [])) _ b)
-          (λ x. subst (λ (z : List ℕ). times x z ≤ 1) (sym (append_assoc before (g ∷ []) rest)) (once x)) f)
+      (λ x. subst (λ (z : List ℕ). times x z ≤ 1) (sym (append_assoc before (g ∷ []) rest)) (once x)) f)
       (nat_eq f g) refl
     where
       by : (has rest f ≡ true → list_all (λ y. not (leads graph n y f)) (get_or graph f []) ≡ true) → (z : Bool) → z ≡ nat_eq f g → list_all (λ y. not (leads graph n y f)) (get_or graph f []) ≡ true
       by ih true e =
           subst (λ (z : ℕ). list_all (λ y. not (leads graph n y z)) (get_or graph z []) ≡ true) (sym (eqb-true f g (sym e)))
           (all_of (λ y. not (leads graph n y g)) (get_or graph g [])
-           (λ y j. not_false (leads graph n y g) (λ l. alone before rest g (once g) (stays_in before c n y g (all_in (has before) (get_or graph g []) y (called before rest g b) j) l))))
+          (λ y j. not_false (leads graph n y g) (λ l. alone before rest g (once g) (stays_in before c n y g (all_in (has before) (get_or graph g []) y (called before rest g b) j) l))))
       by ih false e = ih (ap (λ z. z || has rest f) e ∙ h)

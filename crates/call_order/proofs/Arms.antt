@@ -109,8 +109,8 @@ pub all_step : (graph : List (List ℕ)) (xs : List (Vec CallAt Global)) (i : �
 all_step graph xs i x marks lent ys all own new h e g m t a b o n =
     n ∙ ap (λ z. both z own) m
     ∙ ap (both (summary (l.all_lines graph 0 (all_calls (take i xs)))))
-      (o ∙ ap (λ z. summary (l.lines_in lent (calls z))) b ∙ ap (λ z. summary (l.lines_in z (calls x.items))) (a ∙ t ∙ ap (l.layers graph i) (sym g))
-       ∙ ap (λ z. summary (l.lines_in (l.layers graph z (length graph)) (calls x.items))) (let k : i ≡ 0 + length (all_calls (take i xs)) = omega (arith, h, length-map (take i xs) (λ (y : Vec CallAt Global). calls y.items), length-take i xs) in k))
+    (o ∙ ap (λ z. summary (l.lines_in lent (calls z))) b ∙ ap (λ z. summary (l.lines_in z (calls x.items))) (a ∙ t ∙ ap (l.layers graph i) (sym g))
+    ∙ ap (λ z. summary (l.lines_in (l.layers graph z (length graph)) (calls x.items))) (let k : i ≡ 0 + length (all_calls (take i xs)) = omega (arith, h, length-map (take i xs) (λ (y : Vec CallAt Global). calls y.items), length-take i xs) in k))
     ∙ sym (joined_is (l.all_lines graph 0 (all_calls (take i xs))) (l.lines_in (l.layers graph (0 + length (all_calls (take i xs))) (length graph)) (calls x.items)))
     ∙ ap summary (sym (all_behind graph 0 (all_calls (take i xs)) (calls x.items)) ∙ ap (l.all_lines graph 0) (sym (all_calls_behind (take i xs) x)))
     ∙ ap (λ y. summary (l.all_lines graph 0 (all_calls (take i xs ++ y ∷ [])))) e ∙ ap (λ z. summary (l.all_lines graph 0 (all_calls z))) (sym (take_more xs i x h))

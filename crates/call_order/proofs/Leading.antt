@@ -38,8 +38,8 @@ leads_is graph goal (suc n) number b h =
     layer_at 0 graph goal (l.layers graph goal n) number h
     ∙ ap (λ z. nat_eq z goal || l.any_marked (l.layers graph goal n) (get_or graph number [])) (zero-add number)
     ∙ ap (λ z. nat_eq number goal || z)
-      (any_same (length graph) (λ f. get_or (l.layers graph goal n) f false) (λ f. leads graph n f goal) (get_or graph number [])
-       (all_at (λ fs. list_all (λ f. nat_lt f (length graph)) fs) graph number [] b h) (λ f k. leads_is graph goal n f b k))
+    (any_same (length graph) (λ f. get_or (l.layers graph goal n) f false) (λ f. leads graph n f goal) (get_or graph number [])
+    (all_at (λ fs. list_all (λ f. nat_lt f (length graph)) fs) graph number [] b h) (λ f k. leads_is graph goal n f b k))
 
 pub layers_lead : l.LayersLead
 layers_lead = leads_is
@@ -61,7 +61,7 @@ all_are graph caller (cs ∷ rest) b h =
     ap (λ z. z ++ l.all_lines graph (caller + 1) rest)
     (lines_are graph caller (l.layers graph caller (length graph)) cs (and_first (list_all (λ f. nat_lt f (length graph)) (targets_of cs)) _ h) (λ f k. leads_is graph caller (length graph) f b k))
     ∙ ap (λ z. recursion_in graph caller cs ++ z)
-      (all_are graph (caller + 1) rest b (and_second (list_all (λ f. nat_lt f (length graph)) (targets_of cs)) _ h) ∙ ap (λ z. recursion graph z rest) (add-one caller))
+    (all_are graph (caller + 1) rest b (and_second (list_all (λ f. nat_lt f (length graph)) (targets_of cs)) _ h) ∙ ap (λ z. recursion graph z rest) (add-one caller))
 
 pub cycles_found : l.CyclesFound
 cycles_found calls b = all_are (map targets_of calls) 0 calls b b
@@ -115,12 +115,12 @@ none_left graph caller [] h = refl
 none_left graph caller (cs ∷ rest) h =
     ap (λ z. z ++ recursion graph (suc caller) rest) (no_lines graph caller cs (ap (λ z. list_all (λ c. not (leads graph (length graph) c z)) (targets_of cs)) (sym (add-zero caller)) ∙ h 0 (omega arith)))
     ∙ none_left graph (suc caller) rest
-      (λ i k. ap (λ z. list_all (λ c. not (leads graph (length graph) c z)) (targets_of (get_or rest i []))) (let e : suc caller + i ≡ caller + suc i = omega arith in e) ∙ h (suc i) (omega (arith, k)))
+    (λ i k. ap (λ z. list_all (λ c. not (leads graph (length graph) c z)) (targets_of (get_or rest i []))) (let e : suc caller + i ≡ caller + suc i = omega arith in e) ∙ h (suc i) (omega (arith, k)))
 
 pub cycles_none : l.CyclesNone
 cycles_none calls h =
     let graph : List (List ℕ) = map targets_of calls in
     none_left graph 0 calls
     (λ i k. ap (λ z. list_all (λ c. not (leads graph (length graph) c z)) (targets_of (get_or calls i []))) (zero-add i)
-       ∙ ap (λ z. list_all (λ c. not (leads graph (length graph) c i)) z) (sym (get_or-map targets_of calls i [] [] k))
-       ∙ h i (omega (arith, k, length-map calls targets_of)))
+    ∙ ap (λ z. list_all (λ c. not (leads graph (length graph) c i)) z) (sym (get_or-map targets_of calls i [] [] k))
+    ∙ h i (omega (arith, k, length-map calls targets_of)))

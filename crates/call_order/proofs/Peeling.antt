@@ -21,7 +21,7 @@ first_append graph before [] f h k = and_both _ true (ap (λ z. list_all (has z)
 first_append graph before (y ∷ xs) f h k =
     and_both (list_all (has before) (get_or graph y [])) _ (and_first (list_all (has before) (get_or graph y [])) _ h)
     (first_append graph (before ++ y ∷ []) xs f (and_second (list_all (has before) (get_or graph y [])) _ h)
-     (ap (λ z. list_all (has z) (get_or graph f [])) (append_assoc before (y ∷ []) xs) ∙ k))
+    (ap (λ z. list_all (has z) (get_or graph f [])) (append_assoc before (y ∷ []) xs) ∙ k))
 
 -- what stands among these stands there
 stands : (f : ℕ) (xs : List ℕ) → times f xs ≡ 1 → has xs f ≡ true
@@ -225,6 +225,7 @@ whole_acyclic graph bounded whole f h =
   where
     p : Peeled graph (all_rounds graph)
     p = rounds_peeled graph bounded (length graph)
+
     once : (x : ℕ) → times x (order_of graph) ≤ 1
     once x = by (nat_lt x (length graph)) refl
       where

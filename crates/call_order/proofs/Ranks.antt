@@ -69,7 +69,7 @@ module _ (graph : List (List ℕ)) (bounded : IsBounded graph) where
       by ih false e =
           or_second (nat_eq x y) _
           (any_more (λ f. leads graph k f y) (λ f. leads graph (suc k) f y) (get_or graph x []) ih
-           (ap (λ z. z || list_any (λ f. leads graph k f y) (get_or graph x [])) e ∙ h))
+          (ap (λ z. z || list_any (λ f. leads graph k f y) (get_or graph x [])) e ∙ h))
 
   abbrev Stationary : ℕ → ℕ → Type 0
   Stationary y k = (x : ℕ) → x < length graph → leads graph (suc k) x y ≡ leads graph k x y

@@ -10,5 +10,7 @@ mod order;
 
 pub use calls::{CallAt, calls_of};
 pub use cycles::recursion_found;
-pub use laws::{cycles_broken, cycles_found, cycles_none, layers_lead, orders_found, whole_acyclic};
+pub use laws::{
+    cycles_broken, cycles_found, cycles_none, layers_lead, orders_found, whole_acyclic,
+};
 pub use order::order_of;

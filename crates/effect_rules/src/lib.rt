@@ -6,8 +6,6 @@ mod effects;
 mod laws;
 mod marks;
 
-
-
 pub use clashes::{clash, has};
 pub use effects::{Effects, value_effects};
 pub use laws::effects_summed;

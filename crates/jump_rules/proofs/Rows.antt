@@ -42,6 +42,7 @@ behind p ys l = commutes (p l) (list_any p ys) ∙ ap (λ z. list_any p ys || z)
     commutes true false = refl
     commutes false true = refl
     commutes false false = refl
+
     right : (a : Bool) → a ≡ (a || false)
     right true = refl
     right false = refl
@@ -51,9 +52,9 @@ repeated_behind before [] l = append-nil (line (r.has_name l.name before) fault.
 repeated_behind before (k ∷ ls) l =
     ap (λ z. line (r.has_name k.name before) fault.Label k.named_at ++ z)
     (same_repeated (k ∷ before) (before ++ k ∷ []) (ls ++ l ∷ []) (λ p. behind p before k)
-     ∙ repeated_behind (before ++ k ∷ []) ls l
-     ∙ ap (λ z. r.repeated_labels (before ++ k ∷ []) ls ++ line (r.has_name l.name z) fault.Label l.named_at) (append_assoc before (k ∷ []) ls)
-     ∙ ap (λ z. z ++ line (r.has_name l.name (before ++ (k ∷ ls))) fault.Label l.named_at) (sym (same_repeated (k ∷ before) (before ++ k ∷ []) ls (λ p. behind p before k))))
+    ∙ repeated_behind (before ++ k ∷ []) ls l
+    ∙ ap (λ z. r.repeated_labels (before ++ k ∷ []) ls ++ line (r.has_name l.name z) fault.Label l.named_at) (append_assoc before (k ∷ []) ls)
+    ∙ ap (λ z. z ++ line (r.has_name l.name (before ++ (k ∷ ls))) fault.Label l.named_at) (sym (same_repeated (k ∷ before) (before ++ k ∷ []) ls (λ p. behind p before k))))
     ∙ sym (append_assoc (line (r.has_name k.name before) fault.Label k.named_at) (r.repeated_labels (k ∷ before) ls) (line (r.has_name l.name (before ++ (k ∷ ls))) fault.Label l.named_at))
 
 taken : (xs : List Jump) (i : ℕ) (x : Jump) → i < length xs → x ≡ get_or xs i x → jumps (take (i + 1) xs) ≡ jumps (take i xs) ++ jump_of x ∷ []
@@ -103,7 +104,7 @@ pub entering_step : (labels xs : List Jump) (i : ℕ) (x : Jump) (test : Bool) (
 entering_step labels xs i x test all own new l e t m o n =
     n ∙ ap (λ z. both z own) m
     ∙ ap (both (summary (r.entering_gotos (jumps labels) (jumps (take i xs)))))
-      (o ∙ ap (λ z. summary (line z fault.JumpIntoScope x.at)) (t ∙ any_jumps (λ y. bytes_eq y.name x.name && r.enters x.scope.items y.scope) labels))
+    (o ∙ ap (λ z. summary (line z fault.JumpIntoScope x.at)) (t ∙ any_jumps (λ y. bytes_eq y.name x.name && r.enters x.scope.items y.scope) labels))
     ∙ sym (joined_is (r.entering_gotos (jumps labels) (jumps (take i xs))) (entering_line (jumps labels) (jump_of x)))
     ∙ ap summary (sym (entering_behind (jumps labels) (jumps (take i xs)) (jump_of x)))
     ∙ ap (λ z. summary (r.entering_gotos (jumps labels) z)) (sym (taken xs i x l e))

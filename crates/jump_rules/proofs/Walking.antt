@@ -108,8 +108,8 @@ module _ (result : Option Kind) where
     all_is l n start sc ls gs bs (t.steps_and ss s) m =
         ap (λ z. w.declaring (w.walked result l n z s) (r.declared_by s)) (all_is l n start sc ls gs bs ss m)
         ∙ ap (λ z. w.declaring z (r.declared_by s))
-          (step_is l n start (sc ++ r.declared_in ss) (ls ++ r.labels_of_all sc ss) (gs ++ r.gotos_of_all sc ss) (bs ++ r.misplaced_all result l start sc ss) s (more n start sc (r.declared_in ss) m)
-           ∙ two (sc ++ r.declared_in ss) ls _ _ gs _ _ bs _ _)
+        (step_is l n start (sc ++ r.declared_in ss) (ls ++ r.labels_of_all sc ss) (gs ++ r.gotos_of_all sc ss) (bs ++ r.misplaced_all result l start sc ss) s (more n start sc (r.declared_in ss) m)
+        ∙ two (sc ++ r.declared_in ss) ls _ _ gs _ _ bs _ _)
         ∙ ap (λ z. state z (ls ++ r.labels_of_all sc (t.steps_and ss s)) (gs ++ r.gotos_of_all sc (t.steps_and ss s)) (bs ++ r.misplaced_all result l start sc (t.steps_and ss s))) (append_assoc sc (r.declared_in ss) (r.declared_by s))
 
 pub bodies_walked : w.BodiesWalked

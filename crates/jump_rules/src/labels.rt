@@ -48,9 +48,7 @@ fn lost(labels: &[Jump], gotos: &[Jump]) -> Found
 fn is_entering(labels: &[Jump], goto: &Jump) -> bool
     ensures { result ≡ list_any (λ (x : Jump). bytes_eq x.name goto.now.name && r.enters goto.now.scope.items x.scope.items) labels.now }
 {
-    labels
-        .iter()
-        .any(|label| is_same(&label.name, &goto.name) && enters(&goto.scope, &label.scope))
+    labels.iter().any(|label| is_same(&label.name, &goto.name) && enters(&goto.scope, &label.scope))
 }
 
 fn entering(labels: &[Jump], gotos: &[Jump]) -> Found

@@ -28,5 +28,5 @@ new-requires c =
 pub returns-in-Some-clause-refused : goal.returns-in-Some-clause-refused
 returns-in-Some-clause-refused c =
     sym (least_is (tree_of c.args.typed) (gathering_of c.in_ok-gathered.gathered) c.functions.ensures.typed
-         (known c.args.typed c.functions.result.now (gathering_of c.in_ok-gathered.gathered) c.functions.ensures.typed c.functions.ensures.value c.in_ok-gathered.ensures))
+    (known c.args.typed c.functions.result.now (gathering_of c.in_ok-gathered.gathered) c.functions.ensures.typed c.functions.ensures.value c.in_ok-gathered.ensures))
     ∙ ap option_of c.in-Some.is
