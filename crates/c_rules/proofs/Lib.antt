@@ -1,0 +1,4 @@
+mod Bounds
+mod Arms
+mod Examining
+mod Small

@@ -1,0 +1,5 @@
+pub mod Examined
+pub mod Parts
+pub mod Refusals
+pub mod Gathered
+pub mod Seen

@@ -1,0 +1,11 @@
+use Rattle.std.proofs.Common.{ℕ, List, subst, sym, ap, ◌∙◌}
+use Rattle.call_order.specs.Order.{IsOrder}
+use Rattle.call_order.specs.Peel as p
+use Rattle.call_order.specs.Seen.{graph_of}
+use Rattle.call_order.proofs.Peeling.{orders_found}
+use Rattle.call_order.proofs.order.order_of.Goals as goal
+
+pub returns : goal.returns
+returns c =
+    subst (λ (z : List ℕ). IsOrder (graph_of c.args.calls.now) z) (sym (c.order_in.ensures ∙ ap (λ (z : p.Taking). z.order) c.in_ok-taking.ensures))
+    (orders_found (graph_of c.args.calls.now) c.requires.bounded c.requires.acyclic)

@@ -1,0 +1,4 @@
+pub mod Views
+pub mod Bools
+mod Arms
+mod Summing

@@ -1,0 +1,10 @@
+use Rattle.std.proofs.Common.{◌≡◌, take}
+use Rattle.c_typed.specs.Rules as r
+use Rattle.rule_lines.specs.Seen.{found_of}
+use Rattle.rule_lines.specs.Found.{summary}
+use Rattle.step_values.specs.Seen.{values}
+use Rattle.effect_rules.proofs.marks.effects_found.Given as goal
+
+-- the sum of those so far
+abbrev pub invariant-loop-value : goal.invariant-loop-value
+invariant-loop-value l = found_of l.found ≡ summary (r.unsequenced_of (values (take l.value-index l.all)))

@@ -1,0 +1,4 @@
+pub mod Views
+mod Walking
+mod Arms
+mod Rows
