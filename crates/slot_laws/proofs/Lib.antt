@@ -1,1 +1,3 @@
 pub mod Running
+pub mod Lying
+pub mod Pieces

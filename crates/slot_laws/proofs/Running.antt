@@ -58,19 +58,19 @@ pub still_located : (at object count : ℕ) (v : ℤ) (st : State) → Still st 
 unfolding Still
 still_located at object count v st = chosen_still st (int_le (pos 0) v && int_lt v (pos count)) (give (element object (unsigned_abs v))) (fail error.Index at) refl tt
 
-still_drawn : (kind : Kind) (model : Model) (o : Option ℤ) (st : State) → Still st (drawn kind model o st)
+pub still_drawn : (kind : Kind) (model : Model) (o : Option ℤ) (st : State) → Still st (drawn kind model o st)
 unfolding Still
 still_drawn kind model None st = tt
 still_drawn kind model (Some v) st = choose_still st (is_in_range kind model v) _ _ refl tt
 
-still_draw_all : (inputs : List ℤ) (model : Model) (kind : Kind) (count : ℕ) (st : State) → Still st (draw_all inputs model kind count st)
+pub still_draw_all : (inputs : List ℤ) (model : Model) (kind : Kind) (count : ℕ) (st : State) → Still st (draw_all inputs model kind count st)
 unfolding Still
 still_draw_all inputs model kind zero st = refl
 still_draw_all inputs model kind (suc count) st =
     still_after ℤ (List ℤ) st (draw inputs model kind st) _ (still_drawn kind model (slice_get inputs st.taken) st)
     (λ v s. still_after (List ℤ) (List ℤ) s (draw_all inputs model kind count s) _ (still_draw_all inputs model kind count s) (λ vs s2. refl))
 
-still_taken : (needed : Bool) (at : ℕ) (o : Option ℤ) (st : State) → Still st (taken_of needed at o st)
+pub still_taken : (needed : Bool) (at : ℕ) (o : Option ℤ) (st : State) → Still st (taken_of needed at o st)
 unfolding Still
 still_taken needed at (Some v) st = refl
 still_taken true at None st = tt
@@ -101,13 +101,13 @@ module _ (model : Model) (compute : Compute) (inputs : List ℤ) where
   pub still_applied : (at : ℕ) (o : BinaryOp) (k : Kind) (x y : ℤ) (st : State) → Still st (applied model compute inputs at o k x y st)
   still_applied at o k x y st = still_after ℤ ℤ st (computed at (if is_turned o then compute (op_of o) k y x else compute (op_of o) k x y) st) _ (still_computed at _ st) (λ v s. still_here s _)
 
-  still_stepped : (at : ℕ) (by : Crement) (k : Kind) (e : Element) (v : ℤ) (st : State) → Still st (stepped model compute inputs at by k e v st)
+  pub still_stepped : (at : ℕ) (by : Crement) (k : Kind) (e : Element) (v : ℤ) (st : State) → Still st (stepped model compute inputs at by k e v st)
   still_stepped at by k e v st = still_after ℤ ℤ st (computed at (compute (crement_op by) (promoted k) (converted (promoted k) model v) (pos 1)) st) _ (still_computed at _ st) (λ w s. still_write s e _)
 
-  still_updated : (at : ℕ) (o : BinaryOp) (k l : Kind) (e : Element) (x y : ℤ) (st : State) → Still st (updated model compute inputs at o k l e x y st)
+  pub still_updated : (at : ℕ) (o : BinaryOp) (k l : Kind) (e : Element) (x y : ℤ) (st : State) → Still st (updated model compute inputs at o k l e x y st)
   still_updated at o k l e x y st = still_after ℤ ℤ st (applied model compute inputs at o k (converted k model x) y st) _ (still_applied at o k _ y st) (λ w s. still_write s e _)
 
-  still_changed : (at : ℕ) (before : Bool) (by : Crement) (k : Kind) (e : Element) (st : State) → Still st (changed model compute inputs at before by k e st)
+  pub still_changed : (at : ℕ) (before : Bool) (by : Crement) (k : Kind) (e : Element) (st : State) → Still st (changed model compute inputs at before by k e st)
   still_changed at before by k e st = still_after ℤ ℤ st (stepped model compute inputs at by k e (value_in st e) st) _ (still_stepped at by k e (value_in st e) st) (λ w s. still_here s _)
 
   -- ---- Ranks
