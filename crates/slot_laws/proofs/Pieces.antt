@@ -1,19 +1,17 @@
 -- Pieces of code that are put together, and what they do.
-use Rattle.std.proofs.Common.{◌≡◌, ◌⊎◌, ℕ, zero, suc, ◌+◌, ◌<◌, ◌≤◌, Bool, true, false, List, [], ◌∷◌, ◌++◌, length, Option, Some, None, ℤ, pos, inl, inr, refl, sym, ap, ◌∙◌, subst, arith, length-append}
-use Rattle.std.specs.Prelude.{unsigned_abs}
+use Rattle.std.proofs.Common.{◌≡◌, ℕ, suc, ◌+◌, ◌<◌, ◌≤◌, Bool, true, false, List, [], ◌∷◌, ◌++◌, length, Option, Some, None, ℤ, pos, inl, refl, sym, ap, ◌∙◌, subst, arith, length-append}
 use Rattle.lv_base.specs.declared.kind.Kind.{Kind}
 use Rattle.lv_base.specs.Integers.{truth}
-use Rattle.c_tree.specs.declared.symbol.BinaryOp.{BinaryOp}
-use Rattle.c_run.specs.Run.{State, Got, Value, Stop, Run, give, after, choose, is_true, read, element}
+use Rattle.c_run.specs.Run.{State, Value, Run, give, after, choose, is_true}
 use Rattle.c_typed.specs.Run.{kept}
 use Rattle.slot_code.specs.declared.flat.Instruction.{Instruction}
 use Rattle.slot_code.specs.declared.flat.Instruction.TheVariants as i
 use Rattle.slot_code.specs.declared.reply.Ending.{Ending}
-use Rattle.slot_code.specs.Slots.{get, put, slots_of}
+use Rattle.slot_code.specs.Slots.{get, slots_of}
 use Rattle.slot_code.specs.Values.{both_code, either_code, kept_code, choice_code}
-use Rattle.slot_code.specs.Machine.{fills, act, element_in, updated}
-use Rattle.slot_laws.proofs.Running.{Still, still_here, still_updated, value_in}
-use Rattle.slot_laws.proofs.Lying.{put_same, ends, ends_value, seq, Frame, Lies, At, split, Parts, parts, from, there_from, leads, stops, Keeps, keeps_same, keeps_on, keeps_less, keeps_put, Then, Does, then_on, In, Nothing, one, plain}
+use Rattle.slot_code.specs.Machine.{fills, act}
+use Rattle.slot_laws.proofs.Running.{Still, still_here}
+use Rattle.slot_laws.proofs.Lying.{ends, ends_value, seq, Frame, Lies, At, split, parts, from, there_from, leads, Keeps, keeps_on, keeps_less, Then, Does, then_on, In, one}
 
 module _ (c : Frame) (t : ℕ) where
   -- one instruction
@@ -79,16 +77,16 @@ module _ (c : Frame) (t : ℕ) where
       leads c m (choose (is_true (get s1 d)) (suc m) (suc m + (length ys + 2))) s1 s1 st1 st1 (i.SkipZero d (length ys + 2)) r.second.0 refl
       ∙ go m m2 (is_true (get s1 d)) s1 st1 tu1 k1 r.second.1 r.third (omega arith) (omega (arith, e, r.whole))
       ∙ ap (λ z. ends (choose (is_true z) (truth_of g') (give (pos 0)) st1) k) is1))
-      where
-        go : (m m2 : ℕ) (b : Bool) (s1 : List ℤ) (st1 : State) → st1.turns ≤ t → Keeps c d s s1 → At c (suc m) ys → At c m2 (i.Truth d ∷ i.Jump 1 ∷ i.Constant d (pos 0) ∷ []) → m2 ≡ suc m + length ys → q ≡ m2 + 3 →
-            from c (choose b (suc m) (suc m + (length ys + 2))) s1 st1 ≡ ends (choose b (truth_of g') (give (pos 0)) st1) k
-        go m m2 true s1 st1 tu1 k1 ly lz em eq =
-            truth_does d (suc m) q ys g' s s1 st1 k runs' ly (subst (λ n. Lies c n (i.Truth d)) em lz.0) tu1 k1
-            (λ v s2 st2 tu2 k2 is2.
-            there_from c (suc m2) (suc (suc m + length ys)) s2 st2 (k v st2) (omega (arith, em))
-            (leads c (suc m2) (suc (suc m2) + 1) s2 s2 st2 st2 (i.Jump 1) lz.1.0 refl ∙ there_from c q (suc (suc m2) + 1) s2 st2 (k v st2) (omega (arith, eq)) (h v s2 st2 tu2 k2 is2)))
-        go m m2 false s1 st1 tu1 k1 ly lz em eq =
-            there_from c (suc (suc m2)) (suc m + (length ys + 2)) s1 st1 _ (omega (arith, em)) (constant_does d (suc (suc m2)) q (pos 0) s s1 st1 k lz.1.1.0 (omega (arith, eq)) tu1 k1 h)
+    where
+      go : (m m2 : ℕ) (b : Bool) (s1 : List ℤ) (st1 : State) → st1.turns ≤ t → Keeps c d s s1 → At c (suc m) ys → At c m2 (i.Truth d ∷ i.Jump 1 ∷ i.Constant d (pos 0) ∷ []) → m2 ≡ suc m + length ys → q ≡ m2 + 3 →
+          from c (choose b (suc m) (suc m + (length ys + 2))) s1 st1 ≡ ends (choose b (truth_of g') (give (pos 0)) st1) k
+      go m m2 true s1 st1 tu1 k1 ly lz em eq =
+          truth_does d (suc m) q ys g' s s1 st1 k runs' ly (subst (λ n. Lies c n (i.Truth d)) em lz.0) tu1 k1
+          (λ v s2 st2 tu2 k2 is2.
+          there_from c (suc m2) (suc (suc m + length ys)) s2 st2 (k v st2) (omega (arith, em))
+          (leads c (suc m2) (suc (suc m2) + 1) s2 s2 st2 st2 (i.Jump 1) lz.1.0 refl ∙ there_from c q (suc (suc m2) + 1) s2 st2 (k v st2) (omega (arith, eq)) (h v s2 st2 tu2 k2 is2)))
+      go m m2 false s1 st1 tu1 k1 ly lz em eq =
+          there_from c (suc (suc m2)) (suc m + (length ys + 2)) s1 st1 _ (omega (arith, em)) (constant_does d (suc (suc m2)) q (pos 0) s s1 st1 k lz.1.1.0 (omega (arith, eq)) tu1 k1 h)
 
   pub either : (d : ℕ) (xs ys : List Instruction) (g g' : Run ℤ) → Does c t ℤ (In c t d) d xs g → Does c t ℤ (In c t d) d ys g' →
       Does c t ℤ (In c t d) d (either_code d xs ys) (λ st. after (g st) (λ x. choose (is_true x) (give (pos 1)) (truth_of g')))
@@ -101,18 +99,18 @@ module _ (c : Frame) (t : ℕ) where
       leads c m (choose (is_true (get s1 d)) (suc m) (suc m + 2)) s1 s1 st1 st1 (i.SkipZero d 2) r.second.0 refl
       ∙ go m m2 (is_true (get s1 d)) s1 st1 tu1 k1 r.second.1 r.third.0 (omega arith) (omega (arith, e, r.whole))
       ∙ ap (λ z. ends (choose (is_true z) (give (pos 1)) (truth_of g') st1) k) is1))
-      where
-        go : (m m2 : ℕ) (b : Bool) (s1 : List ℤ) (st1 : State) → st1.turns ≤ t → Keeps c d s s1 → At c (suc m) (i.Constant d (pos 1) ∷ i.Jump (length ys + 1) ∷ ys) → Lies c m2 (i.Truth d) → m2 ≡ suc (suc (suc m)) + length ys → q ≡ suc m2 →
-            from c (choose b (suc m) (suc m + 2)) s1 st1 ≡ ends (choose b (give (pos 1)) (truth_of g') st1) k
-        go m m2 true s1 st1 tu1 k1 ly lz em eq =
-            constant_does d (suc m) (suc (suc m)) (pos 1) s s1 st1 k ly.0 refl tu1 k1
-            (λ v s2 st2 tu2 k2 is2.
-            leads c (suc (suc m)) (suc (suc (suc m)) + (length ys + 1)) s2 s2 st2 st2 (i.Jump (length ys + 1)) ly.1.0 refl
-            ∙ there_from c q (suc (suc (suc m)) + (length ys + 1)) s2 st2 (k v st2) (omega (arith, eq, em)) (h v s2 st2 tu2 k2 is2))
-        go m m2 false s1 st1 tu1 k1 ly lz em eq =
-            there_from c (suc (suc (suc m))) (suc m + 2) s1 st1 _ (omega arith)
-            (truth_does d (suc (suc (suc m))) q ys g' s s1 st1 k runs' ly.1.1 (subst (λ n. Lies c n (i.Truth d)) em lz) tu1 k1
-            (λ v s2 st2 tu2 k2 is2. there_from c q (suc (suc (suc (suc m)) + length ys)) s2 st2 (k v st2) (omega (arith, eq, em)) (h v s2 st2 tu2 k2 is2)))
+    where
+      go : (m m2 : ℕ) (b : Bool) (s1 : List ℤ) (st1 : State) → st1.turns ≤ t → Keeps c d s s1 → At c (suc m) (i.Constant d (pos 1) ∷ i.Jump (length ys + 1) ∷ ys) → Lies c m2 (i.Truth d) → m2 ≡ suc (suc (suc m)) + length ys → q ≡ suc m2 →
+          from c (choose b (suc m) (suc m + 2)) s1 st1 ≡ ends (choose b (give (pos 1)) (truth_of g') st1) k
+      go m m2 true s1 st1 tu1 k1 ly lz em eq =
+          constant_does d (suc m) (suc (suc m)) (pos 1) s s1 st1 k ly.0 refl tu1 k1
+          (λ v s2 st2 tu2 k2 is2.
+          leads c (suc (suc m)) (suc (suc (suc m)) + (length ys + 1)) s2 s2 st2 st2 (i.Jump (length ys + 1)) ly.1.0 refl
+          ∙ there_from c q (suc (suc (suc m)) + (length ys + 1)) s2 st2 (k v st2) (omega (arith, eq, em)) (h v s2 st2 tu2 k2 is2))
+      go m m2 false s1 st1 tu1 k1 ly lz em eq =
+          there_from c (suc (suc (suc m))) (suc m + 2) s1 st1 _ (omega arith)
+          (truth_does d (suc (suc (suc m))) q ys g' s s1 st1 k runs' ly.1.1 (subst (λ n. Lies c n (i.Truth d)) em lz) tu1 k1
+          (λ v s2 st2 tu2 k2 is2. there_from c q (suc (suc (suc (suc m)) + length ys)) s2 st2 (k v st2) (omega (arith, eq, em)) (h v s2 st2 tu2 k2 is2)))
 
   kept_does : (d m q : ℕ) (kind : Option Kind) (v : ℤ) (s s1 : List ℤ) (st : State) (k : ℤ → State → Ending) → At c m (kept_code d kind) → q ≡ m + length (kept_code d kind) → st.turns ≤ t → Keeps c d s s1 → get s1 d ≡ v → Then c t ℤ (In c t d) d q s k →
       from c m s1 st ≡ ends (Value (kept kind v) st) k
@@ -134,16 +132,15 @@ module _ (c : Frame) (t : ℕ) where
       leads c m (choose (is_true (get s1 d)) (suc m) (suc m + (length ys + 1))) s1 s1 st1 st1 (i.SkipZero d (length ys + 1)) r.second.0 refl
       ∙ go m m2 (p + length all) (is_true (get s1 d)) s1 st1 tu1 k1 r.second.1 r.third o.1 (omega arith) (omega (arith, r.whole)) (omega (arith, e, n))
       ∙ ap (λ z. ends (after (choose (is_true z) g1 g2 st1) (λ v. give (kept kind v))) k) is1))
-      where
-        go : (m m2 m3 : ℕ) (b : Bool) (s1 : List ℤ) (st1 : State) → st1.turns ≤ t → Keeps c d s s1 → At c (suc m) ys → At c m2 (i.Jump (length zs) ∷ zs) → At c m3 (kept_code d kind) → m2 ≡ suc m + length ys → m3 ≡ suc m2 + length zs → q ≡ m3 + length (kept_code d kind) →
-            from c (choose b (suc m) (suc m + (length ys + 1))) s1 st1 ≡ ends (after (choose b g1 g2 st1) (λ v. give (kept kind v))) k
-        go m m2 m3 true s1 st1 tu1 k1 ly lz lk em en eq =
-            seq ℤ ℤ (g1 st1) (λ v. give (kept kind v)) k (from c (suc m) s1 st1) (runs1 (suc m) m2 s1 st1 (λ v st2. ends (Value (kept kind v) st2) k) em ly tu1
-            (λ v s2 st2 tu2 k2 is2.
-            leads c m2 (suc m2 + length zs) s2 s2 st2 st2 (i.Jump (length zs)) lz.0 refl
-            ∙ there_from c m3 (suc m2 + length zs) s2 st2 _ (omega (arith, en)) (kept_does d m3 q kind v s s2 st2 k lk eq tu2 (keeps_on c d s s1 s2 k1 k2) is2 h)))
-        go m m2 m3 false s1 st1 tu1 k1 ly lz lk em en eq =
-            there_from c (suc m2) (suc m + (length ys + 1)) s1 st1 _ (omega (arith, em))
-            (seq ℤ ℤ (g2 st1) (λ v. give (kept kind v)) k (from c (suc m2) s1 st1) (runs2 (suc m2) m3 s1 st1 (λ v st2. ends (Value (kept kind v) st2) k) en lz.1 tu1
-            (λ v s2 st2 tu2 k2 is2. kept_does d m3 q kind v s s2 st2 k lk eq tu2 (keeps_on c d s s1 s2 k1 k2) is2 h)))
-
+    where
+      go : (m m2 m3 : ℕ) (b : Bool) (s1 : List ℤ) (st1 : State) → st1.turns ≤ t → Keeps c d s s1 → At c (suc m) ys → At c m2 (i.Jump (length zs) ∷ zs) → At c m3 (kept_code d kind) → m2 ≡ suc m + length ys → m3 ≡ suc m2 + length zs → q ≡ m3 + length (kept_code d kind) →
+          from c (choose b (suc m) (suc m + (length ys + 1))) s1 st1 ≡ ends (after (choose b g1 g2 st1) (λ v. give (kept kind v))) k
+      go m m2 m3 true s1 st1 tu1 k1 ly lz lk em en eq =
+          seq ℤ ℤ (g1 st1) (λ v. give (kept kind v)) k (from c (suc m) s1 st1) (runs1 (suc m) m2 s1 st1 (λ v st2. ends (Value (kept kind v) st2) k) em ly tu1
+          (λ v s2 st2 tu2 k2 is2.
+          leads c m2 (suc m2 + length zs) s2 s2 st2 st2 (i.Jump (length zs)) lz.0 refl
+          ∙ there_from c m3 (suc m2 + length zs) s2 st2 _ (omega (arith, en)) (kept_does d m3 q kind v s s2 st2 k lk eq tu2 (keeps_on c d s s1 s2 k1 k2) is2 h)))
+      go m m2 m3 false s1 st1 tu1 k1 ly lz lk em en eq =
+          there_from c (suc m2) (suc m + (length ys + 1)) s1 st1 _ (omega (arith, em))
+          (seq ℤ ℤ (g2 st1) (λ v. give (kept kind v)) k (from c (suc m2) s1 st1) (runs2 (suc m2) m3 s1 st1 (λ v st2. ends (Value (kept kind v) st2) k) en lz.1 tu1
+          (λ v s2 st2 tu2 k2 is2. kept_does d m3 q kind v s s2 st2 k lk eq tu2 (keeps_on c d s s1 s2 k1 k2) is2 h)))
