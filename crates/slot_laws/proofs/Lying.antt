@@ -71,7 +71,7 @@ module _ (c : Frame) where
   At place [] = Unit {0}
   At place (x ∷ xs) = Lies place x × At (suc place) xs
 
-  at_moved : (p q : ℕ) (xs : List Instruction) → p ≡ q → At p xs → At q xs
+  pub at_moved : (p q : ℕ) (xs : List Instruction) → p ≡ q → At p xs → At q xs
   at_moved p q xs e h = subst (λ n. At n xs) e h
 
   pub split : (p : ℕ) (xs ys : List Instruction) → At p (xs ++ ys) → At p xs × At (p + length xs) ys

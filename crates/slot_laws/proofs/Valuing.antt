@@ -113,7 +113,7 @@ module _ (c : Frame) (t : ℕ) (hc : Called c t) where
   no_values_do : (d : ℕ) → Does c t (List ℤ) (HoldsAll 0 d) d [] (give [])
   no_values_do d p q s st k e l tu h = there_from c q p s st _ (omega (arith, e)) (h [] s st tu (keeps_same c d s) (refl, tt) ∙ sym (ends_value [] st k))
 
-  no_drops_do : (d : ℕ) → Does c t (Unit {0}) (Nothing c t) d [] (give tt)
+  pub no_drops_do : (d : ℕ) → Does c t (Unit {0}) (Nothing c t) d [] (give tt)
   no_drops_do d p q s st k e l tu h = there_from c q p s st _ (omega (arith, e)) (h tt s st tu (keeps_same c d s) tt ∙ sym (ends_value tt st k))
 
   more_values_do : (d n : ℕ) (xs ys : List Instruction) (g : Run (List ℤ)) (g' : Run ℤ) → c.low ≤ d → Does c t (List ℤ) (HoldsAll n d) d xs g → Does c t ℤ (In c t (d + n)) (d + n) ys g' →
