@@ -6,3 +6,6 @@ pub mod Valuing
 pub mod Sizes
 pub mod Seeking
 pub mod Leaving
+pub mod Entering
+pub mod Linking
+pub mod Stating
