@@ -9,3 +9,4 @@ pub mod Leaving
 pub mod Entering
 pub mod Linking
 pub mod Stating
+pub mod Functioning
