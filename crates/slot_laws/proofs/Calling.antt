@@ -71,7 +71,7 @@ abbrev pub Above : Frame → List ℤ → List ℤ → Type 0
 Above c s s' = (n : ℕ) → c.low ≤ n → get s' n ≡ get s n
 
 -- what a call does behind the stores of its arguments
-pub Called : Frame → ℕ → Type 0
+unfoldable pub Called : Frame → ℕ → Type 0
 Called c t =
     (f at : ℕ) (l : Link) (vs : List ℤ) → link_of f c.links ≡ Some l → (p : ℕ) (s : List ℤ) (st : State) (k : Option ℤ → State → Ending) → Lies c p (i.Call at l.entry l.slot) → st.turns ≤ t →
     ((r : Option ℤ) (s' : List ℤ) (st' : State) → st'.turns ≤ t → Above c s s' → returned_in s' l.slot ≡ r → from c (suc p) s' st' ≡ k r st') →

@@ -1,28 +1,26 @@
 -- The code of a function's body does what a call says, with its jumps to labels, and comes back.
-use Rattle.std.proofs.Common.{◌≡◌, ◌⊎◌, ℕ, zero, suc, ◌+◌, ◌-◌, ◌<◌, ◌≤◌, max, Bool, true, false, List, [], ◌∷◌, ◌++◌, length, Option, Some, None, ℤ, pos, slice_get, inl, inr, refl, sym, ap, ◌∙◌, subst, arith, length-append}
-use Rattle.std.specs.Prelude.{unsigned_abs, nat_eq, if◌then◌else◌}
+use Rattle.std.proofs.Common.{◌≡◌, ℕ, zero, suc, ◌+◌, ◌<◌, ◌≤◌, true, List, [], ◌∷◌, Option, Some, None, ℤ, pos, slice_get, ⊎_elim, refl, sym, ap, ◌∙◌, arith}
+use Rattle.std.specs.Prelude.{nat_eq}
 use Rattle.std.proofs.lemmas.Bool.Decides.{eqb_tells}
 use Rattle.lv_base.specs.declared.kind.Kind.{Kind}
-use Rattle.c_run.specs.Run.{State, Got, Value, Stop, Spent, Run, give, after, choose, turn, is_true, with_store, Compute}
-use Rattle.c_run.specs.Loops.{Place, toLabel, From, Start, Seek, Exit, Normal, Broke, Continued, Returned, Jumped, Absent, Calls, left_by, enter, bind_parameters}
+use Rattle.c_run.specs.Run.{State, Got, Value, Run, after, choose, is_true, Compute}
+use Rattle.c_run.specs.Loops.{toLabel, From, Start, Seek, Exit, Normal, Broke, Continued, Returned, Calls, left_by, enter}
 use Rattle.c_typed.specs.Tree.{Steps, Function, Program}
 use Rattle.c_typed.specs.Run as typed
 use Rattle.c_typed.specs.Rules.{all_of_all, calls_of}
 use Rattle.slot_code.specs.declared.flat.Instruction.{Instruction}
 use Rattle.slot_code.specs.declared.flat.Instruction.TheVariants as i
 use Rattle.slot_code.specs.declared.reply.Ending.{Ending}
-use Rattle.slot_code.specs.declared.reply.Ending.TheVariants as ending
 use Rattle.slot_code.specs.Slots.{get, put}
-use Rattle.slot_code.specs.Values.{Link, link_of, parameters_of}
+use Rattle.slot_code.specs.Values.{Link}
 use Rattle.slot_code.specs.Statements.{Mark, label_in, marks_in, size_in, steps_code, or_place}
-use Rattle.slot_code.specs.Programs.{body_end, label_place, function_code}
+use Rattle.slot_code.specs.Programs.{body_end, function_code}
 use Rattle.slot_code.specs.Machine.{returned_in}
-use Rattle.slot_laws.proofs.Lying.{put_same, put_other, ends, ends_value, seq, Frame, Lies, At, at_moved, split, from, there_from, leads, stops, Keeps, keeps_same, keeps_on, keeps_put}
-use Rattle.slot_laws.proofs.Calling.{Called, Linked, bound_store, bound}
-use Rattle.slot_laws.proofs.Sizes.{steps_length}
-use Rattle.slot_laws.proofs.Seeking.{sought, plus, label_sought}
+use Rattle.slot_laws.proofs.Lying.{put_same, ends, ends_value, seq, Frame, Lies, At, from, leads, Keeps, keeps_on, keeps_put}
+use Rattle.slot_laws.proofs.Calling.{Called, Linked}
+use Rattle.slot_laws.proofs.Seeking.{sought, label_sought}
 use Rattle.slot_laws.proofs.Leaving.{Behind, Leaves, Room, Sought}
-use Rattle.slot_laws.proofs.Linking.{ValuesLinked, values_linked}
+use Rattle.slot_laws.proofs.Linking.{ValuesLinked}
 use Rattle.slot_laws.proofs.Stating.{start_all, seek_all}
 
 -- ---- Bodies
@@ -104,6 +102,9 @@ module _ (c : Frame) (s0 : List ℤ) (n : ℕ) (hc : (t : ℕ) → t ≤ n → C
         seq Exit (Option ℤ) (run Start st) (λ x. left_by x f) k (from c place s st)
         (start_all c s0 end labels n hc result body end end place li st.turns end s st (behind f k) tn refl lies room (omega arith) ke (ended st.turns k f Normal (λ x. refl) h) lv)
 
+pub same_number : (a b : ℕ) → nat_eq a b ≡ true → a ≡ b
+same_number a b e = ⊎_elim (λ p. p.1) (λ p. absurd cc) (eqb_tells a b)
+
 -- ---- Functions that stand before others
 
 module _ (program : Program) (compute : Compute) (inputs : List ℤ) (code : List Instruction) where
@@ -128,7 +129,7 @@ module _ (program : Program) (compute : Compute) (inputs : List ℤ) (code : Lis
     pub there : slice_get program.functions number ≡ Some f
     pub top : ℕ
     pub top_in : top ≤ slots
-    pub slot_in : l.slot ≤ slots
+    pub slot_in : l.slot < slots
     pub entry_in : l.entry ≤ place
     pub before : suc (body_end program links l.slot l.entry f) < place
     pub lies : (call : Calls) → At (frame links call l.slot top l.entry) l.entry (function_code program links l.slot l.entry f)
@@ -144,7 +145,7 @@ module _ (program : Program) (compute : Compute) (inputs : List ℤ) (code : Lis
     pub this : StandsFor number l links place slots
     pub others : Stands links l.entry l.slot
 
-  one_less : (number : ℕ) (l : Link) (place place' slots slots' : ℕ) → place ≤ place' → slots ≤ slots' → One number l place slots → One number l place' slots'
+  pub one_less : (number : ℕ) (l : Link) (place place' slots slots' : ℕ) → place ≤ place' → slots ≤ slots' → One number l place slots → One number l place' slots'
   one_less number l place place' slots slots' a b o =
       record {
         links = o.links;
@@ -161,6 +162,3 @@ module _ (program : Program) (compute : Compute) (inputs : List ℤ) (code : Lis
         };
         others = o.others;
       }
-
-  same_number : (a b : ℕ) → nat_eq a b ≡ true → a ≡ b
-  same_number a b e = Rattle.std.proofs.Common.⊎_elim (λ p. p.1) (λ p. absurd (cc)) (eqb_tells a b)

@@ -10,3 +10,6 @@ pub mod Entering
 pub mod Linking
 pub mod Stating
 pub mod Functioning
+pub mod Returning
+pub mod Ordering
+pub mod Whole

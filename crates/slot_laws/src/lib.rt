@@ -1,9 +1,18 @@
-//! Flat code runs as the typed tree that it was made of.
+//! Flat code runs as the typed tree that it was made of, and goes on from instruction to instruction.
 #![tactic(auto)]
 
-ghost use Rattle.slot_laws.specs.Laws.{CodeGoesOn};
+ghost use Rattle.slot_laws.specs.Laws.{CodeGoesOn, CodeRunsAsTree};
 
-/// A run goes on from instruction to instruction.
+#[cfg(test)]
+mod tests;
+
+/// A run from a place is the run from where the instruction there leads: each instruction takes a turn or goes forward.
 pub fn code_goes_on()
     ensures { CodeGoesOn }
+{}
+
+/// The code of a typed tree runs as the tree, whatever the slots hold before, where each function stands behind those that it
+/// calls.
+pub fn code_runs_as_tree()
+    ensures { CodeRunsAsTree }
 {}
