@@ -1,0 +1,4 @@
+pub mod Bounds
+pub mod Ranging
+pub mod Agreeing
+pub mod Typing
