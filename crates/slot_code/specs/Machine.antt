@@ -4,13 +4,14 @@ use Rattle.lv_base.specs.declared.kind.Model.{Model}
 use Rattle.lv_base.specs.declared.kind.Kind.{Kind}
 use Rattle.lv_base.specs.declared.kind.Op.TheVariants as arith
 use Rattle.lv_base.specs.declared.fault.ErrorKind.TheVariants as error
-use Rattle.lv_base.specs.Integers.{arith_of, converted, truth, is_zero}
+use Rattle.lv_base.specs.Integers.{converted, truth, is_zero}
 use Rattle.c_tree.specs.declared.symbol.BinaryOp.{BinaryOp}
 use Rattle.c_tree.specs.declared.symbol.Crement.{Crement}
 use Rattle.c_run.specs.Run.{State, End, Error, Ended, NoInput, BadInput, Spent, Got, Value, Stop, Run, give, ◌>>=◌, choose, fail, turn, Element, element, scalar, read, write, located, store_all, padded, draw, draw_all, Compute, computed, is_true}
 use Rattle.c_run.specs.Operators.{op_of, is_turned, is_negated, negated, crement_op}
 use Rattle.c_typed.specs.Tree.{Program}
 use Rattle.c_typed.specs.Run.{promoted, start_store, main_number}
+use Rattle.typed_ranges.specs.Guards.{guarded}
 use Rattle.slot_code.specs.declared.flat.Instruction.{Instruction}
 use Rattle.slot_code.specs.declared.flat.Instruction.TheVariants as i
 use Rattle.slot_code.specs.declared.reply.Ending.{Ending}
@@ -160,11 +161,11 @@ module _ (model : Model) (compute : Compute) (inputs : List ℤ) where
 
 -- ---- Whole runs
 
--- `main` returns to the end of the code
+-- `main` returns to the end of the code; operations test their operands
 abbrev pub run_code : Program → Code → List ℤ → Option Link → List ℤ → ℕ → Ending
 run_code program code slots None inputs turns = ending.Ended
 run_code program code slots (Some l) inputs turns =
-    run_from program.model (λ op kind x y. arith_of op kind program.model x y) inputs code.instructions
+    run_from program.model (λ op kind x y. guarded program.model op kind x y) inputs code.instructions
     (machine l.entry (put slots l.slot (pos (length code.instructions))) (record { store = start_store program.objects; taken = 0; turns = turns }))
 
 abbrev pub main_link : Option ℕ → Code → Option Link

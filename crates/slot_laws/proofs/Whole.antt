@@ -1,6 +1,7 @@
 -- The code of a program runs as its tree.
 use Rattle.std.proofs.Common.{◌≡◌, ℕ, suc, ◌≤◌, true, List, [], ◌∷◌, length, Option, Some, None, ℤ, pos, slice_get, inl, refl, sym, ap, ◌∙◌, subst, arith}
-use Rattle.lv_base.specs.Integers.{arith_of}
+use Rattle.typed_ranges.specs.Guards.{guarded}
+use Rattle.typed_ranges.proofs.Running.{runs_guarded}
 use Rattle.c_run.specs.Run.{State, Got, Value, Stop, Run, after, Compute}
 use Rattle.c_run.specs.Loops.{Start, enter}
 use Rattle.c_typed.specs.Tree.{Function, Program}
@@ -64,7 +65,7 @@ module _ (program : Program) (compute : Compute) (inputs : List ℤ) (code : Lis
 
 module _ (program : Program) (order : List ℕ) (io : IsOrder program order) (slots inputs : List ℤ) (turns : ℕ) where
   abbrev compute : Compute
-  compute op kind x y = arith_of op kind program.model x y
+  compute op kind x y = guarded program.model op kind x y
 
   abbrev start : State
   start = record { store = typed.start_store program.objects; taken = 0; turns = turns }
@@ -86,4 +87,4 @@ module _ (program : Program) (order : List ℕ) (io : IsOrder program order) (sl
       ap (λ o. run_code program code slots o inputs turns) found.1 ∙ main_code program compute inputs code.instructions code main found.0 (onto order []) slots start refl grown found.1
 
 pub runs_as_tree : CodeRunsAsTree
-runs_as_tree program order io slots inputs turns = run_is program order io slots inputs turns (typed.main_number program.functions) io.main
+runs_as_tree program order fits io slots inputs turns = run_is program order io slots inputs turns (typed.main_number program.functions) io.main ∙ ap (λ e. ending_of e) (runs_guarded program fits turns inputs)

@@ -5,6 +5,7 @@ use Rattle.c_run.specs.Run.{Compute}
 use Rattle.c_typed.specs.Tree.{Function, Program}
 use Rattle.c_typed.specs.Run.{main_number}
 use Rattle.c_typed.specs.Run as typed
+use Rattle.c_typed.specs.Facts.{IsTyped}
 use Rattle.c_typed.specs.Rules.{has, Call, calls_of, all_of_all}
 use Rattle.slot_code.specs.declared.flat.Instruction.{Instruction}
 use Rattle.slot_code.specs.Machine.{Machine, step, onward, run_from, ending_of}
@@ -42,4 +43,4 @@ pub record IsOrder (program : Program) (order : List ℕ) : Type 0 where
 
 -- In such an order the code of a typed tree runs as the tree, whatever its slots hold before.
 abbrev pub CodeRunsAsTree : Type 0
-CodeRunsAsTree = (program : Program) (order : List ℕ) → IsOrder program order → (slots inputs : List ℤ) (turns : ℕ) → flat.run program order slots inputs turns ≡ ending_of (typed.run turns program inputs)
+CodeRunsAsTree = (program : Program) (order : List ℕ) → IsTyped program → IsOrder program order → (slots inputs : List ℤ) (turns : ℕ) → flat.run program order slots inputs turns ≡ ending_of (typed.run turns program inputs)

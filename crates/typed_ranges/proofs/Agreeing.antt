@@ -1,6 +1,6 @@
 -- Two runs that agree as long as each object holds values of its kind: one tests its operands, the other does not.
-use Rattle.std.proofs.Common.{◌≡◌, ◌⊎◌, ℕ, zero, suc, ◌+◌, ◌-◌, ◌<◌, ◌≤◌, Bool, true, false, List, [], ◌∷◌, ◌++◌, length, replicate, reverse, Option, Some, None, Result, Ok, Err, ℤ, pos, negsuc, slice_get, slice_set, slice_index_or, refl, sym, ap, ◌∙◌, subst, arith, if◌then◌else◌}
-use Rattle.std.specs.Prelude.{IfOk, int_le, int_lt, ◌&&◌, unsigned_abs, MatchBool}
+use Rattle.std.proofs.Common.{◌≡◌, ℕ, zero, suc, Bool, true, false, List, [], ◌∷◌, ◌++◌, replicate, Option, Some, None, Result, Ok, Err, ℤ, pos, slice_get, slice_set, slice_index_or, refl, sym, ap, ◌∙◌, subst, if◌then◌else◌}
+use Rattle.std.specs.Prelude.{IfOk, int_le, int_lt, ◌&&◌, unsigned_abs}
 use Rattle.lv_base.specs.declared.kind.Kind.{Kind}
 use Rattle.lv_base.specs.declared.kind.Kind.TheVariants as kind
 use Rattle.lv_base.specs.declared.kind.Model.{Model}
@@ -8,15 +8,15 @@ use Rattle.lv_base.specs.declared.kind.Op.{Op}
 use Rattle.lv_base.specs.declared.kind.Op.TheVariants as arith'
 use Rattle.lv_base.specs.declared.fault.ErrorKind.{ErrorKind}
 use Rattle.lv_base.specs.declared.fault.ErrorKind.TheVariants as error
-use Rattle.lv_base.specs.Integers.{InRange, InAny, IsRight, is_in_range, is_promoted, is_shift, converted, truth, is_zero, arith_of}
+use Rattle.lv_base.specs.Integers.{InRange, InAny, IsRight, is_in_range, is_promoted, converted, truth, is_zero, arith_of}
 use Rattle.c_tree.specs.declared.symbol.BinaryOp.{BinaryOp}
 use Rattle.c_tree.specs.declared.symbol.BinaryOp.TheVariants as op
 use Rattle.c_tree.specs.declared.symbol.Crement.{Crement}
 use Rattle.c_tree.specs.declared.symbol.Crement.TheVariants as by
 use Rattle.c_run.specs.Run.{State, End, Got, Value, Stop, Error, BadInput, Run, give, fail, after, choose, turn, spent, read, write, Element, element, located, values_of, with_taken, drawn, draw, draw_all, store_all, padded, computed, Compute}
 use Rattle.c_run.specs.Operators.{is_logical, op_of, is_turned, is_negated, negated, crement_op}
-use Rattle.c_run.specs.Loops.{Exit, Normal, Broke, Continued, Returned, Jumped, Absent, From, Start, Seek, toLabel, toCase, toDefault, then_do, or_else, found, next_turn, loop, leave_cases, switch_on, left_by, enter}
-use Rattle.c_typed.specs.Tree.{Object, Program}
+use Rattle.c_run.specs.Loops.{Exit, Normal, Broke, Continued, Returned, Jumped, Absent, From, Seek, toLabel, toCase, toDefault, then_do, or_else, found, next_turn, loop, leave_cases, switch_on, left_by, enter}
+use Rattle.c_typed.specs.Tree.{Object}
 use Rattle.c_typed.specs.Facts.{is_comparison, when}
 use Rattle.c_typed.specs.Facts as facts
 use Rattle.c_typed.specs.Run.{promoted}
@@ -106,10 +106,15 @@ module _ (model : Model) (objects : List Object) where
 
   pub writes : (k : Kind) (e : Element) (v : ℤ) → Within k e → InRange k model v → Alike ℤ (InRange k model) (write e v) (write e v)
   unfolding Ranged
-  writes k e v w h st g =
-      (refl, (h, stored_good st.store e.object (slice_set (values_of st e.object) e.index v) g
-      (λ told there i. set_at (λ x. InRange told.kind model x) (values_of st e.object) e.index v i (pos 0)
-      (λ same. subst (λ x. InRange x model v) (sym w.2 ∙ ap (λ t. t.kind) (same_object e.object e.object w.0 told refl w.1 there)) h) (g e.object told there i))))
+  writes k e v w h st g = (
+    refl,
+    (
+      h,
+      stored_good st.store e.object (slice_set (values_of st e.object) e.index v) g
+          (λ told there i. set_at (λ x. InRange told.kind model x) (values_of st e.object) e.index v i (pos 0)
+          (λ same. subst (λ x. InRange x model v) (sym w.2 ∙ ap (λ t. t.kind) (same_object e.object e.object w.0 told refl w.1 there)) h) (g e.object told there i)),
+    ),
+  )
 
   -- all values of an object
   pub stores : (o : ℕ) (vs : List ℤ) → ((told : Object) → slice_get objects o ≡ Some told → (i : ℕ) → InRange told.kind model (slice_index_or vs i (pos 0))) → Alike (Unit {0}) (λ v. Unit {0}) (store_all o vs) (store_all o vs)

@@ -2,3 +2,4 @@ pub mod Bounds
 pub mod Ranging
 pub mod Agreeing
 pub mod Typing
+pub mod Running

@@ -1,7 +1,6 @@
 -- Results of operations are values of their kinds, and where the operands are the tests of a guarded operation hold.
-use Rattle.std.proofs.Common.{◌≡◌, ◌⊎◌, ℕ, zero, suc, ◌+◌, ◌-◌, ◌^◌, ◌%◌, ◌<◌, ◌≤◌, Bool, true, false, Result, Ok, Err, ℤ, pos, negsuc, ◌≤ℤ◌, ◌+ℤ◌, ◌-ℤ◌, ◌*ℤ◌, refl, sym, ap, ◌∙◌, subst, arith, if◌then◌else◌}
+use Rattle.std.proofs.Common.{◌≡◌, ℕ, ◌-◌, ◌^◌, ◌%◌, ◌<◌, Bool, true, false, Result, Ok, Err, ℤ, pos, negsuc, ◌≤ℤ◌, ◌+ℤ◌, ◌-ℤ◌, ◌*ℤ◌, refl, ap, subst, arith, if◌then◌else◌}
 use Rattle.std.specs.Prelude.{unsigned_abs, int_le, int_lt, int_div, int_rem, ◌&&◌, IfOk, MatchBool, bit_and, bit_or, bit_xor}
-use Rattle.std.specs.Int.{int_rem_euclid}
 use Rattle.std.proofs.lemmas.Int.{ints}
 use Rattle.std.proofs.Math.Nat.{mod-lt}
 use Rattle.std.specs.Int.Bits.{and_lt}
@@ -14,9 +13,9 @@ use Rattle.lv_base.specs.declared.kind.Op.{Op}
 use Rattle.lv_base.specs.declared.kind.Op.TheVariants as op
 use Rattle.lv_base.specs.declared.fault.ErrorKind.{ErrorKind}
 use Rattle.lv_base.specs.declared.fault.ErrorKind.TheVariants as error
-use Rattle.lv_base.specs.Integers.{InRange, InAny, IsRight, is_in_range, is_promoted, is_shift, is_signed, is_zero, is_amount, width_of, residue, wrapped, converted, held, exact, quotient, remainder, left_shift, right_shift, bitwise, truth, arith_of, least_of, greatest_of}
+use Rattle.lv_base.specs.Integers.{InRange, InAny, IsRight, is_in_range, is_promoted, is_shift, is_signed, is_zero, is_amount, width_of, residue, converted, held, exact, left_shift, right_shift, bitwise, arith_of, least_of, greatest_of}
 use Rattle.typed_ranges.proofs.Bounds.{wrapped_in_range, rem_in_range, shr_in_range, truth_in_range, held_in_range}
-use Rattle.typed_ranges.specs.Guards.{is_any, is_right, has_operands, guarded}
+use Rattle.typed_ranges.specs.Guards.{is_any, guarded}
 
 le_test : (a b : ℤ) → a ≤ℤ b → int_le a b ≡ true
 le_test a b h = grind (arith, ints)

@@ -1,24 +1,23 @@
 -- Values and statements of a typed tree run the same where each operation tests its operands.
-use Rattle.std.proofs.Common.{◌≡◌, ◌⊎◌, ℕ, zero, suc, ◌+◌, ◌-◌, ◌<◌, ◌≤◌, Bool, true, false, List, [], ◌∷◌, ◌++◌, length, replicate, reverse, Option, Some, None, ℤ, pos, negsuc, slice_get, slice_index_or, refl, sym, ap, ◌∙◌, subst, arith, if◌then◌else◌}
-use Rattle.std.specs.Prelude.{IfOk, int_le, ◌&&◌}
+use Rattle.std.proofs.Common.{◌≡◌, ℕ, suc, Bool, true, false, List, [], ◌∷◌, ◌++◌, length, reverse, Option, Some, None, ℤ, pos, negsuc, slice_get, refl, sym, ap, ◌∙◌, subst, arith}
 use Rattle.std.proofs.lemmas.List.{reverse-append, reverse-reverse}
 use Rattle.lv_base.specs.declared.kind.Kind.{Kind}
 use Rattle.lv_base.specs.declared.kind.Kind.TheVariants as kind
 use Rattle.lv_base.specs.declared.kind.Model.{Model}
 use Rattle.lv_base.specs.declared.kind.Op.TheVariants as arith'
 use Rattle.lv_base.specs.declared.fault.ErrorKind.TheVariants as error
-use Rattle.lv_base.specs.Integers.{InRange, InAny, is_promoted, converted, truth, is_zero}
+use Rattle.lv_base.specs.Integers.{InRange, is_promoted, converted, truth, is_zero}
 use Rattle.c_tree.specs.declared.symbol.BinaryOp.{BinaryOp}
-use Rattle.c_run.specs.Run.{State, Got, Value, Stop, Error, Ended, Run, give, after, ◌>>=◌, ◌>>◌, choose, turn, read, write, Element, element, scalar, located, store_all, padded, is_true, draw, draw_all}
+use Rattle.c_run.specs.Run.{Error, Ended, Run, give, after, choose, read, Element, scalar, located, is_true}
 use Rattle.c_run.specs.Operators.{Use, used, dropped, called_value}
-use Rattle.c_run.specs.Loops.{Place, toLabel, toCase, toDefault, From, Start, Seek, Exit, Normal, Broke, Continued, Returned, Jumped, Absent, Calls, leave_switch, bind_parameters, enter}
-use Rattle.c_typed.specs.Tree.{Val, vConstant, vRead, vElement, vWhole, vNothing, vConvert, vDiscard, vNegate, vComplement, vNot, vBinary, vBoth, vEither, vCond, vAssign, vUpdate, vChange, vCall, vReach, vAbort, vDraw, vComma, Goal, gObject, gElement, Vals, no_values, values_and, Step, pDraw, pBegin, pBlock, pEmpty, pEffect, pIf, pIfElse, pWhile, pSwitch, pDo, pFor, pCase, pDefault, pLabel, pGoto, pBreak, pContinue, pReturn, Steps, no_steps, steps_and, Object, Function, Program}
+use Rattle.c_run.specs.Loops.{Calls}
+use Rattle.c_typed.specs.Tree.{Val, vConstant, vRead, vElement, vWhole, vNothing, vConvert, vDiscard, vNegate, vComplement, vNot, vBinary, vBoth, vEither, vCond, vAssign, vUpdate, vChange, vCall, vReach, vAbort, vDraw, vComma, Goal, gObject, gElement, Vals, no_values, values_and, Object, Function}
 use Rattle.c_typed.specs.Facts.{kind_of, kinds_of, HasKind, RightFits, IsScalar, IsArray, IsCalled, parameter_kinds, Fits, AllFit, GoalFits, OptionFits, TestFits, AllOf, Begins, Drawn, ReturnFits, StepFits, StepsFit, Reversed}
 use Rattle.c_typed.specs.Facts as facts
 use Rattle.c_typed.specs.Run as run
 use Rattle.typed_ranges.proofs.Bounds.{truth_in_range, in_any}
 use Rattle.typed_ranges.proofs.Ranging.{converted_in_range}
-use Rattle.typed_ranges.proofs.Agreeing.{Good, Of, Alike, binds, gives, stops, weaker, chosen, turns, Within, reads, writes, stores, locates, draws, Each, each_none, each_both, each_zero, all_draws, plain, tested, computes, RightIs, applies, steps, Left, Gave, rows, elses, founds, nexts, loops, switches}
+use Rattle.typed_ranges.proofs.Agreeing.{Of, Alike, binds, gives, stops, weaker, chosen, Within, reads, writes, locates, draws, plain, tested, computes, RightIs, applies, steps, Gave}
 
 module _ (model : Model) (objects : List Object) (functions : List Function) (inputs : List ℤ) where
   -- each parameter gets a value of its kind
@@ -50,16 +49,16 @@ module _ (model : Model) (objects : List Object) (functions : List Function) (in
   CallsAlike call call' = (f at : ℕ) (vs : List ℤ) (told : Function) → slice_get functions f ≡ Some told → Arguments told.parameters vs → Alike model objects (Option ℤ) (Gave model objects told.result) (call f at vs) (call' f at vs)
 
   module _ (call call' : Calls) (hc : CallsAlike call call') where
-    abbrev T : Use → Val → Run ℤ
+    abbrev pub T : Use → Val → Run ℤ
     T u e = run.value model objects (tested model objects) inputs call u e
 
-    abbrev P : Use → Val → Run ℤ
+    abbrev pub P : Use → Val → Run ℤ
     P u e = run.value model objects (plain model objects) inputs call' u e
 
-    abbrev OfVal : Val → ℤ → Type 0
+    abbrev pub OfVal : Val → ℤ → Type 0
     OfVal e v = Of model objects (kind_of e) v
 
-    of_kind : (e : Val) (k : Kind) (v : ℤ) → kind_of e ≡ Some k → OfVal e v → InRange k model v
+    pub of_kind : (e : Val) (k : Kind) (v : ℤ) → kind_of e ≡ Some k → OfVal e v → InRange k model v
     of_kind e k v h o = subst (λ x. Of model objects x v) h o
 
     zero_in : (k : Kind) → InRange k model (pos 0)
@@ -115,7 +114,7 @@ module _ (model : Model) (objects : List Object) (functions : List Function) (in
         (λ r hr. called_alike u result at r hr)
 
     mutual
-      value_alike : (u : Use) (e : Val) → Fits model objects functions e → Alike model objects ℤ (OfVal e) (T u e) (P u e)
+      pub value_alike : (u : Use) (e : Val) → Fits model objects functions e → Alike model objects ℤ (OfVal e) (T u e) (P u e)
       value_alike u (vConstant k v) f = gives model objects ℤ (InRange k model) v f
       value_alike u (vRead k o) f = reads model objects k (scalar o) (f.told, f.there, f.kind)
       value_alike u (vElement k at o e) f =
@@ -175,7 +174,7 @@ module _ (model : Model) (objects : List Object) (functions : List Function) (in
       value_alike u (vDraw k) f = draws model objects inputs k
       value_alike u (vComma es e) f = binds model objects (Unit {0}) ℤ (λ v. Unit {0}) (OfVal e) _ _ _ _ (drops_alike es f.0) (λ v h. value_alike used e f.1)
 
-      values_alike : (es : Vals) → AllFit model objects functions es → Alike model objects (List ℤ) (Row es) (run.values model objects (tested model objects) inputs call es) (run.values model objects (plain model objects) inputs call' es)
+      pub values_alike : (es : Vals) → AllFit model objects functions es → Alike model objects (List ℤ) (Row es) (run.values model objects (tested model objects) inputs call es) (run.values model objects (plain model objects) inputs call' es)
       values_alike no_values f = gives model objects (List ℤ) (Row no_values) [] (refl, tt)
       values_alike (values_and es e) f =
           binds model objects (List ℤ) (List ℤ) (Row es) (Row (values_and es e)) _ _ _ _ (values_alike es f.0)

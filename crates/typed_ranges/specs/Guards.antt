@@ -1,5 +1,5 @@
 -- Arithmetic that tests its operands: they have to be of the operation's kind, which has to be a promoted one.
-use Rattle.std.specs.Prelude.{ℕ, ◌-◌, ◌^◌, Bool, ◌&&◌, if◌then◌else◌, Result, Err, ℤ, pos, negsuc, int_le}
+use Rattle.std.specs.Prelude.{◌-◌, ◌^◌, Bool, ◌&&◌, if◌then◌else◌, Result, Err, ℤ, pos, negsuc, int_le}
 use Rattle.lv_base.specs.declared.kind.Kind.{Kind}
 use Rattle.lv_base.specs.declared.kind.Model.{Model}
 use Rattle.lv_base.specs.declared.kind.Op.{Op}
