@@ -46,11 +46,11 @@ pub enum Instruction {
     /// A parameter gets the value of its argument: the object.
     Bind(usize, u32),
     /// A skip.
-    Jump(usize),
+    Jump(u32),
     /// A skip, where the operand is 0.
-    SkipZero(usize, usize),
+    SkipZero(usize, u32),
     /// A skip, where the operand is this value.
-    SkipEqual(usize, i128, usize),
+    SkipEqual(usize, i128, u32),
     /// Takes a turn and goes to a place: the offset of what asks for the turn, the place.
     Turn(u32, usize),
     /// A call: the called name, the first place of the function, and the slot that gets the place to return to. Takes a turn.

@@ -13,3 +13,4 @@ pub mod Functioning
 pub mod Returning
 pub mod Ordering
 pub mod Whole
+pub mod Shaping

@@ -15,7 +15,7 @@ use Rattle.slot_code.specs.declared.flat.Instruction.{Instruction}
 use Rattle.slot_code.specs.declared.flat.Instruction.TheVariants as i
 use Rattle.slot_code.specs.Slots.{get, put, slots_from}
 use Rattle.slot_code.specs.Machine.{Machine, machine, element_in, Next, Goes, Over, goes, fills, taken_of, applied, stepped, updated, changed, element_read, index_found, filled, act, act_at, step, onward, walk, rank, run_from}
-use Rattle.slot_laws.specs.Laws.{CodeGoesOn}
+use Rattle.slot_laws.specs.Laws.{CodeGoesOn, RanksFall, Falls as FallsIn}
 
 -- ---- What keeps the turns
 
@@ -120,8 +120,7 @@ module _ (model : Model) (compute : Compute) (inputs : List ℤ) where
 
   module _ (code : List Instruction) where
     abbrev Falls : Machine → Next → Type 0
-    Falls m (Goes s) = rank model compute inputs code s < rank model compute inputs code m
-    Falls m (Over e) = Unit {0}
+    Falls m n = FallsIn model compute inputs code m n
 
     -- with as many turns, to a place further on
     on : (place goal : ℕ) (slots slots' : List ℤ) (st st' : State) → st'.turns ≡ st.turns → place < goal → place < length code → Falls (machine place slots st) (Goes (machine goal slots' st'))
@@ -207,3 +206,6 @@ module _ (model : Model) (compute : Compute) (inputs : List ℤ) where
 
 pub goes_on : CodeGoesOn
 goes_on model compute inputs code m = run_on model compute inputs code _ m (step model compute inputs code m) (step_falls model compute inputs code m) refl
+
+pub ranks_fall : RanksFall
+ranks_fall model compute inputs code m = step_falls model compute inputs code m

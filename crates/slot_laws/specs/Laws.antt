@@ -1,19 +1,46 @@
 -- What holds of flat code.
-use Rattle.std.specs.Prelude.{◌≡◌, ℕ, true, List, [], ◌∷◌, Option, Some, None, slice_get, ℤ}
+use Rattle.std.specs.Prelude.{◌≡◌, ℕ, ◌<◌, ◌≤◌, true, List, [], ◌∷◌, Option, Some, None, slice_get, ℤ}
 use Rattle.lv_base.specs.declared.kind.Model.{Model}
 use Rattle.c_run.specs.Run.{Compute}
-use Rattle.c_typed.specs.Tree.{Function, Program}
-use Rattle.c_typed.specs.Run.{main_number}
+use Rattle.c_typed.specs.Tree.{Object, Function, Program}
+use Rattle.c_typed.specs.Run.{size_of, main_number}
 use Rattle.c_typed.specs.Run as typed
 use Rattle.c_typed.specs.Facts.{IsTyped}
 use Rattle.c_typed.specs.Rules.{has, Call, calls_of, all_of_all}
 use Rattle.slot_code.specs.declared.flat.Instruction.{Instruction}
-use Rattle.slot_code.specs.Machine.{Machine, step, onward, run_from, ending_of}
+use Rattle.slot_code.specs.declared.flat.Instruction.TheVariants as i
+use Rattle.slot_code.specs.Programs.{code_of}
+use Rattle.slot_code.specs.Machine.{Machine, Next, Goes, Over, step, onward, rank, run_from, ending_of}
 use Rattle.slot_code.specs.Machine as flat
 
 -- A run from a place is the run from where the instruction there leads. So none is cut off.
 abbrev pub CodeGoesOn : Type 0
 CodeGoesOn = (model : Model) (compute : Compute) (inputs : List ℤ) (code : List Instruction) (m : Machine) → run_from model compute inputs code m ≡ onward model compute inputs code (step model compute inputs code m) (run_from model compute inputs code)
+
+-- Each instruction takes a turn, or goes forward: the rank of the machine falls.
+abbrev pub Falls : Model → Compute → List ℤ → List Instruction → Machine → Next → Type 0
+Falls model compute inputs code m (Goes next) = rank model compute inputs code next < rank model compute inputs code m
+Falls model compute inputs code m (Over ending) = Unit {0}
+
+abbrev pub RanksFall : Type 0
+RanksFall = (model : Model) (compute : Compute) (inputs : List ℤ) (code : List Instruction) (m : Machine) → Falls model compute inputs code m (step model compute inputs code m)
+
+-- ---- Objects
+
+-- an instruction that stores all values of an object has as many as the object has elements
+abbrev pub IsShaped : List Object → Instruction → Type 0
+IsShaped objects (i.Fill object k count) = count ≡ size_of (slice_get objects object)
+IsShaped objects (i.Begin slot object count values) = (count ≡ size_of (slice_get objects object)) × (values ≤ count)
+IsShaped objects (i.Bind slot object) = size_of (slice_get objects object) ≡ 1
+IsShaped objects _ = Unit {0}
+
+abbrev pub AreShaped : List Object → List Instruction → Type 0
+AreShaped objects [] = Unit {0}
+AreShaped objects (x ∷ xs) = IsShaped objects x × AreShaped objects xs
+
+-- The code of a typed tree has such instructions alone.
+abbrev pub CodeShaped : Type 0
+CodeShaped = (program : Program) (order : List ℕ) → IsTyped program → AreShaped program.objects (code_of program order).instructions
 
 -- ---- Orders
 

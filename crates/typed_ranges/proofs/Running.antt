@@ -145,7 +145,7 @@ bound_alike model objects functions inputs (o ∷ os) (v ∷ vs) h =
     (stores model objects o (v ∷ []) (λ told there. each_more model objects told.kind v [] (h.0 told there) (each_none model objects told.kind)))
     (λ x u. bound_alike model objects functions inputs os vs h.1)
 
-fits_at : (model : Model) (objects : List Object) (functions fs : List Function) (m i : ℕ) (told : Function) → FunctionsFit model objects functions m fs → slice_get fs i ≡ Some told → (k : ℕ) × FunctionFits model objects functions k told
+pub fits_at : (model : Model) (objects : List Object) (functions fs : List Function) (m i : ℕ) (told : Function) → FunctionsFit model objects functions m fs → slice_get fs i ≡ Some told → (k : ℕ) × FunctionFits model objects functions k told
 fits_at model objects functions [] m i told h e = absurd cc
 fits_at model objects functions (f ∷ fs) m zero told h e = let same : f ≡ told = cc in (m, subst (λ x. FunctionFits model objects functions m x) same h.0)
 fits_at model objects functions (f ∷ fs) m (suc i) told h e = fits_at model objects functions fs (m + 1) i told h.1 e
