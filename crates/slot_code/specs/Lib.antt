@@ -1,0 +1,5 @@
+pub mod Slots
+pub mod Values
+pub mod Statements
+pub mod Programs
+pub mod Machine

@@ -1,0 +1,177 @@
+-- What instructions do, one after the other.
+use Rattle.std.specs.Prelude.{ℕ, zero, suc, ◌+◌, ◌-◌, ◌*◌, max, Bool, true, false, ◌&&◌, if◌then◌else◌, List, [], ◌∷◌, length, Option, Some, None, slice_get, ℤ, pos, negsuc, int_le, unsigned_abs}
+use Rattle.lv_base.specs.declared.kind.Model.{Model}
+use Rattle.lv_base.specs.declared.kind.Kind.{Kind}
+use Rattle.lv_base.specs.declared.kind.Op.TheVariants as arith
+use Rattle.lv_base.specs.declared.fault.ErrorKind.TheVariants as error
+use Rattle.lv_base.specs.Integers.{converted, truth, is_zero}
+use Rattle.c_tree.specs.declared.symbol.BinaryOp.{BinaryOp}
+use Rattle.c_tree.specs.declared.symbol.Crement.{Crement}
+use Rattle.c_run.specs.Run.{State, End, Error, Ended, NoInput, BadInput, Spent, Got, Value, Stop, Run, give, ◌>>=◌, choose, fail, turn, Element, element, scalar, read, write, located, store_all, padded, draw, draw_all, Compute, computed, is_true}
+use Rattle.c_run.specs.Operators.{op_of, is_turned, is_negated, negated, crement_op}
+use Rattle.c_typed.specs.Tree.{Program}
+use Rattle.c_typed.specs.Run.{promoted, start_store, main_number}
+use Rattle.typed_ranges.specs.Guards.{guarded}
+use Rattle.slot_code.specs.declared.flat.Instruction.{Instruction}
+use Rattle.slot_code.specs.declared.flat.Instruction.TheVariants as i
+use Rattle.slot_code.specs.declared.reply.Ending.{Ending}
+use Rattle.slot_code.specs.declared.reply.Ending.TheVariants as ending
+use Rattle.slot_code.specs.Slots.{get, put, slots_from}
+use Rattle.slot_code.specs.Values.{Link, link_of}
+use Rattle.slot_code.specs.Programs.{Code, code_of}
+
+-- how a run ends, without the store of one that is out of turns
+abbrev pub ending_of : End → Ending
+ending_of (Error kind at taken) = ending.Error kind at taken
+ending_of Ended = ending.Ended
+ending_of NoInput = ending.NoInput
+ending_of (BadInput number) = ending.BadInput number
+ending_of (Spent at store) = ending.Spent
+
+-- the place of the next instruction, the slots, and the state of the run
+pub record Machine : Type 0 where
+  pub place : ℕ
+  pub slots : List ℤ
+  pub st : State
+
+abbrev pub machine : ℕ → List ℤ → State → Machine
+machine place slots st = record { place = place; slots = slots; st = st }
+
+-- what an instruction leads to
+pub data Next : Type 0 where
+  Goes : (m : Machine) → Next
+  Over : (ending : Ending) → Next
+
+-- goes to this place
+abbrev pub goes : ℕ → List ℤ → Got (Unit {0}) → Next
+goes place slots (Value v st) = Goes (machine place slots st)
+goes place slots (Stop e) = Over (ending_of e)
+
+-- a value gets into a slot, and the next place follows
+abbrev pub fills : ℕ → List ℤ → ℕ → Got ℤ → Next
+fills place slots slot (Value v st) = Goes (machine (suc place) (put slots slot v) st)
+fills place slots slot (Stop e) = Over (ending_of e)
+
+-- what was returned
+abbrev pub returned_in : List ℤ → ℕ → Option ℤ
+returned_in slots slot = choose (is_true (get slots (suc (suc slot)))) (Some (get slots (suc slot))) None
+
+-- the value of a call
+abbrev pub taken_of : Bool → ℕ → Option ℤ → Run ℤ
+taken_of needed at (Some v) = give v
+taken_of true at None = fail error.Missing at
+taken_of false at None = give (pos 0)
+
+-- the element whose index is in a slot
+abbrev pub element_in : List ℤ → ℕ → ℕ → Element
+element_in slots slot object = element object (unsigned_abs (get slots slot))
+
+module _ (model : Model) (compute : Compute) (inputs : List ℤ) where
+  -- on operands that are converted
+  abbrev pub applied : ℕ → BinaryOp → Kind → ℤ → ℤ → Run ℤ
+  applied at o k x y = do
+    v ← computed at (if is_turned o then compute (op_of o) k y x else compute (op_of o) k x y)
+    give (negated (is_negated o) v)
+
+  abbrev pub stepped : ℕ → Crement → Kind → Element → ℤ → Run ℤ
+  stepped at by k e v = do
+    new ← computed at (compute (crement_op by) (promoted k) (converted (promoted k) model v) (pos 1))
+    write e (converted k model new)
+
+  abbrev pub updated : ℕ → BinaryOp → Kind → Kind → Element → ℤ → ℤ → Run ℤ
+  updated at o k l e x y = do
+    v ← applied at o k (converted k model x) y
+    write e (converted l model v)
+
+  abbrev pub changed : ℕ → Bool → Crement → Kind → Element → Run ℤ
+  changed at before by k e = do
+    old ← read e
+    new ← stepped at by k e old
+    give (choose before new old)
+
+  abbrev pub element_read : ℕ → ℕ → ℕ → ℤ → Run ℤ
+  element_read at object count v = do
+    e ← located at object count v
+    read e
+
+  abbrev pub index_found : ℕ → ℕ → ℕ → ℤ → Run ℤ
+  index_found at object count v = do
+    e ← located at object count v
+    give (pos e.index)
+
+  abbrev pub filled : ℕ → Kind → ℕ → Run (Unit {0})
+  filled object k count = do
+    vs ← draw_all inputs model k count
+    store_all object vs
+
+  -- the instruction at this place
+  abbrev pub act : Instruction → ℕ → List ℤ → State → Next
+  act (i.Constant slot v) place slots st = fills place slots slot (Value v st)
+  act (i.Read slot object) place slots st = fills place slots slot (read (scalar object) st)
+  act (i.Element slot at object count) place slots st = fills place slots slot (element_read at object count (get slots slot) st)
+  act (i.Locate slot at object count) place slots st = fills place slots slot (index_found at object count (get slots slot) st)
+  act (i.Load slot object) place slots st = fills place slots (suc slot) (read (element_in slots slot object) st)
+  act (i.Store slot object) place slots st = fills place slots slot (write (element_in slots slot object) (get slots (suc slot)) st)
+  act (i.Convert slot k) place slots st = fills place slots slot (Value (converted k model (get slots slot)) st)
+  act (i.Negate slot k at) place slots st = fills place slots slot (computed at (compute arith.Sub k (pos 0) (get slots slot)) st)
+  act (i.Complement slot k at) place slots st = fills place slots slot (computed at (compute arith.Xor k (get slots slot) (converted k model (negsuc 0))) st)
+  act (i.Not slot) place slots st = fills place slots slot (Value (truth (is_zero (get slots slot))) st)
+  act (i.Truth slot) place slots st = fills place slots slot (Value (truth (is_true (get slots slot))) st)
+  act (i.Binary slot o k at) place slots st = fills place slots slot (applied at o k (get slots slot) (get slots (suc slot)) st)
+  act (i.Update slot o k l at object) place slots st = fills place slots slot (updated at o k l (element_in slots slot object) (get slots (suc slot)) (get slots (suc (suc slot))) st)
+  act (i.Change slot before by k at object) place slots st = fills place slots slot (changed at before by k (element_in slots slot object) st)
+  act (i.Draw slot k) place slots st = fills place slots slot (draw inputs model k st)
+  act (i.Fill object k count) place slots st = goes (suc place) slots (filled object k count st)
+  act (i.Begin slot object count values) place slots st = goes (suc place) slots (store_all object (padded count (slots_from slots slot values)) st)
+  act (i.Bind slot object) place slots st = goes (suc place) slots (store_all object (get slots slot ∷ []) st)
+  act (i.Jump skip) place slots st = Goes (machine (suc place + skip) slots st)
+  act (i.SkipZero slot skip) place slots st = Goes (machine (choose (is_true (get slots slot)) (suc place) (suc place + skip)) slots st)
+  act (i.SkipEqual slot v skip) place slots st = Goes (machine (choose (int_le (get slots slot) v && int_le v (get slots slot)) (suc place + skip) (suc place)) slots st)
+  act (i.Turn at goal) place slots st = goes goal slots (turn at st)
+  act (i.Call at goal slot) place slots st = goes goal (put slots slot (pos (suc place))) (turn at st)
+  act (i.Take slot at from needed) place slots st = fills place slots slot (taken_of needed at (returned_in slots from) st)
+  act (i.Return slot) place slots st = Goes (machine (max (suc place) (unsigned_abs (get slots slot))) slots st)
+  act (i.Fail kind at) place slots st = Over (ending.Error kind at st.taken)
+  act i.Stop place slots st = Over ending.Ended
+
+  -- behind the code the run ends
+  abbrev pub act_at : Option Instruction → Machine → Next
+  act_at None m = Over ending.Ended
+  act_at (Some x) m = act x m.place m.slots m.st
+
+  module _ (code : List Instruction) where
+    abbrev pub step : Machine → Next
+    step m = act_at (slice_get code m.place) m
+
+    abbrev pub onward : Next → (Machine → Ending) → Ending
+    onward (Goes m) go = go m
+    onward (Over e) go = e
+
+    -- not more than so many instructions
+    abbrev pub walk : ℕ → Machine → Ending
+    walk zero m = ending.Spent
+    walk (suc n) m = onward (step m) (walk n)
+
+    -- There are no more instructions than this: each takes a turn, or goes forward.
+    abbrev pub rank : Machine → ℕ
+    rank m = suc ((m.st).turns * suc (length code) + (length code - m.place))
+
+    abbrev pub run_from : Machine → Ending
+    run_from m = walk (rank m) m
+
+-- ---- Whole runs
+
+-- `main` returns to the end of the code; operations test their operands
+abbrev pub run_code : Program → Code → List ℤ → Option Link → List ℤ → ℕ → Ending
+run_code program code slots None inputs turns = ending.Ended
+run_code program code slots (Some l) inputs turns =
+    run_from program.model (λ op kind x y. guarded program.model op kind x y) inputs code.instructions
+    (machine l.entry (put slots l.slot (pos (length code.instructions))) (record { store = start_store program.objects; taken = 0; turns = turns }))
+
+abbrev pub main_link : Option ℕ → Code → Option Link
+main_link None code = None
+main_link (Some main) code = link_of main code.links
+
+-- the run of a program in this order, whatever the slots held before
+abbrev pub run : Program → List ℕ → List ℤ → List ℤ → ℕ → Ending
+run program order slots inputs turns = run_code program (code_of program order) slots (main_link (main_number program.functions) (code_of program order)) inputs turns

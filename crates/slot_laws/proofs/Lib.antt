@@ -1,0 +1,16 @@
+pub mod Running
+pub mod Lying
+pub mod Pieces
+pub mod Calling
+pub mod Valuing
+pub mod Sizes
+pub mod Seeking
+pub mod Leaving
+pub mod Entering
+pub mod Linking
+pub mod Stating
+pub mod Functioning
+pub mod Returning
+pub mod Ordering
+pub mod Whole
+pub mod Shaping

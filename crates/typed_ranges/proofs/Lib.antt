@@ -1,0 +1,5 @@
+pub mod Bounds
+pub mod Ranging
+pub mod Agreeing
+pub mod Typing
+pub mod Running

@@ -1,0 +1,6 @@
+use crate::runs_guarded;
+
+#[test]
+fn the_law_is_there() {
+    runs_guarded();
+}
