@@ -96,7 +96,7 @@ fn run_bound(
     turns: u64,
     inputs: &[i128],
 ) -> Result<End, Memory>
-    requires { seen.env_of env.entry ≡ program.env_of (v.items_of unit.now.items.items) model }
+    requires { seen.env_of env ≡ program.env_of (v.items_of unit.now.items.items) model }
     ensures { IfOk result (λ end. end_of end ≡ program.run turns (v.items_of unit.now.items.items) model inputs.now) }
 {
     let bodies = bodies_of(alloc, &env, &unit.items)?;
