@@ -20,8 +20,8 @@ use Rattle.offset_laws.specs.Laws.{SourcesRun, SourcesBreak}
 use Rattle.source_laws.specs.Laws.{TokensRise}
 use Rattle.body_laws.specs.Laws.{SourcesTyped}
 use Rattle.body_laws.proofs.Tokens.{tokens_held}
-use Rattle.elaboration.specs.Cells as cells
-use Rattle.elaboration.specs.Refusals as re
+use Rattle.source_refusals.specs.Cells as cells
+use Rattle.source_refusals.specs.Refusals as re
 use Rattle.elaboration.specs.Sources.{IsRead, IsUncut}
 use Rattle.elaboration.specs.Laws.{IsElaborated, SourcesRead, ElaboratedRuns}
 use Rattle.elaboration.proofs.Within.{no_fault, no_limit, none_broken, objects_short, all_within}

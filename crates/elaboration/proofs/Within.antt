@@ -32,9 +32,9 @@ use Rattle.body_laws.specs.Short.{AreShort}
 use Rattle.body_laws.proofs.Entries.{StandsAt, AllAt, all_at, IsEnumerator}
 use Rattle.body_laws.proofs.Numbers.{held_items}
 use Rattle.body_laws.proofs.Spans.{SpanOf, AllSpan, spread_items}
-use Rattle.elaboration.specs.declared.cells.Passed.{Passed}
-use Rattle.elaboration.specs.Cells as cells
-use Rattle.elaboration.specs.Refusals as re
+use Rattle.source_refusals.specs.declared.cells.Passed.{Passed}
+use Rattle.source_refusals.specs.Cells as cells
+use Rattle.source_refusals.specs.Refusals as re
 use Rattle.elaboration.specs.Sources.{IsRead}
 
 -- ---- Nothing refuses it

@@ -14,7 +14,7 @@ use Rattle.c_typed.specs.Rules.{broken}
 use Rattle.c_typed.specs.Run as typed
 use Rattle.c_typed.specs.Tree.{Program}
 use Rattle.c_types.specs.Elaborated.{elaborated}
-use Rattle.elaboration.specs.Refusals.{refusal}
+use Rattle.source_refusals.specs.Refusals.{refusal}
 use Rattle.elaboration.specs.Sources.{IsRead}
 
 -- nothing refuses the source, and this is its typed tree

@@ -1,4 +1,2 @@
-pub mod Cells
-pub mod Refusals
 pub mod Sources
 pub mod Laws

@@ -2,10 +2,10 @@ ghost use Rattle.std.specs.Prelude.{◌≡◌, ◌⊎◌, None, Some, MatchResul
 ghost use Rattle.c_tree.specs.View as v;
 ghost use Rattle.c_typed.specs.Parts.{tree_of};
 ghost use Rattle.elaboration.specs.Laws.{IsElaborated};
-ghost use Rattle.elaboration.specs.Refusals.{refusal};
+ghost use Rattle.source_refusals.specs.Refusals.{refusal};
 ghost use Rattle.elaboration.specs.Sources.{IsRead, IsUncut};
 
-use crate::refusals::decide;
+use source_refusals::decide;
 use body_laws::sources_typed;
 use c_tree::Unit;
 use c_typed::Typed;

@@ -1,11 +1,8 @@
 //! Elaboration: from the tree of a source to its typed tree, or to the rule or the limit for which it is refused.
 #![tactic(auto)]
 
-mod cells;
 mod elaborating;
 mod laws;
-mod refusals;
 
-pub use cells::Passed;
 pub use elaborating::elaborate;
 pub use laws::{elaborated_runs, sources_read};

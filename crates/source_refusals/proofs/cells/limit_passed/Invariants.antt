@@ -1,7 +1,7 @@
 use Rattle.std.proofs.Common.{◌≡◌, ◌≤◌, drop, map}
 use Rattle.type_scopes.specs.Seen.{env_of, object_of}
-use Rattle.elaboration.specs.Cells as c
-use Rattle.elaboration.proofs.cells.passed.Given as goal
+use Rattle.source_refusals.specs.Cells as c
+use Rattle.source_refusals.proofs.cells.limit_passed.Given as goal
 
 -- those so far don't pass it, and what is left does where all do
 abbrev pub invariant-loop-object : goal.invariant-loop-object

@@ -9,8 +9,8 @@ use Rattle.c_run.specs.Breaking.{Broken, first_broken}
 use Rattle.c_meaning.specs.Bindings.{Env}
 use Rattle.c_meaning.specs.Program.{functions_of, env_of}
 use Rattle.c_meaning.specs.Rules.{typing_faults}
-use Rattle.elaboration.specs.declared.cells.Passed.{Passed}
-use Rattle.elaboration.specs.Cells.{passed}
+use Rattle.source_refusals.specs.declared.cells.Passed.{Passed}
+use Rattle.source_refusals.specs.Cells.{passed}
 
 -- A rule that is broken at a token of an object's declarator, or before it, goes before the limit that the object passes: an
 -- array whose length breaks a rule is refused for that.

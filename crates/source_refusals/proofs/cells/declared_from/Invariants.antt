@@ -2,7 +2,7 @@ use Rattle.std.proofs.Common.{◌≡◌, drop, map, nat_eq, ◌&&◌, not}
 use Rattle.std.specs.Prelude.{find}
 use Rattle.c_meaning.specs.Scope.{is_tag}
 use Rattle.type_scopes.specs.Seen.{entry_of}
-use Rattle.elaboration.proofs.cells.declared_from.Given as goal
+use Rattle.source_refusals.proofs.cells.declared_from.Given as goal
 
 -- it is none of those before
 abbrev pub invariant-loop-entry : goal.invariant-loop-entry

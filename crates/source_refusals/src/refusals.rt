@@ -3,9 +3,9 @@ ghost use Rattle.c_tree.specs.View as v;
 ghost use Rattle.rule_lines.specs.Found.{summary};
 ghost use Rattle.rule_lines.specs.Seen as told;
 ghost use Rattle.type_scopes.specs.Seen as seen;
-ghost use Rattle.elaboration.specs.Refusals as re;
+ghost use Rattle.source_refusals.specs.Refusals as re;
 
-use crate::cells::{Passed, passed};
+use crate::cells::{Passed, limit_passed};
 use c_tree::Unit;
 use declaration_rules::{main_found, main_told, offsets, redeclared, summed, twice_told};
 use lv_base::{Memory, Model, SourceFail};
@@ -19,7 +19,7 @@ use typed_programs::names_of;
 ///
 /// Fails with `Memory`.
 #[tactic(auto, using(crate::proofs::Rows::whole_is))]
-pub(crate) fn all_found(
+pub fn all_found(
     alloc: Global,
     env: &Env<'_>,
     model: Model,
@@ -81,7 +81,7 @@ fn refused(broken: Option<Broken>, passed: Option<Passed>) -> Option<SourceFail>
 ///
 /// Fails with the first, by offset, of the rules of names, types, calls, constants and cases that it breaks, and of the limit
 /// on cells; or with `Memory`.
-pub(crate) fn decide(
+pub fn decide(
     alloc: Global,
     env: &Env<'_>,
     model: Model,
@@ -92,7 +92,7 @@ pub(crate) fn decide(
         (λ fail. (fail ≡ SourceFail.Memory) ⊎ (re.refusal_in (seen.env_of env.now) model (v.items_of unit.now.items.items) ≡ Some fail)) }
 {
     let found = all_found(alloc, env, model, unit)?;
-    match refused(found.least, passed(env)) {
+    match refused(found.least, limit_passed(env)) {
         None => Ok(()),
         Some(fail) => Err(fail),
     }

@@ -2,7 +2,7 @@
 use Rattle.std.specs.Prelude.{ℕ, ◌+◌, nat_eq, nat_lt, ◌&&◌, ◌||◌, not, if◌then◌else◌, Bool, List, [], ◌∷◌, Option, None, Some, find}
 use Rattle.c_meaning.specs.Scope.{is_tag}
 use Rattle.c_meaning.specs.Bindings.{Object, Entry, Env, size_of_object}
-use Rattle.elaboration.specs.declared.cells.Passed.{Passed}
+use Rattle.source_refusals.specs.declared.cells.Passed.{Passed}
 
 -- An array of more than 1,024 elements passes the limit by itself, and so do more than 65,536 cells together.
 abbrev pub is_over : ℕ → ℕ → Bool

@@ -1,7 +1,7 @@
 ghost use Rattle.std.specs.Prelude.{◌≡◌, ◌≤◌, Some, map};
 ghost use Rattle.c_meaning.specs.Bindings as b;
 ghost use Rattle.type_scopes.specs.Seen as seen;
-ghost use Rattle.elaboration.specs.Cells as c;
+ghost use Rattle.source_refusals.specs.Cells as c;
 
 use type_scopes::{Env, Object, is_tag};
 
@@ -60,7 +60,7 @@ fn count_after(cells: u64, count: u64) -> u64
 /// The first object with which the cells of the objects pass the limit of 65,536, or that is an array of more than 1,024
 /// elements. Each object counts once, a scalar as one cell.
 #[tactic(auto, using(crate::proofs::Rows::passed_more))]
-pub(crate) fn passed(env: &Env<'_>) -> Option<Passed>
+pub fn limit_passed(env: &Env<'_>) -> Option<Passed>
     ensures { result ≡ c.passed (seen.env_of env.now) 0 (seen.env_of env.now).objects }
 {
     let mut cells = 0u64;

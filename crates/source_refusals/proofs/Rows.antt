@@ -19,9 +19,9 @@ use Rattle.declaration_rules.specs.Twice as d
 use Rattle.declaration_rules.specs.Mains as m
 use Rattle.declaration_rules.specs.Laws.{TwiceTold, MainTold}
 use Rattle.typed_programs.specs.Parts as part
-use Rattle.elaboration.specs.Cells as c
-use Rattle.elaboration.specs.Refusals as re
-use Rattle.elaboration.specs.declared.cells.Passed.{Passed}
+use Rattle.source_refusals.specs.Cells as c
+use Rattle.source_refusals.specs.Refusals as re
+use Rattle.source_refusals.specs.declared.cells.Passed.{Passed}
 
 pub find_more : (p : b.Entry → Bool) (xs : List Entry) (i : ℕ) (f : Entry) → i < length xs →
     find p (map entry_of (drop i xs)) ≡ (if p (entry_of (get_or xs i f)) then Some (entry_of (get_or xs i f)) else find p (map entry_of (drop (i + 1) xs)))
