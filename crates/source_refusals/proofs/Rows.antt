@@ -1,14 +1,18 @@
 -- Lists, one element more at a time, and the sum of all rules.
-use Rattle.std.proofs.Common.{◌≡◌, ℕ, ◌<◌, ◌+◌, Bool, true, false, List, [], ◌∷◌, ◌++◌, length, drop, get_or, map, Option, None, Some, refl, ap, ◌∙◌, sym, arith}
+use Rattle.std.proofs.Common.{◌≡◌, ℕ, ◌<◌, ◌+◌, Bool, List, [], ◌∷◌, ◌++◌, length, drop, get_or, map, Some, refl, ap, ◌∙◌, sym}
 use Rattle.std.specs.Prelude.{find, if◌then◌else◌}
 use Rattle.std.proofs.lemmas.List.{drop_more}
 use Rattle.lv_base.specs.declared.kind.Model.{Model}
+use Rattle.c_tree.specs.declared.tree.Item.{Item}
 use Rattle.c_tree.specs.Tree as t
+use Rattle.c_tree.specs.View.{items_of}
 use Rattle.c_run.specs.Breaking.{Broken}
 use Rattle.c_meaning.specs.Bindings as b
 use Rattle.c_meaning.specs.Program as program
 use Rattle.c_meaning.specs.Rules as r
+use Rattle.rule_lines.specs.declared.lines.Broken as told_line
 use Rattle.rule_lines.specs.Found.{Summary, summary, both}
+use Rattle.rule_lines.specs.Seen.{broken_of}
 use Rattle.rule_lines.proofs.Least.{joined_is}
 use Rattle.type_scopes.specs.declared.entries.Entry.{Entry}
 use Rattle.type_scopes.specs.declared.entries.Object.{Object}
@@ -21,7 +25,6 @@ use Rattle.declaration_rules.specs.Laws.{TwiceTold, MainTold}
 use Rattle.typed_programs.specs.Parts as part
 use Rattle.source_refusals.specs.Cells as c
 use Rattle.source_refusals.specs.Refusals as re
-use Rattle.source_refusals.specs.declared.cells.Passed.{Passed}
 
 pub find_more : (p : b.Entry → Bool) (xs : List Entry) (i : ℕ) (f : Entry) → i < length xs →
     find p (map entry_of (drop i xs)) ≡ (if p (entry_of (get_or xs i f)) then Some (entry_of (get_or xs i f)) else find p (map entry_of (drop (i + 1) xs)))
@@ -58,7 +61,7 @@ module _ (env : b.Env) where
 
 -- ---- The sum of all rules
 
-pub whole_is : TwiceTold → MainTold → ss.ItemsSummed → (env : b.Env) (model : Model) (items : t.Items) (bodies : List (List ℕ)) (lines : List Broken) (again : List ℕ) (of_items twice main : Summary) →
+whole_is : TwiceTold → MainTold → ss.ItemsSummed → (env : b.Env) (model : Model) (items : t.Items) (bodies : List (List ℕ)) (lines : List Broken) (again : List ℕ) (of_items twice main : Summary) →
     bodies ≡ part.names_of items → lines ≡ d.twice env model [] env.entries → again ≡ map (λ (x : Broken). x.at) lines → of_items ≡ ss.items_all env model bodies again items → twice ≡ summary lines → main ≡ m.main_found env items →
     both (both of_items twice) main ≡ summary (re.faults_in env model items)
 whole_is told main_told summed env model items bodies lines again of_items twice main n l a i w x =
@@ -74,3 +77,21 @@ whole_is told main_told summed env model items bodies lines again of_items twice
     ∙ ap (λ z. both z (summary (r.main_line env model bodies (r.main_in env model bodies items)))) (sym (joined_is (r.faults_of_items env model bodies items) (r.redeclared env model bodies [] env.entries)))
     ∙ sym (joined_is (r.faults_of_items env model bodies items ++ r.redeclared env model bodies [] env.entries) (r.main_line env model bodies (r.main_in env model bodies items)))
     ∙ ap (λ z. summary (r.typing_faults env model z items)) same
+
+-- what is handed on is what was made
+pub all_are : TwiceTold → MainTold → ss.ItemsSummed → (env : b.Env) (model : Model) (all xs ys zs : List Item) (names bodies : List (List ℕ)) (lines ls ms : List told_line.Broken) (places again : List ℕ) (of_items twice main items_twice found : Summary) →
+    xs ≡ all → names ≡ part.names_of (items_of xs) → map broken_of lines ≡ d.twice env model [] env.entries →
+    ls ≡ lines → places ≡ map (λ (x : Broken). x.at) (map broken_of ls) →
+    bodies ≡ names → again ≡ places → ys ≡ all → of_items ≡ ss.items_all env model bodies again (items_of ys) →
+    zs ≡ all → main ≡ m.main_found env (items_of zs) → ms ≡ lines → twice ≡ summary (map broken_of ms) →
+    items_twice ≡ both of_items twice → found ≡ both items_twice main →
+    found ≡ summary (re.faults_in env model (items_of all))
+all_are told main_told summed env model all xs ys zs names bodies lines ls ms places again of_items twice main items_twice found x n l ll a bn ap_is y i z o mm w e f =
+    f ∙ ap (λ s. both s main) e
+    ∙ whole_is told main_told summed env model (items_of all) bodies (map broken_of lines) again of_items twice main
+    (bn ∙ n ∙ ap (λ is. part.names_of (items_of is)) x)
+    l
+    (ap_is ∙ a ∙ ap (λ bs. map (λ (y : Broken). y.at) (map broken_of bs)) ll)
+    (i ∙ ap (λ is. ss.items_all env model bodies again (items_of is)) y)
+    (w ∙ ap (λ bs. summary (map broken_of bs)) mm)
+    (o ∙ ap (λ is. m.main_found env (items_of is)) z)

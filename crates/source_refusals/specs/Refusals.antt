@@ -1,6 +1,6 @@
 -- For what a source is refused: the first, by offset, of the rules of names, types, calls, constants and cases that it breaks,
 -- and of the limit on cells.
-use Rattle.std.specs.Prelude.{◌≡◌, ℕ, nat_lt, if◌then◌else◌, List, map, Option, None, Some}
+use Rattle.std.specs.Prelude.{nat_lt, if◌then◌else◌, List, map, Option, None, Some}
 use Rattle.lv_base.specs.declared.kind.Model.{Model}
 use Rattle.lv_base.specs.declared.fail.SourceFail.{SourceFail}
 use Rattle.lv_base.specs.declared.fail.SourceFail.TheVariants as fail

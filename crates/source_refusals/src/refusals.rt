@@ -18,13 +18,7 @@ use typed_programs::names_of;
 /// All rules of names, types, calls, constants and cases that a source breaks, summed up.
 ///
 /// Fails with `Memory`.
-#[tactic(auto, using(crate::proofs::Rows::whole_is))]
-pub fn all_found(
-    alloc: Global,
-    env: &Env<'_>,
-    model: Model,
-    unit: &Unit,
-) -> Result<Found, Memory>
+pub fn all_found(alloc: Global, env: &Env<'_>, model: Model, unit: &Unit) -> Result<Found, Memory>
     ensures { IfOk result (λ r. told.found_of r ≡ summary (re.faults_in (seen.env_of env.now) model (v.items_of unit.now.items.items))) }
 {
     twice_told();
@@ -81,12 +75,7 @@ fn refused(broken: Option<Broken>, passed: Option<Passed>) -> Option<SourceFail>
 ///
 /// Fails with the first, by offset, of the rules of names, types, calls, constants and cases that it breaks, and of the limit
 /// on cells; or with `Memory`.
-pub fn decide(
-    alloc: Global,
-    env: &Env<'_>,
-    model: Model,
-    unit: &Unit,
-) -> Result<(), SourceFail>
+pub fn decide(alloc: Global, env: &Env<'_>, model: Model, unit: &Unit) -> Result<(), SourceFail>
     ensures { MatchResult result
         (λ _. re.refusal_in (seen.env_of env.now) model (v.items_of unit.now.items.items) ≡ None)
         (λ fail. (fail ≡ SourceFail.Memory) ⊎ (re.refusal_in (seen.env_of env.now) model (v.items_of unit.now.items.items) ≡ Some fail)) }
