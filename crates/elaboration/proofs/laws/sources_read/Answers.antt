@@ -1,5 +1,0 @@
-use Rattle.elaboration.proofs.Whole.{sources_read_are}
-use Rattle.elaboration.proofs.laws.sources_read.Goals as goal
-
-pub returns : goal.returns
-returns c = sources_read_are c.tokens_rise.ensures

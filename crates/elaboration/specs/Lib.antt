@@ -1,4 +1,0 @@
-pub mod Cells
-pub mod Refusals
-pub mod Sources
-pub mod Laws
