@@ -1,12 +1,11 @@
 -- Names that are declared twice are those of the rules.
-use Rattle.std.proofs.Common.{◌≡◌, ℕ, Bool, true, false, ◌&&◌, ◌||◌, not, List, [], ◌∷◌, ◌++◌, length, map, Option, None, Some, refl, ap, ◌∙◌, sym}
-use Rattle.std.specs.Prelude.{if◌then◌else◌}
+use Rattle.std.proofs.Common.{◌≡◌, ℕ, Bool, true, false, ◌&&◌, ◌||◌, not, List, [], ◌∷◌, ◌++◌, length, Option, None, Some, refl, ap, ◌∙◌}
 use Rattle.std.specs.List.{list_any}
 use Rattle.lv_base.specs.declared.kind.Kind.{Kind}
 use Rattle.lv_base.specs.declared.kind.Model.{Model}
 use Rattle.lv_base.specs.declared.fault.SourceFault.TheVariants as fault
 use Rattle.c_tree.specs.Tree as tr
-use Rattle.c_run.specs.Breaking.{Broken, line}
+use Rattle.c_run.specs.Breaking.{line}
 use Rattle.c_meaning.specs.Scope as s
 use Rattle.c_meaning.specs.Bindings.{Env, Entry, words_type, has_const, kind_in, kind_or_int, parameter_kinds}
 use Rattle.c_meaning.specs.Constants.{object_length}

@@ -1,9 +1,8 @@
 -- Lists, one element more at a time.
-use Rattle.std.proofs.Common.{◌≡◌, ℕ, ◌<◌, ◌+◌, suc, Bool, true, false, ◌||◌, List, [], ◌∷◌, ◌++◌, length, take, get_or, map, append_assoc, append-nil, Option, refl, ap, ◌∙◌, sym, arith}
+use Rattle.std.proofs.Common.{◌≡◌, ℕ, ◌<◌, ◌+◌, Bool, true, false, ◌||◌, List, [], ◌∷◌, ◌++◌, length, take, get_or, map, append_assoc, append-nil, refl, ap, ◌∙◌, sym}
 use Rattle.std.specs.List.{list_any}
 use Rattle.std.proofs.lemmas.List.{take_more, map_push, map_more}
 use Rattle.lv_base.specs.declared.kind.Model.{Model}
-use Rattle.lv_base.specs.declared.fault.SourceFault.TheVariants as fault
 use Rattle.c_tree.specs.declared.tree.Item.{Item}
 use Rattle.c_tree.specs.Tree as t
 use Rattle.c_tree.specs.View.{item_of, items_of, items_behind}
@@ -11,7 +10,7 @@ use Rattle.c_run.specs.Breaking as br
 use Rattle.c_run.specs.Breaking.{line}
 use Rattle.c_meaning.specs.Bindings as b
 use Rattle.rule_lines.specs.declared.lines.Broken.{Broken}
-use Rattle.rule_lines.specs.Found.{Summary, summary, both}
+use Rattle.rule_lines.specs.Found.{summary, both}
 use Rattle.rule_lines.specs.Seen.{broken_of}
 use Rattle.rule_lines.proofs.Least.{joined_is}
 use Rattle.type_scopes.specs.declared.entries.Entry.{Entry}

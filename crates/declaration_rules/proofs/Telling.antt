@@ -1,5 +1,5 @@
 -- What is found of `main` is what the rules say.
-use Rattle.std.proofs.Common.{◌≡◌, ℕ, Bool, true, false, ◌&&◌, not, List, [], ◌∷◌, ◌++◌, length, Option, None, Some, refl, ap, ◌∙◌, sym}
+use Rattle.std.proofs.Common.{◌≡◌, ℕ, Bool, true, false, ◌&&◌, not, List, ◌++◌, length, Option, None, Some, refl, ap, ◌∙◌, sym}
 use Rattle.std.specs.Prelude.{nat_eq, if◌then◌else◌, bytes_eq, codes}
 use Rattle.lv_base.specs.declared.kind.Kind.TheVariants as kind
 use Rattle.lv_base.specs.declared.kind.Model.{Model}

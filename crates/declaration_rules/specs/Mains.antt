@@ -1,5 +1,5 @@
 -- The functions of the name `main`, summed up.
-use Rattle.std.specs.Prelude.{ℕ, nat_eq, Bool, true, ◌&&◌, not, if◌then◌else◌, List, [], length, Option, None, Some, bytes_eq, codes}
+use Rattle.std.specs.Prelude.{ℕ, nat_eq, Bool, true, ◌&&◌, not, if◌then◌else◌, [], length, Option, None, Some, bytes_eq, codes}
 use Rattle.lv_base.specs.declared.kind.Kind.TheVariants as kind
 use Rattle.lv_base.specs.declared.fault.SourceFault.TheVariants as fault
 use Rattle.c_tree.specs.Tree.{Words, Name, named, Parameters, Body, bBlock, bSkipped, Item, tFunction, Items, no_items, items_and}

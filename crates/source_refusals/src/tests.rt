@@ -1,11 +1,11 @@
 use crate::{Passed, all_found, decide, limit_passed};
-use c_tree::{Body, Form, Function, Initial, Item, Name, Parameters, Spec, Specs, TypeWord, Unit};
+use c_tree::{Body, Function, Item, Name, Parameters, Spec, Specs, TypeWord, Unit};
 use lv_base::{Kind, Model, SourceFail, Text};
 use rule_lines::none;
 use std::alloc::Global;
 use std::process::Abort;
 use std::test::Fail;
-use type_scopes::{Entity, Entry, Env, Object, Scope, What};
+use type_scopes::{Env, Object};
 
 fn int_at(alloc: Global, at: u32) -> Result<Specs, Fail> {
     let mut words = Vec::new(alloc);
@@ -30,7 +30,7 @@ fn source_of(alloc: Global, name: &str) -> Result<Unit, Fail> {
     Ok(Unit { items })
 }
 
-/// An array of so many elements, which is declared at offset 20.
+/// An array of so many elements.
 fn array_of(length: u64) -> Object<'static> {
     Object {
         name: "a".as_bytes(),
@@ -53,15 +53,21 @@ fn said(answer: Result<(), SourceFail>) -> (u8, u64) {
     }
 }
 
+/// With one array of so many elements, and no declarations.
+fn with_array(alloc: Global, length: u64) -> Result<Env<'static>, Fail> {
+    let mut objects = Vec::new(alloc);
+    objects.push(array_of(length))?;
+    Ok(Env {
+        entries: Vec::new(alloc),
+        objects,
+    })
+}
+
 #[test]
 fn a_source_with_main_is_not_refused(rt: HostRuntime) -> Result<(), Fail> {
     let alloc = rt.alloc();
     let unit = source_of(alloc, "main")?;
-    let mut env = Env {
-        entries: Vec::new(alloc),
-        objects: Vec::new(alloc),
-    };
-    env.objects.push(array_of(1024))?;
+    let env = with_array(alloc, 1024)?;
     assert!(rt; all_found(alloc, &env, Model::Ilp32, &unit)? == none());
     assert!(rt; limit_passed(&env) == None);
     assert_eq!(rt; said(decide(alloc, &env, Model::Ilp32, &unit)), (0, 0));
@@ -69,32 +75,21 @@ fn a_source_with_main_is_not_refused(rt: HostRuntime) -> Result<(), Fail> {
 }
 
 #[test]
-fn the_rule_goes_before_an_array_that_ends_behind_it(rt: HostRuntime) -> Result<(), Fail> {
+fn the_rule_or_the_limit_is_named(rt: HostRuntime) -> Result<(), Fail> {
     let alloc = rt.alloc();
-    let specs = int_at(alloc, 16)?;
-    let (form, initial) = (Form::Array(21, None, 22), Initial::Nothing);
-    let mut env = Env {
-        entries: Vec::new(alloc),
-        objects: Vec::new(alloc),
-    };
-    env.entries.push(Entry {
-        name: "a".as_bytes(),
-        at: 20,
-        from: 23,
-        scope: Scope::File,
-        owner: None,
-        what: What::Object(&specs, &form, &initial),
-        entity: Entity::Object(0),
-    })?;
-    env.objects.push(array_of(1025))?;
+    let right = source_of(alloc, "main")?;
+    let wrong = source_of(alloc, "other")?;
+    let long = with_array(alloc, 1025)?;
     let over = Passed {
-        from: 23,
+        from: 0,
         count: 1025,
     };
-    assert!(rt; limit_passed(&env) == Some(over));
-    let right = source_of(alloc, "main")?;
-    assert_eq!(rt; said(decide(alloc, &env, Model::Lp64, &right)), (104, 1025));
-    let wrong = source_of(alloc, "other")?;
-    assert_eq!(rt; said(decide(alloc, &env, Model::Lp64, &wrong)), (15, 0));
+    assert!(rt; limit_passed(&long) == Some(over));
+    assert_eq!(rt;
+        said(decide(alloc, &long, Model::Lp64, &right)),
+        (104, 1025)
+    );
+    let short = with_array(alloc, 1024)?;
+    assert_eq!(rt; said(decide(alloc, &short, Model::Lp64, &wrong)), (15, 0));
     Ok(())
 }
