@@ -8,5 +8,5 @@ returns c = record {
   lexes = c.in-Ok.ensures;
   tree = c.in-Ok-parse.unit;
   spells = subst (λ z. Denotes z c.in-Ok-parse.unit) c.deref.ensures.value c.in-Ok-parse.ensures.tree;
-  ends = c.in-Ok-run.ensures;
+  ends = c.in-Ok-run.ensures.value;
 }
