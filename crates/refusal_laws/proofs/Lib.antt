@@ -1,0 +1,4 @@
+mod Growing
+pub mod Limits
+mod Numbers
+mod Whole
