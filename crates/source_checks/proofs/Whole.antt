@@ -1,5 +1,5 @@
 -- What is accepted breaks no rule, and what is not is refused for the first of them.
-use Rattle.std.proofs.Common.{◌≡◌, ◌⊎◌, inl, inr, List, [], ◌∷◌, map, Option, None, Some, refl, ap, sym, ◌∙◌, subst}
+use Rattle.std.proofs.Common.{◌≡◌, ◌⊎◌, inl, inr, List, [], None, Some, refl, ap, sym, ◌∙◌}
 use Rattle.lv_base.specs.declared.kind.Model.{Model}
 use Rattle.lv_base.specs.declared.fail.SourceFail.{SourceFail}
 use Rattle.lv_base.specs.declared.fail.SourceFail.TheVariants as fail
@@ -12,7 +12,7 @@ use Rattle.c_typed.specs.Tree.{Program}
 use Rattle.c_typed.specs.Rules.{broken}
 use Rattle.c_rules.specs.Refusals.{IsRefused}
 use Rattle.source_refusals.specs.Cells.{passed}
-use Rattle.source_refusals.specs.Refusals.{refusal, refused, faults_in}
+use Rattle.source_refusals.specs.Refusals.{refusal, faults_in}
 use Rattle.refusal_laws.proofs.Limits.{no_broken, none_broken}
 use Rattle.source_checks.specs.Refusals.{fault_of, control_refusal, or_else, source_refusal}
 
