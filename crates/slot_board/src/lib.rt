@@ -5,8 +5,6 @@
 mod board;
 mod row;
 mod step;
-//#[cfg(test)]
-//mod tests;
 mod values;
 
 pub use board::{Board, Site, put_value};
