@@ -1,2 +1,4 @@
+mod Beginning
 pub mod Fitting
+mod Small
 pub mod Stepping

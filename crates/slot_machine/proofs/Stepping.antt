@@ -1,5 +1,5 @@
 -- One turn of the machine's loop.
-use Rattle.std.proofs.Common.{◌≡◌, ℕ, ◌<◌, List, Option, Some, None, refl, sym, ap, subst, ◌∙◌, ℤ}
+use Rattle.std.proofs.Common.{◌≡◌, ℕ, ◌<◌, List, Some, None, sym, ap, subst, ◌∙◌, ℤ}
 use Rattle.std.specs.Prelude.{slice_get}
 use Rattle.lv_base.specs.declared.kind.Model.{Model}
 use Rattle.c_run.specs.Run.{State, Compute}

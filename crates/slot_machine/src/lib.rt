@@ -1,8 +1,10 @@
-//! The loop of the machine that runs flat code, and what a run begins with. It takes no memory.
+//! A machine for flat code: one loop over its instructions, with all memory taken before the first run.
 #![tactic(auto)]
 
+mod machine;
 mod running;
 mod start;
+#[cfg(test)]
+mod tests;
 
-pub use running::run_from;
-pub use start::begin;
+pub use machine::{Entry, Machine};
