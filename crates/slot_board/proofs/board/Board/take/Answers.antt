@@ -1,0 +1,5 @@
+use Rattle.slot_board.proofs.Answering.{fills_reply}
+use Rattle.slot_board.proofs.board.Board.take.Goals as goal
+
+pub returns-clause-next : goal.returns-clause-next
+returns-clause-next c = fills_reply _ c.args.site.place c.args.self.now.slots.items c.args.site.slot _ _ c.filled.ensures.next c.returned-got.ensures

@@ -1,0 +1,4 @@
+mod Beginning
+pub mod Fitting
+mod Small
+pub mod Stepping

@@ -1,0 +1,10 @@
+//! A machine for flat code: one loop over its instructions, with all memory taken before the first run.
+#![tactic(auto)]
+
+mod machine;
+mod running;
+mod start;
+#[cfg(test)]
+mod tests;
+
+pub use machine::{Entry, Machine};
