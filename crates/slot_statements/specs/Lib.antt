@@ -1,0 +1,6 @@
+pub mod Measures
+pub mod Casing
+pub mod Seen
+pub mod Aiming
+pub mod Joints
+pub mod Finding
