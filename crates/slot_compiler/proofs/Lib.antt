@@ -1,0 +1,2 @@
+pub mod Building
+mod Small

@@ -1,0 +1,11 @@
+//! Flat code of a whole program: that of its functions in an order in which each stands behind those that it calls.
+#![tactic(auto)]
+
+mod bodies;
+mod programs;
+mod rooms;
+#[cfg(test)]
+mod tests;
+
+pub use programs::{Code, compiled};
+pub use rooms::slots_in;
