@@ -1,5 +1,5 @@
 -- Constant expressions (C11 6.6), and what the declarations of a source bind their names to.
-use Rattle.std.specs.Prelude.{ℕ, Bool, true, false, ◌&&◌, not, if◌then◌else◌, List, [], ◌∷◌, ◌++◌, length, Option, Some, None, bytes_eq, find, ℤ, pos, ◌+ℤ◌, int_le, unsigned_abs}
+use Rattle.std.specs.Prelude.{ℕ, min, Bool, true, false, ◌&&◌, not, if◌then◌else◌, List, [], ◌∷◌, ◌++◌, length, Option, Some, None, bytes_eq, find, ℤ, pos, ◌+ℤ◌, int_le, int_lt, unsigned_abs}
 use Rattle.lv_base.specs.declared.kind.Model.{Model}
 use Rattle.lv_base.specs.Integers.{arith_of}
 use Rattle.c_tree.specs.declared.tree.PrefixOp.TheVariants as pre
@@ -74,9 +74,11 @@ last_constant env no_enumerators = None
 last_constant env (plain_and es c n at) = Some (constant_value (declared_at env at))
 last_constant env (valued_and es c n at a e) = Some (constant_value (declared_at env at))
 
+-- No constant is greater than 2^127 - 1. A program that breaks no rule has none above 2^31 - 1: only behind one that is refused
+-- may a greater one stand.
 abbrev pub next_constant : Option ℤ → ℤ
 next_constant None = pos 0
-next_constant (Some v) = v +ℤ pos 1
+next_constant (Some v) = if int_lt v (pos 170141183460469231731687303715884105727) then v +ℤ pos 1 else v
 
 -- without `=` a constant is one more than the last, or 0
 abbrev pub enumerator_value : Env → Model → Ens → ℤ
@@ -100,8 +102,9 @@ abbrev pub array_length : Env → Model → Option Ex → Initial → ℕ
 array_length env model None i = listed i
 array_length env model (Some e) i = length_from (constant_of env model e)
 
+-- No length is greater than 2^64 - 1, the greatest value of all kinds. One that were is that of a constant that is refused.
 abbrev pub object_length : Env → Model → Form → Initial → Option ℕ
-object_length env model (fArray a e b) i = Some (array_length env model e i)
+object_length env model (fArray a e b) i = Some (min (array_length env model e i) 18446744073709551615)
 object_length env model _ i = None
 
 -- ---- Binding
