@@ -92,19 +92,19 @@ abbrev pub listed : Initial → ℕ
 listed (iList at a es c b) = count_parts es
 listed _ = 0
 
--- a length below 1, or that is no constant, is broken, and stands as 0
+-- A length below 1, or that is no constant, is broken, and stands as 0. One above 2^64 - 1, the greatest value of all kinds, is
+-- that of a constant that is refused, and stands as 2^64 - 1.
 abbrev pub length_from : Option ℤ → ℕ
 length_from None = 0
-length_from (Some v) = if int_le (pos 1) v then unsigned_abs v else 0
+length_from (Some v) = if int_le (pos 1) v then min (unsigned_abs v) 18446744073709551615 else 0
 
 -- without a length an array has as many elements as values
 abbrev pub array_length : Env → Model → Option Ex → Initial → ℕ
 array_length env model None i = listed i
 array_length env model (Some e) i = length_from (constant_of env model e)
 
--- No length is greater than 2^64 - 1, the greatest value of all kinds. One that were is that of a constant that is refused.
 abbrev pub object_length : Env → Model → Form → Initial → Option ℕ
-object_length env model (fArray a e b) i = Some (min (array_length env model e i) 18446744073709551615)
+object_length env model (fArray a e b) i = Some (array_length env model e i)
 object_length env model _ i = None
 
 -- ---- Binding

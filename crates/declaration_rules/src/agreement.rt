@@ -55,7 +55,7 @@ pub(crate) fn same_result(x: Option<Kind>, y: Option<Kind>) -> bool
     }
 }
 
-fn same_length(x: Option<u128>, y: Option<u128>) -> bool
+fn same_length(x: Option<u64>, y: Option<u64>) -> bool
     ensures { result ≡ t.same_length x y }
 {
     match x {
@@ -93,26 +93,34 @@ fn listed(initial: &Initial) -> usize
     }
 }
 
-fn length_from(value: Option<i128>) -> u128
+fn length_from(value: Option<i128>) -> u64
     ensures { result ≡ c.length_from value }
 {
     match value {
         None => 0,
-        Some(value) => { if value < 1 { 0 } else { value as u128 } }
+        Some(value) => {
+            if value < 1 {
+                0
+            } else if value > u64::MAX as i128 {
+                u64::MAX
+            } else {
+                value as u64
+            }
+        }
     }
 }
 
-fn array_length(env: &Env<'_>, model: Model, e: &Option<Box<Expr>>, initial: &Initial) -> u128
+fn array_length(env: &Env<'_>, model: Model, e: &Option<Box<Expr>>, initial: &Initial) -> u64
     ensures { result ≡ c.array_length (seen.env_of env.now) model (v.option_expr e.now) (v.initial_of initial.now) }
 {
     match e {
-        None => listed(initial) as u128,
+        None => listed(initial) as u64,
         Some(e) => length_from(constant(env, model, e)),
     }
 }
 
-// The length of a declared array, however great it is.
-fn whole_length(env: &Env<'_>, model: Model, form: &Form, initial: &Initial) -> Option<u128>
+// The length of a declared array.
+fn whole_length(env: &Env<'_>, model: Model, form: &Form, initial: &Initial) -> Option<u64>
     ensures { result ≡ c.object_length (seen.env_of env.now) model (v.form_of form.now) (v.initial_of initial.now) }
 {
     match form {

@@ -6,15 +6,13 @@ ghost use Rattle.c_typed.specs.Parts.{tree_of};
 ghost use Rattle.c_typed.specs.Rules.{broken};
 ghost use Rattle.c_typed.specs.Run as typed;
 ghost use Rattle.c_types.specs.Elaborated.{elaborated};
-ghost use Rattle.name_bindings.specs.Cut as cut;
-ghost use Rattle.name_bindings.specs.Within.{Within};
 ghost use Rattle.source_refusals.specs.Refusals.{refusal};
 ghost use Rattle.refusal_laws.specs.Read.{IsRead};
 
 use c_tree::Unit;
 use c_typed::Typed;
 use lv_base::{Model, SourceFail};
-use refusal_laws::{names_uncut, runs_kept, typed_kept};
+use refusal_laws::{runs_kept, typed_kept};
 use source_bindings::bind_all;
 use source_refusals::decide;
 use std::alloc::Global;
@@ -25,17 +23,15 @@ use typed_programs::typed_program;
 ///
 /// Fails with `Fault`, the first by its offset, then by its number, of the rules of names, types, calls, constants and cases
 /// that the source breaks; with `Over` of limit 4 where its objects have more cells than are allowed, unless a rule is broken
-/// before; or with `Memory`. Which rule is the first is promised where the declared numbers are less than those of a machine:
-/// each array shorter than 2^64 - 1 elements, each constant of an enumeration less than 2^127 - 1.
+/// before; or with `Memory`.
 pub fn elaborate(alloc: Global, unit: &Unit, model: Model) -> Result<Typed, SourceFail>
     requires { IsRead (v.items_of unit.now.items.items) model }
     ensures tree { IfOk result (λ t. tree_of t ≡ elaborated (v.items_of unit.now.items.items) model) }
     ensures right { IfOk result (λ _. refusal (v.items_of unit.now.items.items) model ≡ None) }
     ensures runs { IfOk result (λ t. (turns : ℕ) → (inputs : List ℤ) → typed.run turns (tree_of t) inputs ≡ run turns (v.items_of unit.now.items.items) model inputs) }
     ensures control { IfOk result (λ t. broken (tree_of t) ≡ control_faults (env_of (v.items_of unit.now.items.items) model) (functions_of (env_of (v.items_of unit.now.items.items) model) (v.items_of unit.now.items.items))) }
-    ensures refused { IfErr result (λ fail. (fail ≡ SourceFail.Memory) ⊎ (Within (cut.env_of (v.items_of unit.now.items.items) model) → refusal (v.items_of unit.now.items.items) model ≡ Some fail)) }
+    ensures refused { IfErr result (λ fail. (fail ≡ SourceFail.Memory) ⊎ (refusal (v.items_of unit.now.items.items) model ≡ Some fail)) }
 {
-    names_uncut();
     typed_kept();
     runs_kept();
     let env = bind_all(alloc, unit, model)?;

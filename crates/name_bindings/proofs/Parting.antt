@@ -5,15 +5,15 @@ use Rattle.c_tree.specs.Tree as t
 use Rattle.c_meaning.specs.Tokens.{first_of_words, last_of, open_of, close_of, end_of}
 use Rattle.c_meaning.specs.Scope as s
 use Rattle.c_meaning.specs.Bindings.{Env}
-use Rattle.c_meaning.specs.Constants.{no_names}
-use Rattle.name_bindings.specs.Cut as cut
-use Rattle.name_bindings.specs.Cut.{bind_from}
+use Rattle.c_meaning.specs.Constants as c
+use Rattle.c_meaning.specs.Constants.{no_names, bind_from}
+use Rattle.c_meaning.specs.Program.{env_of}
 use Rattle.name_bindings.specs.Bound as bd
 use Rattle.name_bindings.specs.Laws.{PartByPart}
 
 bind_append : (model : Model) (env : Env) (xs ys : List s.Declared) → bind_from model env (xs ++ ys) ≡ bind_from model (bind_from model env xs) ys
 bind_append model env [] ys = refl
-bind_append model env (x ∷ xs) ys = bind_append model (cut.declare model env x x.what) xs ys
+bind_append model env (x ∷ xs) ys = bind_append model (c.declare model env x x.what) xs ys
 
 module _ (model : Model) where
   -- one part behind another
@@ -187,7 +187,7 @@ module _ (model : Model) where
   items_is env (t.items_and is (t.tDeclaration d)) = join env (s.in_items is) (s.in_declaration s.file None d) (bd.items model env is) _ (items_is env is) (declaration_is s.file None (bd.items model env is) d)
   items_is env (t.items_and is (t.tEmpty at)) = items_is env is
 
-  bound_is : (items : t.Items) → bd.of_items model items ≡ cut.env_of items model
+  bound_is : (items : t.Items) → bd.of_items model items ≡ env_of items model
   bound_is items = items_is no_names items
 
 pub part_by_part_is : PartByPart

@@ -5,13 +5,12 @@ use Rattle.c_tree.specs.Tree.{Ex, eName, eNumber, eLetter, eParen, eCall, eIndex
 use Rattle.c_meaning.specs.Tokens.{last_of, first_of_words, open_of, close_of, end_of}
 use Rattle.c_meaning.specs.Scope as s
 use Rattle.c_meaning.specs.Bindings.{Env}
-use Rattle.c_meaning.specs.Constants.{no_names}
-use Rattle.name_bindings.specs.Cut as cut
+use Rattle.c_meaning.specs.Constants as c
 
 module _ (model : Model) where
   -- one declaration more
   abbrev pub one : Env → s.Declared → Env
-  one env d = cut.declare model env d d.what
+  one env d = c.declare model env d d.what
 
   module _ (scope : s.Scope) (owner : Option ℕ) where
     abbrev mutual
@@ -153,4 +152,4 @@ module _ (model : Model) where
   items env (items_and is i) = item (s.count_bodies is) (items env is) i
 
   abbrev pub of_items : Items → Env
-  of_items is = items no_names is
+  of_items is = items c.no_names is

@@ -1,4 +1,2 @@
-pub mod Cut
 pub mod Bound
-pub mod Within
 pub mod Laws

@@ -1,8 +1,8 @@
-//! What the declarations of a source bind their names to, in numbers that a machine holds: definitions that a program can
-//! follow, and that they say what the meaning of C says.
+//! What the declarations of a source bind their names to, part by part: definitions that a program can follow, and that they
+//! say what the meaning of C says.
 #![tactic(auto)]
 
-ghost use Rattle.name_bindings.specs.Laws.{NothingCut, PartByPart};
+ghost use Rattle.name_bindings.specs.Laws.{PartByPart};
 
 #[cfg(test)]
 mod tests;
@@ -10,9 +10,4 @@ mod tests;
 /// Adding the declarations of each part of a source to those before it binds what the list of all declarations does.
 pub fn part_by_part()
     ensures { PartByPart }
-{}
-
-/// Where no number was cut, the names are bound as the meaning of C says.
-pub fn nothing_cut()
-    ensures { NothingCut }
 {}

@@ -1,7 +1,6 @@
-use crate::{nothing_cut, part_by_part};
+use crate::part_by_part;
 
 #[test]
-fn the_laws_are_there() {
+fn the_law_is_there() {
     part_by_part();
-    nothing_cut();
 }

@@ -4,7 +4,6 @@ ghost use Rattle.c_meaning.specs.Bindings as b;
 ghost use Rattle.c_meaning.specs.Constants as c;
 ghost use Rattle.c_meaning.specs.Scope as s;
 ghost use Rattle.name_bindings.specs.Bound as bd;
-ghost use Rattle.name_bindings.specs.Cut as cut;
 ghost use Rattle.name_entries.specs.Places as place;
 ghost use Rattle.type_scopes.specs.Seen as seen;
 ghost use Rattle.type_scopes.specs.Steps as step;
@@ -109,7 +108,7 @@ fn last_constant(env: &Env<'_>, before: &[Enumerator]) -> Option<i128>
 }
 
 fn next_of(last: Option<i128>) -> i128
-    ensures { result ≡ cut.next_of last }
+    ensures { result ≡ c.next_constant last }
 {
     match last {
         None => 0,
@@ -128,7 +127,7 @@ fn or_zero(value: Option<i128>) -> i128
 
 // The value of a constant behind these.
 fn enumerator_value(env: &Env<'_>, model: Model, before: &[Enumerator], this: &Enumerator) -> i128
-    ensures { result ≡ cut.enumerator_value (seen.env_of env.now) model (v.enumerator_behind (v.enumerators_of before.now) this.now) }
+    ensures { result ≡ c.enumerator_value (seen.env_of env.now) model (v.enumerator_behind (v.enumerators_of before.now) this.now) }
 {
     match this {
         Enumerator::Plain(_, _, _) => next_of(last_constant(env, before)),

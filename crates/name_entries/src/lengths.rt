@@ -1,7 +1,6 @@
-ghost use Rattle.std.specs.Prelude.{◌≡◌, min, length};
+ghost use Rattle.std.specs.Prelude.{◌≡◌, length};
 ghost use Rattle.c_tree.specs.View as v;
 ghost use Rattle.c_meaning.specs.Constants as c;
-ghost use Rattle.name_bindings.specs.Cut as cut;
 ghost use Rattle.type_scopes.specs.Seen as seen;
 
 use c_tree::{Expr, Form, Initial};
@@ -21,7 +20,7 @@ fn listed(initial: &Initial) -> usize
 }
 
 fn length_from(value: Option<i128>) -> u64
-    ensures { result ≡ min (c.length_from value) 18446744073709551615 }
+    ensures { result ≡ c.length_from value }
 {
     match value {
         None => 0,
@@ -38,7 +37,7 @@ fn length_from(value: Option<i128>) -> u64
 }
 
 fn array_length(env: &Env<'_>, model: Model, e: &Option<Box<Expr>>, initial: &Initial) -> u64
-    ensures { result ≡ min (c.array_length (seen.env_of env.now) model (v.option_expr e.now) (v.initial_of initial.now)) 18446744073709551615 }
+    ensures { result ≡ c.array_length (seen.env_of env.now) model (v.option_expr e.now) (v.initial_of initial.now) }
 {
     match e {
         None => listed(initial) as u64,
@@ -49,7 +48,7 @@ fn array_length(env: &Env<'_>, model: Model, e: &Option<Box<Expr>>, initial: &In
 /// The length of a declared array, which has as many elements as values where it has no length. A broken length is 0, and
 /// one above 2^64 - 1 is that. None of anything that is no array.
 pub fn object_length(env: &Env<'_>, model: Model, form: &Form, initial: &Initial) -> Option<u64>
-    ensures { result ≡ cut.length_of (seen.env_of env.now) model (v.form_of form.now) (v.initial_of initial.now) }
+    ensures { result ≡ c.object_length (seen.env_of env.now) model (v.form_of form.now) (v.initial_of initial.now) }
 {
     match form {
         Form::Array(_, e, _) => Some(array_length(env, model, e, initial)),

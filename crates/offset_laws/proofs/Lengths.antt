@@ -73,7 +73,8 @@ same_of env last ds low high g k b =
 positive : (v : ℤ) → int_le v (pos 0) ≡ false → 0 < c.length_from (Some v)
 positive (pos n) h =
     let l : 0 < n = leb-false n 0 h in
-    subst (λ m. 0 < m) (sym (if_true (int_le (pos 1) (pos n)) n 0 (le-leb 1 n (omega (arith, l))))) l
+    let m : 0 < min n 18446744073709551615 = omega (arith, l) in
+    subst (λ k. 0 < k) (sym (if_true (int_le (pos 1) (pos n)) (min n 18446744073709551615) 0 (le-leb 1 n (omega (arith, l))))) m
 positive (negsuc n) h = cc
 
 length_by : (k : Option ℤ) → rules.is_none k ≡ false → not (rules.is_none k) && int_le (c.or_zero k) (pos 0) ≡ false → 0 < c.length_from k

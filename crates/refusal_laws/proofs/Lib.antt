@@ -1,4 +1,3 @@
-mod Growing
 pub mod Limits
 mod Numbers
 mod Whole

@@ -12,19 +12,15 @@ use Rattle.c_typed.specs.Facts.{IsTyped}
 use Rattle.c_typed.specs.Rules.{broken}
 use Rattle.c_typed.specs.Run as typed
 use Rattle.c_types.specs.Elaborated.{elaborated}
-use Rattle.name_bindings.specs.Cut as cut
-use Rattle.source_refusals.specs.Refusals.{refusal_in}
+use Rattle.source_refusals.specs.Refusals.{refusal}
 use Rattle.refusal_laws.specs.Read.{IsRead}
 
 abbrev pub SourcesRead : Type 0
 SourcesRead = (source : List ℕ) → (list : List Token) → (tree : Tree) → (model : Model) → Tokens source list → Denotes list tree → IsRead (tree_of tree) model
 
--- It is not refused where its names stand for what is bound in numbers that end where a machine's do.
+-- neither a rule nor the limit on cells refuses it
 abbrev pub IsFree : Items → Model → Type 0
-IsFree items model = refusal_in (cut.env_of items model) model items ≡ None
-
-abbrev pub NamesUncut : Type 0
-NamesUncut = (items : Items) → (model : Model) → IsRead items model → IsFree items model → cut.env_of items model ≡ env_of items model
+IsFree items model = refusal items model ≡ None
 
 abbrev pub TypedKept : Type 0
 TypedKept = (items : Items) → (model : Model) → IsRead items model → IsFree items model → IsTyped (elaborated items model)

@@ -1,9 +1,8 @@
-use crate::{names_uncut, runs_kept, sources_read, typed_kept};
+use crate::{runs_kept, sources_read, typed_kept};
 
 #[test]
 fn the_laws_are_there() {
     sources_read();
-    names_uncut();
     typed_kept();
     runs_kept();
 }

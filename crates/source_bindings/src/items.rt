@@ -4,8 +4,6 @@ ghost use Rattle.c_tree.specs.View as v;
 ghost use Rattle.c_meaning.specs.Program as program;
 ghost use Rattle.c_meaning.specs.Scope as s;
 ghost use Rattle.name_bindings.specs.Bound as bd;
-ghost use Rattle.name_bindings.specs.Cut as cut;
-ghost use Rattle.name_bindings.specs.Within.{Within};
 ghost use Rattle.type_scopes.specs.Seen as seen;
 ghost use Rattle.source_bindings.specs.Steps as step;
 
@@ -15,7 +13,7 @@ use crate::functions::{bind_parameters, bind_prototype};
 use crate::statements::bind_statements;
 use c_tree::{Body, Function, Item, Statement, Unit};
 use lv_base::{Memory, Model};
-use name_bindings::{nothing_cut, part_by_part};
+use name_bindings::part_by_part;
 use name_entries::{Named, Region, declare_function};
 use std::alloc::Global;
 use tree_places::{close_of, open_of};
@@ -180,16 +178,13 @@ fn bind_items<'a>(
 }
 
 /// What the names of a source are bound to, declaration by declaration: the names with their scopes, and the objects with
-/// their types. An array's length ends at 2^64 - 1, and the value of a constant behind another one at 2^127 - 1: where none
-/// is so great, it is what the meaning of C says (C11 6.2.1, 6.7).
+/// their types (C11 6.2.1, 6.7).
 ///
 /// Fails with `Memory` where there is no more memory, or more than 2^32 objects or functions.
 pub fn bind_all<'a>(alloc: Global, unit: &'a Unit, model: Model) -> Result<Env<'a>, Memory>
-    ensures bound { IfOk result (λ env. seen.env_of env ≡ cut.env_of (v.items_of unit.now.items.items) model) }
-    ensures meant { IfOk result (λ env. Within (seen.env_of env) → seen.env_of env ≡ program.env_of (v.items_of unit.now.items.items) model) }
+    ensures { IfOk result (λ env. seen.env_of env ≡ program.env_of (v.items_of unit.now.items.items) model) }
 {
     part_by_part();
-    nothing_cut();
     let mut env = Env {
         entries: Vec::new(alloc),
         objects: Vec::new(alloc),

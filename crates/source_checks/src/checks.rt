@@ -5,8 +5,6 @@ ghost use Rattle.c_meaning.specs.Program.{run};
 ghost use Rattle.c_typed.specs.Parts.{tree_of};
 ghost use Rattle.c_typed.specs.Run as typed;
 ghost use Rattle.c_types.specs.Elaborated.{elaborated};
-ghost use Rattle.name_bindings.specs.Cut as cut;
-ghost use Rattle.name_bindings.specs.Within.{Within};
 ghost use Rattle.refusal_laws.specs.Read.{IsRead};
 ghost use Rattle.source_checks.specs.Refusals.{source_refusal};
 
@@ -21,14 +19,13 @@ use std::alloc::Global;
 ///
 /// Fails with `Fault`, the first rule that is broken, by its offset, then by its number: of names, types, calls, constants and
 /// cases, and where none of these is broken of labels, jumps, effects, calls on cycles and misplaced jumps; with `Over` of limit
-/// 4 on cells, before a rule that is broken behind it; or with `Memory`. Which rule is the first is promised where each array
-/// is shorter than 2^64 - 1 elements and each constant of an enumeration less than 2^127 - 1.
+/// 4 on cells, before a rule that is broken behind it; or with `Memory`.
 pub fn accepted(alloc: Global, unit: &Unit, model: Model) -> Result<Examined, SourceFail>
     requires { IsRead (v.items_of unit.now.items.items) model }
     ensures good { IfOk result (λ _. Good (v.items_of unit.now.items.items) model) }
     ensures tree { IfOk result (λ e. tree_of e.typed ≡ elaborated (v.items_of unit.now.items.items) model) }
     ensures runs { IfOk result (λ e. (turns : ℕ) → (inputs : List ℤ) → typed.run turns (tree_of e.typed) inputs ≡ run turns (v.items_of unit.now.items.items) model inputs) }
-    ensures refused { IfErr result (λ fail. (fail ≡ SourceFail.Memory) ⊎ (Within (cut.env_of (v.items_of unit.now.items.items) model) → source_refusal (v.items_of unit.now.items.items) model ≡ Some fail)) }
+    ensures refused { IfErr result (λ fail. (fail ≡ SourceFail.Memory) ⊎ (source_refusal (v.items_of unit.now.items.items) model ≡ Some fail)) }
 {
     let typed = elaborate(alloc, unit, model)?;
     examine(alloc, typed)

@@ -17,8 +17,6 @@ use Rattle.c_run.specs.Run as run
 use Rattle.c_meaning.specs.Bindings.{Env, Entry}
 use Rattle.c_meaning.specs.Constants.{constant_of, or_zero}
 use Rattle.c_meaning.specs.Program as program
-use Rattle.name_bindings.specs.Within.{Within}
-use Rattle.name_bindings.specs.Cut as cut
 use Rattle.type_scopes.specs.declared.entries.Object.{Object}
 use Rattle.type_scopes.specs.declared.entries.Entry.{Entry as Row}
 use Rattle.type_scopes.specs.Seen.{object_of, entry_of}

@@ -10,4 +10,4 @@ mod functions;
 mod runs;
 mod store;
 
-pub use runs::{End, NoRun, run};
+pub use runs::{End, run};

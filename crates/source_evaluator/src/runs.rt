@@ -1,13 +1,10 @@
-ghost use Rattle.std.specs.Prelude.{◌≡◌, IfOk, IsErrOf, Option, ℤ};
+ghost use Rattle.std.specs.Prelude.{◌≡◌, IfOk, Option, ℤ};
 ghost use Rattle.c_tree.specs.View as v;
 ghost use Rattle.c_meaning.specs.Program as program;
-ghost use Rattle.name_bindings.specs.Cut as cut;
-ghost use Rattle.name_bindings.specs.Within.{Within};
 ghost use Rattle.run_machine.specs.Seen.{state_of, Gives, same};
 ghost use Rattle.expression_parts.specs.Seen.{functions_of};
 ghost use Rattle.source_evaluator.specs.Ends.{main_at, end_of};
 ghost use Rattle.c_run.specs.Run as meant;
-ghost use Rattle.source_evaluator.specs.declared.runs.NoRun.TheVariants.{Great};
 ghost use Rattle.type_scopes.specs.Seen as seen;
 
 use crate::evaluation::body;
@@ -16,7 +13,6 @@ use crate::store::start_store;
 use c_tree::Unit;
 use expression_parts::{Program, function_number};
 use lv_base::{ErrorKind, Memory, Model};
-use name_limits::is_uncut;
 use run_machine::{Cells, Halt, Machine};
 use source_bindings::bind_all;
 use std::alloc::Global;
@@ -31,25 +27,6 @@ pub enum End {
     NoInput,
     BadInput(usize),
     Spent(u32, Vec<Cells>),
-}
-
-/// Why there is no run: a number of the source is too great for this evaluator, an array of 2^64 - 1 elements or more or a
-/// constant of an enumeration of 2^127 - 1 or more; or there is no more memory.
-#[derive(Drop)]
-pub enum NoRun {
-    Great,
-    Memory,
-}
-
-impl From<Memory> for NoRun {
-    ghost use Rattle.std.specs.Prelude.{◌≡◌};
-    ghost use Rattle.source_evaluator.specs.declared.runs.NoRun.TheVariants.{Memory};
-
-    ghost from_gives = { λ _ e. e ≡ Memory };
-
-    fn from(_: Memory) -> NoRun {
-        NoRun::Memory
-    }
 }
 
 fn main_number(p: &Program<'_>) -> Option<usize>
@@ -120,23 +97,16 @@ fn run_bound(
 
 /// A run of a source with so many turns, on these inputs, as the meaning of C says (C11 5.1.2.2.3).
 ///
-/// Fails with `Great` where an array that is declared has 2^64 - 1 elements or more or a constant of an enumeration is 2^127 - 1
-/// or more, and with `Memory` where there is no more memory, or more than 2^32 objects or functions.
+/// Fails with `Memory` where there is no more memory, or more than 2^32 objects or functions.
 pub fn run(
     alloc: Global,
     unit: &Unit,
     model: Model,
     turns: u64,
     inputs: &[i128],
-) -> Result<End, NoRun>
-    ensures value { IfOk result (λ end. end_of end ≡ program.run turns (v.items_of unit.now.items.items) model inputs.now) }
-    ensures small { IfOk result (λ _. Within (cut.env_of (v.items_of unit.now.items.items) model)) }
-    ensures great { IsErrOf result Great → Within (cut.env_of (v.items_of unit.now.items.items) model) → ⊥ }
+) -> Result<End, Memory>
+    ensures { IfOk result (λ end. end_of end ≡ program.run turns (v.items_of unit.now.items.items) model inputs.now) }
 {
     let env = bind_all(alloc, unit, model)?;
-    if !is_uncut(&env) {
-        return Err(NoRun::Great);
-    }
-    let end = run_bound(alloc, env, unit, model, turns, inputs)?;
-    Ok(end)
+    run_bound(alloc, env, unit, model, turns, inputs)
 }

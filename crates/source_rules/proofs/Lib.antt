@@ -1,5 +1,4 @@
 pub mod Views
 mod Summing
 mod Rows
-mod Lengths
 mod Arms

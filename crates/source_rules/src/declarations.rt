@@ -187,7 +187,6 @@ fn is_too_many(length: Option<u64>, count: usize) -> bool
 }
 
 // More values than elements; a broken length is none.
-#[tactic(auto, using(crate::proofs::Lengths::exceeds_is))]
 fn count_found(
     env: &Env<'_>,
     model: Model,

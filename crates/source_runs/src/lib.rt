@@ -5,4 +5,4 @@
 mod tests;
 mod texts;
 
-pub use texts::{NoRunOfText, run_text};
+pub use texts::run_text;

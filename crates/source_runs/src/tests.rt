@@ -1,4 +1,4 @@
-use crate::{NoRunOfText, run_text};
+use crate::run_text;
 use lv_base::{ErrorKind, Model, SourceFail, place_of};
 use source_evaluator::End;
 use std::alloc::Global;
@@ -391,12 +391,8 @@ fn turns_and_models_decide(rt: HostRuntime) -> Result<(), Fail> {
 }
 
 #[test]
-fn what_is_too_great_has_no_run(rt: HostRuntime) -> Result<(), Fail> {
-    let alloc = rt.alloc();
-    let array = "int a[18446744073709551615u];\nint main() { }\n";
-    let great = run_text(alloc, array.as_bytes(), Model::Lp64, 1, &[]);
-    assert!(rt; matches!(great, Err(NoRunOfText::Great)));
-    let refused = run_text(alloc, "int a[;".as_bytes(), Model::Lp64, 1, &[]);
-    assert!(rt; matches!(refused, Err(NoRunOfText::Refused(SourceFail::Fault(_, 6)))));
+fn what_is_no_source_has_no_run(rt: HostRuntime) -> Result<(), Fail> {
+    let refused = run_text(rt.alloc(), "int a[;".as_bytes(), Model::Lp64, 1, &[]);
+    assert!(rt; matches!(refused, Err(SourceFail::Fault(_, 6))));
     Ok(())
 }

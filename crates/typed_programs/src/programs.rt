@@ -3,8 +3,6 @@ ghost use Rattle.c_tree.specs.View as v;
 ghost use Rattle.c_meaning.specs.Program as program;
 ghost use Rattle.c_typed.specs.View as tv;
 ghost use Rattle.c_types.specs.Elaborated as el;
-ghost use Rattle.name_bindings.specs.Cut as cut;
-ghost use Rattle.name_bindings.specs.Within.{Within};
 ghost use Rattle.type_scopes.specs.Seen as seen;
 
 use crate::functions::typed_functions;
@@ -46,12 +44,12 @@ pub fn typed_program(
     })
 }
 
-/// The typed tree of a source, where no array's length reaches 2^64 - 1 and no enumeration's constant 2^127 - 1 (C11 6).
+/// The typed tree of a source (C11 6).
 ///
 /// Fails with `Memory` where there is no more memory, where there are more than 2^32 objects or functions, or where an
 /// array has 2^32 elements or more.
 pub fn elaborated(alloc: Global, unit: &Unit, model: Model) -> Result<Program, Memory>
-    ensures { IfOk result (λ p. Within (cut.env_of (v.items_of unit.now.items.items) model) → tv.program_of p.model p.objects.items p.functions.items ≡ el.elaborated (v.items_of unit.now.items.items) model) }
+    ensures { IfOk result (λ p. tv.program_of p.model p.objects.items p.functions.items ≡ el.elaborated (v.items_of unit.now.items.items) model) }
 {
     let env = bind_all(alloc, unit, model)?;
     let program = typed_program(alloc, &env, model, unit)?;

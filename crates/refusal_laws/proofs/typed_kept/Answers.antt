@@ -2,4 +2,4 @@ use Rattle.refusal_laws.proofs.Whole.{typed_kept_are}
 use Rattle.refusal_laws.proofs.typed_kept.Goals as goal
 
 pub returns : goal.returns
-returns c = typed_kept_are c.sources_typed.ensures c.names_uncut.ensures
+returns c = typed_kept_are c.sources_typed.ensures
