@@ -95,15 +95,3 @@ pub main_is : (name : List ℕ) (fs : List program.Function) → position (λ n.
 main_is name fs =
     ap (λ n. cond (nat_lt n (length (map (λ f. f.name) fs))) (Some n) None) (main_or_len name fs)
     ∙ ap (λ m. cond (nat_lt (position_or_len (λ f. bytes_eq f.name name) fs) m) (Some (position_or_len (λ f. bytes_eq f.name name) fs)) None) (names_length fs)
-
-pub whole_is : (turns : ℕ) (items : t.Items) (model : Model) (inputs : List ℤ) (env : Env) (fs : List program.Function) (store : List (List ℤ)) (end : run.End) →
-    env ≡ cut.env_of items model → (Within env → env ≡ program.env_of items model) → fs ≡ program.functions_of env items → store ≡ program.start_store env model 0 env.objects →
-    end ≡ program.end_of_run (program.run_main env model (program.trapping model) inputs fs turns (program.main_number fs) (record { store = store; taken = 0; turns = turns })) →
-    Within (cut.env_of items model) → end ≡ program.run turns items model inputs
-whole_is turns items model inputs env fs store end bound meant fs_is store_is end_is w =
-    let v = rw (← bound) at w in
-    let e = meant v in
-    end_is
-    ∙ ap (λ s. program.end_of_run (program.run_main env model (program.trapping model) inputs fs turns (program.main_number fs) (record { store = s; taken = 0; turns = turns }))) store_is
-    ∙ ap (λ f. program.end_of_run (program.run_main env model (program.trapping model) inputs f turns (program.main_number f) (record { store = program.start_store env model 0 env.objects; taken = 0; turns = turns }))) fs_is
-    ∙ ap (λ z. program.end_of_run (program.run_main z model (program.trapping model) inputs (program.functions_of z items) turns (program.main_number (program.functions_of z items)) (record { store = program.start_store z model 0 z.objects; taken = 0; turns = turns }))) e
