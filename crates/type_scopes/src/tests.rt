@@ -1,7 +1,7 @@
 use crate::{
-    Entity, Entry, Env, Object, Scope, What, begin_of, constant_value, declared_entity,
-    entity_type, enum_kind, has_const, holds, is_tag, named_entity, named_kind, object_number,
-    object_type, parameter_kinds, type_of, typing_of, visible, words_type,
+    Declarations, Entity, Entry, Env, Object, Scope, What, begin_of, constant_value,
+    declared_entity, entity_type, enum_kind, has_const, holds, is_tag, named_entity, named_kind,
+    object_number, object_type, parameter_kinds, type_of, typing_of, visible, words_type,
 };
 use c_tree::{
     BinaryOp, ConstWord, Enumerator, Expr, Parameter, Parameters, Spec, Specs, TypeWord, Typing,
@@ -37,7 +37,7 @@ fn the_inner_declaration_is_named(rt: HostRuntime) -> Result<(), Fail> {
     let alloc = rt.alloc();
     let words = specs(alloc, TypeWord::Long)?;
     let constants: Vec<Enumerator> = Vec::new(alloc);
-    let mut entries = Vec::new(alloc);
+    let mut entries = Declarations::new(alloc);
     entries.push(entry(5, Scope::File, What::Parameter(&words), Entity::Object(0)))?;
     entries.push(entry(
         20,
@@ -97,7 +97,7 @@ fn scopes_hold_their_tokens(rt: HostRuntime) {
 fn words_name_types(rt: HostRuntime) -> Result<(), Fail> {
     let alloc = rt.alloc();
     let env = Env {
-        entries: Vec::new(alloc),
+        entries: Declarations::new(alloc),
         objects: Vec::new(alloc),
     };
     let words = specs(alloc, TypeWord::Bool)?;
