@@ -5,7 +5,8 @@ use Rattle.std.proofs.lemmas.Bool.{both_ways, cases_Bool, leb-true, le-leb, lt-l
 use Rattle.std.proofs.lemmas.List.{take_all, length-map}
 use Rattle.std.proofs.lemmas.Option.{slice_get_within, slice_get_read, slice_get-map}
 use Rattle.std.proofs.lemmas.Slice.Eq.{bytes_eq-Decides}
-use Rattle.c_meaning.specs.Program.{is_number}
+use Rattle.c_tree.specs.Tree as t
+use Rattle.c_meaning.specs.Program.{is_number, initial_in, initial_of, or_initial}
 use Rattle.c_meaning.specs.Scope.{Scope, file, block, Declared, begin_of, holds, is_file, is_same, is_tag}
 use Rattle.c_meaning.specs.Bindings as b
 use Rattle.c_meaning.specs.Bindings.{inner, is_visible, visible_in}
@@ -18,7 +19,7 @@ use Rattle.type_scopes.specs.Seen.{entry_of, entity_of, scope_of}
 use Rattle.type_scopes.specs.Buckets.{bucket}
 use Rattle.type_scopes.specs.Reaching.{Within}
 use Rattle.type_scopes.specs.Asked.{is_hidden, no_deeper, is_elsewhere, has_no_number}
-use Rattle.type_scopes.specs.Walking.{joined, seen_one, last_of, is_placed, is_in_file, is_twin}
+use Rattle.type_scopes.specs.Walking.{joined, seen_one, last_of, is_placed, is_in_file, is_twin, own_initial}
 use Rattle.type_scopes.specs.Chains.{entries_of, Chain, by_name, by_order, name_span, order_span, lowest, highest, Leads, Free, IsLink, IsLinked, IsKept}
 use Rattle.type_scopes.proofs.Joining.{some_at, es_of, at_es, es_long, taken, or_row, joined_twice, past_free, past_jump}
 
@@ -257,3 +258,78 @@ head_leads xs table name n left kept is below head =
 pub head_free : (xs : List Row) (table name : List ℕ) (n left : ℕ) → IsKept xs table → n ≡ bucket name → n < 65521 → left ≡ get_or table n 0 → Free by_name (bucket name) xs left (length xs)
 head_free xs table name n left kept is below head =
     subst (λ m. Free by_name (bucket name) xs m (length xs)) (sym head) (subst (λ m. Free by_name m xs (get_or table n 0) (length xs)) is (kept.heads n below).1)
+
+-- ---- The initial value of an object
+
+initial_twice : (i j k : t.Initial) → or_initial (or_initial i j) k ≡ or_initial i (or_initial j k)
+initial_twice t.iNothing j k = refl
+initial_twice (t.iValue a e) j k = refl
+initial_twice (t.iList a b es c d) j k = refl
+
+initial_none : (i : t.Initial) → or_initial i t.iNothing ≡ i
+initial_none t.iNothing = refl
+initial_none (t.iValue a e) = refl
+initial_none (t.iList a b es c d) = refl
+
+module _ (number : ℕ) where
+  initial_by : (u : Bool) (i rest : t.Initial) → (if u then or_initial i rest else rest) ≡ or_initial (if u then i else t.iNothing) rest
+  initial_by true i rest = refl
+  initial_by false i rest = refl
+
+  initial_and : (e : b.Entry) (es : List b.Entry) → initial_of number (e ∷ es) ≡ or_initial (own_initial number e) (initial_of number es)
+  initial_and e es = initial_by (is_number number e.entity) (initial_in e.declared.what) (initial_of number es)
+
+  initial_push : (es : List b.Entry) (e : b.Entry) → initial_of number (es ++ e ∷ []) ≡ or_initial (initial_of number es) (own_initial number e)
+  initial_push [] e = initial_and e [] ∙ initial_none (own_initial number e)
+  initial_push (x ∷ es) e =
+      initial_and x (es ++ e ∷ []) ∙ ap (or_initial (own_initial number x)) (initial_push es e) ∙ sym (initial_twice (own_initial number x) (initial_of number es) (own_initial number e))
+      ∙ sym (ap (λ i. or_initial i (own_initial number e)) (initial_and x es))
+
+  module _ (xs : List Row) where
+    initial_step : (k : ℕ) (x : Row) (later : t.Initial) → slice_get xs k ≡ Some x → or_initial (initial_of number (take (suc k) (es_of xs))) later ≡ or_initial (initial_of number (take k (es_of xs))) (or_initial (own_initial number (entry_of x.entry)) later)
+    initial_step k x later h =
+        ap (λ ys. or_initial (initial_of number ys) later) (taken (es_of xs) (entry_of x.entry) k (at_es xs k x h))
+        ∙ ap (λ z. or_initial z later) (initial_push (take k (es_of xs)) (entry_of x.entry))
+        ∙ initial_twice (initial_of number (take k (es_of xs))) (own_initial number (entry_of x.entry)) later
+
+    initial_same : (k : ℕ) (x : Row) (later : t.Initial) → slice_get xs k ≡ Some x → is_number number (entity_of x.entry.entity) ≡ false → or_initial (initial_of number (take (suc k) (es_of xs))) later ≡ or_initial (initial_of number (take k (es_of xs))) later
+    initial_same k x later h no_number =
+        initial_step k x later h ∙ ap (λ (u : Bool). or_initial (initial_of number (take k (es_of xs))) (or_initial (if u then initial_in (entry_of x.entry).declared.what else t.iNothing) later)) no_number
+
+    -- on the way back: what is left and what was found make up all
+    pub record IsGathering (later : t.Initial) (left : ℕ) : Type 0 where
+      pub few : left ≤ length xs
+      pub rest : or_initial (initial_of number (take left (es_of xs))) later ≡ initial_of number (es_of xs)
+
+    pub gathering_starts : (left : ℕ) → left ≡ length xs → IsGathering t.iNothing left
+    gathering_starts left e = record {
+      few = omega (arith, e);
+      rest = initial_none (initial_of number (take left (es_of xs))) ∙ ap (initial_of number) (take_all left (es_of xs) (let l = es_long xs in omega (arith, l, e)));
+    }
+
+    pub gathering_jumps : (later : t.Initial) (left k : ℕ) (x : Row) → left ≡ suc k → slice_get xs k ≡ Some x → IsLink by_order xs k x → has_no_number x.order.span number ≡ true → IsGathering later left → IsGathering later x.order.jump
+    gathering_jumps later left k x e h is none way =
+        let few = is.few in
+        let further = is.further in
+        let within = way.few in record {
+          few = omega (arith, few, further, within, e);
+          rest =
+              sym (past_jump (λ k. or_initial (initial_of number (take k (es_of xs))) later) by_order 0 xs (λ j z g other. absurd (other refl)) k x is refl h
+              (λ j z g w. initial_same j z later g (not_numbered number x.order.span z none w)))
+              ∙ ap (λ m. or_initial (initial_of number (take m (es_of xs))) later) (sym e) ∙ way.rest;
+        }
+
+    pub gathering_goes : (later next : t.Initial) (left k : ℕ) (x : Row) → left ≡ suc k → slice_get xs k ≡ Some x → IsLink by_order xs k x → next ≡ or_initial (own_initial number (entry_of x.entry)) later → IsGathering later left → IsGathering next x.order.older
+    gathering_goes later next left k x e h is new way =
+        let few = is.few in
+        let within = way.few in record {
+          few = omega (arith, few, within, e);
+          rest =
+              sym (past_free (λ k. or_initial (initial_of number (take k (es_of xs))) next) by_order 0 xs (λ j z g other. absurd (other refl)) x.order.older k is.few (omega (arith, within, e)) is.free)
+              ∙ ap (or_initial (initial_of number (take k (es_of xs)))) new
+              ∙ sym (initial_step k x later h)
+              ∙ ap (λ m. or_initial (initial_of number (take m (es_of xs))) later) (sym e) ∙ way.rest;
+        }
+
+    pub gathering_ends : (later : t.Initial) (left : ℕ) → left ≡ 0 → IsGathering later left → later ≡ initial_of number (es_of xs)
+    gathering_ends later left e way = ap (λ m. or_initial (initial_of number (take m (es_of xs))) later) (sym e) ∙ way.rest

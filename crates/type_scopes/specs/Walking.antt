@@ -1,5 +1,7 @@
 -- What a walk back over declarations finds.
 use Rattle.std.specs.Prelude.{ℕ, zero, suc, nat_eq, Bool, false, ◌&&◌, not, if◌then◌else◌, cond, List, Option, None, Some, slice_get, bytes_eq}
+use Rattle.c_tree.specs.Tree.{Initial, iNothing}
+use Rattle.c_meaning.specs.Program.{is_number, initial_in}
 use Rattle.c_meaning.specs.Scope.{Scope, file, block, Declared, is_file, is_same, is_tag}
 use Rattle.c_meaning.specs.Bindings.{Entry, inner, is_visible}
 
@@ -16,6 +18,10 @@ seen_one tag name at e = if is_visible tag name at e then Some e else None
 -- the first of two that pass a test, where the second was found before
 abbrev pub or_found : Bool → Entry → Option Entry → Option Entry
 or_found is_it e later = if is_it then Some e else later
+
+-- the initial value in this declaration, where it is one of the object
+abbrev pub own_initial : ℕ → Entry → Initial
+own_initial number e = if is_number number e.entity then initial_in e.declared.what else iNothing
 
 -- the last token of a scope, by its offset
 abbrev pub last_of : Scope → ℕ

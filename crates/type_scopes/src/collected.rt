@@ -8,9 +8,10 @@ ghost use Rattle.type_scopes.specs.Found as found;
 ghost use Rattle.type_scopes.specs.Seen as seen;
 ghost use Rattle.type_scopes.specs.Walking as walk;
 
-use crate::entries::{Entity, Entry, Scope, begin_of, holds, is_same, is_tag};
+use crate::entries::{Entity, Entry, Scope, What, begin_of, holds, is_same, is_tag};
 use crate::linked::{Row, last_of, row_behind};
 use crate::links::{BUCKETS, Span, bucket_of};
+use c_tree::Initial;
 use lv_base::Memory;
 use std::alloc::{AllocError, Global};
 use std::marker::Model;
@@ -108,7 +109,7 @@ fn is_elsewhere(span: Span, at: u32) -> bool
     (at as u64) < span.from || span.to < at as u64
 }
 
-fn has_no_number(span: Span, number: u32) -> bool
+fn has_no_number(span: Span, number: usize) -> bool
     ensures { result ≡ asked.has_no_number span number }
 {
     (number as u64) < span.low || span.high < number as u64
@@ -132,16 +133,52 @@ fn is_twin(entry: &Entry<'_>, earlier: &Entry<'_>) -> bool
     is_same(entry.scope, earlier.scope) && entry.name == earlier.name
 }
 
-fn is_number(number: u32, entry: &Entry<'_>) -> bool
-    ensures { result ≡ program.is_number number (seen.entry_of entry.now).entity }
+fn is_number(number: usize, entity: &Entity) -> bool
+    ensures { result ≡ program.is_number number (seen.entity_of entity.now) }
 {
-    match entry.entity {
-        Entity::Object(other) => other == number,
+    match entity {
+        Entity::Object(given) => *given as usize == number,
         Entity::Function(_, _) => false,
         Entity::Constant(_) => false,
         Entity::Typedef(_, _) => false,
         Entity::Tag(_) => false,
         Entity::Name(_, _) => false,
+    }
+}
+
+// The initial value in a declaration, where it has one.
+fn initial_in<'a>(entry: &Entry<'a>) -> Option<&'a Initial>
+    ensures { found.some_initial (option_copied result) ≡ program.initial_in (seen.what_of entry.now.what) }
+{
+    match entry.what {
+        What::Object(_, _, initial) => Some(initial),
+        What::Parameter(_) => None,
+        What::Function(_, _, _) => None,
+        What::Typedef(_) => None,
+        What::Constant(_) => None,
+        What::Tag(_) => None,
+        What::Name(_) => None,
+    }
+}
+
+fn own_initial<'a>(number: usize, entry: &Entry<'a>) -> Option<&'a Initial>
+    ensures { found.some_initial (option_copied result) ≡ walk.own_initial number (seen.entry_of entry.now) }
+{
+    if is_number(number, &entry.entity) {
+        initial_in(entry)
+    } else {
+        None
+    }
+}
+
+fn or_initial<'a>(initial: Option<&'a Initial>, later: Option<&'a Initial>) -> Option<&'a Initial>
+    ensures { found.some_initial (option_copied result) ≡ program.or_initial (found.some_initial (option_copied initial.entry)) (found.some_initial (option_copied later.entry)) }
+{
+    match initial {
+        None => later,
+        Some(Initial::Nothing) => later,
+        Some(Initial::Value(_, _)) => initial,
+        Some(Initial::List(_, _, _, _, _)) => initial,
     }
 }
 
@@ -277,25 +314,22 @@ impl<'a> Declarations<'a> {
         0
     }
 
-    /// One more than the place of the last of the first so many declarations whose object has this number, and 0 where there is
-    /// none.
-    pub fn numbered_before(&self, number: u32, count: usize) -> usize
-        requires { count ≤ length self.now }
-        ensures { result ≡ walk.last_where (λ e. program.is_number number e.entity) (map seen.entry_of self.now) count }
+    /// The one initial value among the declarations of the object with this number.
+    pub fn initial_of(&self, number: usize) -> Option<&'a Initial>
+        ensures { found.some_initial (option_copied result) ≡ program.initial_of number (map seen.entry_of self.now) }
     {
-        let mut left = count;
+        let mut found: Option<&'a Initial> = None;
+        let mut left = self.rows.len();
         'rows: while left > 0 {
             let row = &self.rows[left - 1];
             if has_no_number(row.order.span, number) {
                 left = row.order.jump;
                 continue;
             }
-            if is_number(number, &row.entry) {
-                return left;
-            }
+            found = or_initial(own_initial(number, &row.entry), found);
             left = row.order.older;
         }
-        0
+        found
     }
 }
 
