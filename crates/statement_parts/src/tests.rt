@@ -13,7 +13,7 @@ use run_machine::{Cells, Element, Halt, Machine};
 use std::alloc::Global;
 use std::process::Abort;
 use std::test::Fail;
-use type_scopes::{Entity, Entry, Env, Object, Scope, What};
+use type_scopes::{Declarations, Entity, Entry, Env, Object, Scope, What};
 
 // `int x;` in a function, at offset 4
 fn program<'a>(alloc: Global, inputs: &'a [i128]) -> Result<Program<'a>, Fail> {
