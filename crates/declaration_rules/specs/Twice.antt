@@ -108,6 +108,10 @@ module _ (env : Env) (model : Model) where
   abbrev pub lines_of : List Entry → Entry → List Broken
   lines_of before e = again (list_any (clashes e.declared) before) e.declared.at ++ again (is_named_wrong env e.declared.name e.declared.what) e.declared.at
 
+  abbrev pub lines_at : List Entry → Option Entry → List Broken
+  lines_at before None = []
+  lines_at before (Some e) = lines_of before e
+
   abbrev pub twice : List Entry → List Entry → List Broken
   twice before [] = []
   twice before (e ∷ es) = lines_of before e ++ twice (before ++ e ∷ []) es

@@ -82,7 +82,8 @@ fn clashes_before(
 {
     let mut left = env.entries.twin_before(place);
     'twins: while left > 0 {
-        if clashes_at(alloc, env, model, left - 1, entry)? {
+        let test = clashes_at(alloc, env, model, left - 1, entry)?;
+        if test {
             return Ok(true);
         }
         left = env.entries.twin_before(left - 1);
@@ -175,18 +176,32 @@ fn add_lines(
     add_line(lines, wrong, entry.at)
 }
 
+fn add_lines_at(
+    alloc: Global,
+    env: &Env<'_>,
+    model: Model,
+    place: usize,
+    lines: &mut Vec<Broken>,
+) -> Result<(), Memory>
+    ensures { IfOk result (λ _. map told.broken_of lines.new.items ≡ map told.broken_of lines.old.items ++ t.lines_at (seen.env_of env.now) model (take place (seen.env_of env.now).entries) (slice_get (seen.env_of env.now).entries place)) }
+{
+    match env.entries.get(place) {
+        None => Ok(()),
+        Some(entry) => add_lines(alloc, env, model, place, entry, lines),
+    }
+}
+
 /// The names that are declared a second time in their scopes where that is not allowed, and the functions that mean something
 /// without a body and are declared otherwise, in the order of the declarations.
 ///
 /// Fails with `Memory`.
+#[tactic(auto, using(crate::proofs::Twins::twice_more))]
 pub fn redeclared(alloc: Global, env: &Env<'_>, model: Model) -> Result<Vec<Broken>, Memory>
     ensures { IfOk result (λ r. map told.broken_of r.items ≡ t.twice (seen.env_of env.now) model [] (seen.env_of env.now).entries) }
 {
     let mut found = Vec::new(alloc);
-    let mut place = 0usize;
-    'entries: while let Some(entry) = env.entries.get(place) {
-        add_lines(alloc, env, model, place, entry, &mut found)?;
-        place += 1;
+    for place in 0..env.entries.len() {
+        add_lines_at(alloc, env, model, place, &mut found)?;
     }
     Ok(found)
 }

@@ -18,7 +18,7 @@ use run_machine::{Cells, Halt};
 use statement_parts::padded;
 use std::alloc::Global;
 use type_constants::constant;
-use type_scopes::{Entity, Entry, Env, Object, What};
+use type_scopes::{Env, Object};
 
 fn constant_of(env: &Env<'_>, model: Model, kind: Kind, e: &Expr) -> i128
     ensures { result ≡ int.converted kind model (c.or_zero (c.constant_of (seen.env_of env.now) model (v.expr e.now))) }
