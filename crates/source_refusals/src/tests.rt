@@ -58,7 +58,7 @@ fn with_array(alloc: Global, length: u64) -> Result<Env<'static>, Fail> {
     let mut objects = Vec::new(alloc);
     objects.push(array_of(length))?;
     Ok(Env {
-        entries: Vec::new(alloc),
+        entries: Declarations::new(alloc),
         objects,
     })
 }
