@@ -165,7 +165,23 @@ module _ (env : b.Env) (model : Model) where
         let fails : d.clashes env model x r.0 ≡ false = sym (ap (d.clashes_at env model x) r.1) ∙ test in
         passes_on (map entry_of xs) place left k next r.0 h r.1 r.2 fails (new y.0 y.1 ∙ ap (λ (z : b.Entry). last_where (is_twin z.declared) (map entry_of xs) k) y.2) way
 
+  pub next_less : (x : Declared) (xs : List Entry) (place left k next : ℕ) → left ≡ suc k → ((y : Entry) → slice_get xs k ≡ Some y → next ≡ last_where (is_twin (declared_of y)) (map entry_of xs) k) → IsPassing x (map entry_of xs) place left → next < left
+  next_less x xs place left k next h new way =
+      let r = way.twin k h in
+      let y : (z : Entry) × (slice_get xs k ≡ Some z) × (entry_of z ≡ r.0) = listed xs k r.0 r.1 in
+      let is = new y.0 y.1 in
+      let few = way.few in
+      let within = way.within in
+      let less = last_few (declared_of y.0) (map entry_of xs) k (omega (arith, few, within, h)) in
+      omega (arith, is, less, h)
+
   -- ---- All of them
+
+  pub no_lines : (xs : List Entry) (k : ℕ) → None ≡ slice_get xs k → d.lines_at env model (take k (map entry_of xs)) (slice_get (map entry_of xs) k) ≡ []
+  no_lines xs k h = ap (d.lines_at env model (take k (map entry_of xs))) (slice_get-map entry_of xs k ∙ ap (option_map entry_of) (sym h))
+
+  pub lines_here : (xs : List Entry) (k : ℕ) (e : Entry) → slice_get xs k ≡ Some e → d.lines_at env model (take k (map entry_of xs)) (slice_get (map entry_of xs) k) ≡ d.lines_of env model (take k (map entry_of xs)) (entry_of e)
+  lines_here xs k e h = ap (d.lines_at env model (take k (map entry_of xs))) (slice_get-map entry_of xs k ∙ ap (option_map entry_of) h)
 
   twice_step : (es : List b.Entry) (k : ℕ) → k < length es → d.twice env model [] (take (k + 1) es) ≡ d.twice env model [] (take k es) ++ d.lines_at env model (take k es) (slice_get es k)
   twice_step es k l =
