@@ -1,1 +1,5 @@
+pub mod AcceptedLaws
+pub mod CauseLaws
 pub mod MeaningLaws
+pub mod ReachingLaws
+pub mod WordLaws
