@@ -75,7 +75,7 @@ pub usage_only : (words : List (List ℕ)) (file : List ℕ → List ℕ) → ou
 usage_only words file is = by_request (request_of words) is
   where
     by_request : (o : Option Wanted) → wanted_outcome o file ≡ Usage → IsNone o
-    by_request None is = tt
+    by_request None is = refl
     by_request (Some w) is = absurd (subst IsPlain is (source_plain w.model w.turns (file w.source) (file w.run)))
 
 -- ---- runs
