@@ -13,7 +13,7 @@ use crate::running::{replayed, told};
 use crate::values::Values;
 use crate::words::{Wanted, request};
 use c_rules::Examined;
-use lv_base::{Model, SourceFail, place_of};
+use lv_base::{SourceFail, place_of};
 use lv_outside::{FileFail, Folder, Got};
 use std::alloc::Global;
 use stored_text::{MOST_BYTES, StoredFail, read_run};

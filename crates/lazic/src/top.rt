@@ -1,5 +1,5 @@
 ghost use Rattle.std.specs.Prelude.{◌≡◌, ◌≢◌, ◌⊎◌, ◌++◌, ℕ, List, map, pos, ◌≤ℤ◌, IsNone};
-ghost use Rattle.lazic.specs.Words.{request_of};
+ghost use Rattle.lazic.specs.Words.{request_of, TurnsAreRead};
 ghost use Rattle.lv_outside.specs.Counts.{Rose};
 ghost use Rattle.lv_outside.specs.Bytes.{GrewByFront};
 ghost use Rattle.lazic.specs.declared.outcome.Outcome.{Outcome};
@@ -30,6 +30,7 @@ pub fn run_words<F: Folder, S: Sink, G: Gate>(
     // Some words over some files have exactly one answer, by what is written in them. Each answer but a fault of the
     // outside and want of memory is that one.
     ensures one_answer { OneAnswer }
+    ensures turns { TurnsAreRead }
     ensures means { F.tells folder.old → IsFree result.status ⊎ MeansReport (map (λ w. w.now) words.now) (F.file folder.old) result.status result.kept }
     ensures status { F.tells folder.old → IsFree result.status ⊎ (result.status ≡ status_of (outcome_of (map (λ w. w.now) words.now) (F.file folder.old))) }
     ensures kept { F.tells folder.old → IsFree result.status ⊎ (result.kept ≡ kept_of (outcome_of (map (λ w. w.now) words.now) (F.file folder.old))) }

@@ -2,6 +2,7 @@ use Rattle.std.proofs.Common.{⊎_elim, inl, inr}
 use Rattle.lazic.specs.declared.outcome.Outcome.TheVariants.{NoMemory}
 use Rattle.lazic.proofs.MeaningLaws.{computed_is_meant, meant_is_computed, report_means}
 use Rattle.lazic.proofs.ReachingLaws.{reaches_told}
+use Rattle.lazic.proofs.NumberLaws.{turns_read}
 use Rattle.lazic.proofs.top.run_words.Goals as goal
 
 pub returns-clause-cut : goal.returns-clause-cut
@@ -20,3 +21,6 @@ returns-clause-means g c told =
 pub returns-clause-reaches : goal.returns-clause-reaches
 returns-clause-reaches g c told =
     reaches_told _ _ _ _ _ c.decide-outcome.result c.print.result.status c.print.result.kept c.decide-outcome.ensures.caused told c.print.ensures.status c.print.ensures.fault
+
+pub returns-clause-turns : goal.returns-clause-turns
+returns-clause-turns g c = turns_read
