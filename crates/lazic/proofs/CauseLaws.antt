@@ -1,6 +1,6 @@
 -- Answers have their causes.
-use Rattle.std.proofs.Common.{inl, inr, ◌⊎◌, ◌≡◌, ℕ, ◌<◌, ◌≤◌, List, length, refl, sym, ◌∙◌, ap, subst, arith, Bool, true, false, ℤ}
-use Rattle.std.specs.Prelude.{Option, Some, None, Result, Ok, Err, nat_lt, if◌then◌else◌, IsNone}
+use Rattle.std.proofs.Common.{inl, inr, ◌⊎◌, ◌≡◌, ℕ, ◌<◌, List, length, refl, sym, ◌∙◌, ap, subst, arith, Bool, true, ℤ}
+use Rattle.std.specs.Prelude.{Result, Ok, Err, nat_lt, if◌then◌else◌}
 use Rattle.std.proofs.lemmas.Bool.Decides.{nat_tests}
 use Rattle.lv_base.specs.declared.kind.Model.{Model}
 use Rattle.lv_base.specs.declared.fail.SourceFail.{SourceFail}
@@ -13,10 +13,9 @@ use Rattle.slot_code.specs.Machine.{ending_of}
 use Rattle.stored_text.specs.declared.StoredFail.{StoredFail}
 use Rattle.stored_text.specs.declared.StoredFail.TheVariants as stored
 use Rattle.stored_text.specs.Reading.{read_run_of, read_behind, head_fault, head_line}
-use Rattle.lazic.specs.Words.{Wanted, request_of}
-use Rattle.lazic.specs.Reading.{source_read, RunsAs, IsReplay}
+use Rattle.lazic.specs.Reading.{source_read, RunsAs}
 use Rattle.lazic.specs.Running.{said_of, told_of}
-use Rattle.lazic.specs.Answer.{run_refused, values_outcome, run_outcome, refused, tree_outcome, source_outcome, wanted_outcome, outcome_of, IsCaused}
+use Rattle.lazic.specs.Answer.{run_refused, values_outcome, run_outcome, refused, tree_outcome, IsCaused}
 use Rattle.lazic.specs.Runs.{IsRunOn, IsRunOf}
 use Rattle.lazic.specs.declared.outcome.Outcome.{Outcome}
 use Rattle.lazic.specs.declared.outcome.Outcome.TheVariants.{Usage, ReadFault, Over, Faulty, BadRun, Reached, Ended, OutOfTurns, NeedsMore, BadValue, NoMemory}
@@ -46,17 +45,6 @@ values_plain model turns source tree (Err (stored.Over number count)) = tt
 values_plain model turns source tree (Err stored.Memory) = tt
 values_plain model turns source tree (Ok values) = said_plain source turns values (program.run turns tree model values)
 
-tree_plain : (model : Model) (turns : ℕ) (source : List ℕ) (r : Result Items SourceFail) (file : List ℕ) → IsPlain (tree_outcome model turns source r file)
-tree_plain model turns source (Err f) file = refused_plain source f
-tree_plain model turns source (Ok tree) file = values_plain model turns source tree (read_run_of file)
-
-source_plain : (model : Model) (turns : ℕ) (source file : List ℕ) → IsPlain (source_outcome model turns source file)
-source_plain model turns source file = by_test (nat_lt 1048576 (length source))
-  where
-    by_test : (b : Bool) → IsPlain (if b then Over 1 1048577 else tree_outcome model turns source (source_read model source) file)
-    by_test true = tt
-    by_test false = tree_plain model turns source (source_read model source) file
-
 caused_by : (rose told : Type 0) (right answer : Outcome) → IsPlain answer → (told → right ≡ answer) → IsCaused rose told right answer
 caused_by rose told right ReadFault plain is = absurd plain
 caused_by rose told right NoMemory plain is = tt
@@ -69,14 +57,6 @@ caused_by rose told right (Over number count) plain is = is
 caused_by rose told right (BadValue i) plain is = is
 caused_by rose told right (OutOfTurns turns) plain is = is
 caused_by rose told right (Reached kind place values) plain is = is
-
--- USAGE is the answer only to words without a request
-pub usage_only : (words : List (List ℕ)) (file : List ℕ → List ℕ) → outcome_of words file ≡ Usage → IsNone (request_of words)
-usage_only words file is = by_request (request_of words) is
-  where
-    by_request : (o : Option Wanted) → wanted_outcome o file ≡ Usage → IsNone o
-    by_request None is = refl
-    by_request (Some w) is = absurd (subst IsPlain is (source_plain w.model w.turns (file w.source) (file w.run)))
 
 -- ---- runs
 

@@ -17,21 +17,19 @@ use Rattle.parse_machine.specs.Tokens.{is_unsupported}
 use Rattle.parse_machine.specs.Machine as ma
 use Rattle.c_parser.specs.Reading.{IsEnded, IsReading, IsStopped}
 use Rattle.c_parser.proofs.ReadingLaws.{reading}
-use Rattle.c_meaning.specs.Program.{run}
 use Rattle.source_checks.specs.Refusals.{source_refusal}
 use Rattle.stored_text.specs.declared.StoredFail.{StoredFail}
 use Rattle.stored_text.specs.Reading.{read_run_of}
 use Rattle.stored_text.proofs.Whole.{run_text_read}
 use Rattle.lazic.specs.Words.{Wanted, request_of}
 use Rattle.lazic.specs.Reading.{parsed_of, tokens_read, unless, checked, source_read}
-use Rattle.lazic.specs.Running.{said_of}
-use Rattle.lazic.specs.Answer.{refused, run_refused, values_outcome, tree_outcome, source_outcome, wanted_outcome, outcome_of, IsCaused}
-use Rattle.lazic.specs.Meaning.{HasTokens, HasTree, IsTreeOf, IsAccepted, IsUnread, IsAnswer, Means}
+use Rattle.lazic.specs.Answer.{values_outcome, tree_outcome, source_outcome, wanted_outcome, outcome_of, IsCaused}
+use Rattle.lazic.specs.Meaning.{HasTokens, HasTree, IsAccepted, IsUnread, IsAnswer, Means}
 use Rattle.lazic.specs.Meaning.IsUnread.{stopped, too_high}
 use Rattle.lazic.specs.Meaning.IsAnswer.{too_long, no_tokens, no_tree, no_program, no_values, run_ends}
 use Rattle.lazic.specs.Meaning.Means.{no_request, request}
 use Rattle.lazic.specs.declared.outcome.Outcome.{Outcome}
-use Rattle.lazic.specs.declared.outcome.Outcome.TheVariants.{Usage, ReadFault, Over, Faulty, NoMemory}
+use Rattle.lazic.specs.declared.outcome.Outcome.TheVariants.{ReadFault, Over, Faulty, NoMemory}
 use Rattle.lazic.specs.declared.report.Kept.{Kept}
 use Rattle.lazic.specs.Outcome.{status_of}
 use Rattle.lazic.specs.Report.{kept_of, IsFree, MeansReport}

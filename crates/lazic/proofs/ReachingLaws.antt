@@ -1,6 +1,6 @@
 -- A run that reaches an error is told.
-use Rattle.std.proofs.Common.{inl, inr, ◌⊎◌, ◌≡◌, ℕ, ◌<◌, ◌≤◌, List, length, take, refl, sym, ◌∙◌, ap, subst, arith, Bool, true, false, ℤ}
-use Rattle.std.specs.Prelude.{Option, Some, None, Result, Ok, Err}
+use Rattle.std.proofs.Common.{inl, inr, ◌⊎◌, ◌≡◌, ℕ, ◌<◌, ◌≤◌, List, length, refl, sym, ◌∙◌, ap, subst, arith, ℤ}
+use Rattle.std.specs.Prelude.{Option, Some, Result, Ok, Err}
 use Rattle.std.proofs.lemmas.Bool.{cases_lt}
 use Rattle.std.proofs.lemmas.List.{take_all}
 use Rattle.lv_base.specs.Place.{place_at}
@@ -25,7 +25,7 @@ use Rattle.c_meaning.specs.Program as program
 use Rattle.c_meaning.proofs.Runs.{more_turns}
 use Rattle.source_checks.specs.Refusals.{source_refusal}
 use Rattle.stored_text.proofs.Whole.{run_text_read}
-use Rattle.lazic.specs.Words.{Wanted, request_of}
+use Rattle.lazic.specs.Words.{Wanted}
 use Rattle.lazic.specs.Running.{said_of}
 use Rattle.lazic.specs.Answer.{source_outcome, wanted_outcome, outcome_of, IsCaused}
 use Rattle.lazic.specs.Meaning.{HasTree, IsTreeOf}
@@ -52,9 +52,11 @@ same_error turns more tree model values kind at drawn ends = by_order (cases_lt 
     by_more : IsSpent (program.run turns tree model values) ⊎ (program.run turns tree model values ≡ program.run more tree model values) → IsSpent (program.run turns tree model values) ⊎ (program.run turns tree model values ≡ run.Error kind at drawn)
     by_more (inl spent) = inl spent
     by_more (inr e) = inr (e ∙ ends)
+
     by_fewer : IsSpent (program.run more tree model values) ⊎ (program.run more tree model values ≡ program.run turns tree model values) → IsSpent (program.run turns tree model values) ⊎ (program.run turns tree model values ≡ run.Error kind at drawn)
     by_fewer (inl spent) = absurd (spent_error kind at drawn (program.run more tree model values) ends spent)
     by_fewer (inr e) = inr (sym e ∙ ends)
+
     by_order : (more < turns) ⊎ (turns ≤ more) → IsSpent (program.run turns tree model values) ⊎ (program.run turns tree model values ≡ run.Error kind at drawn)
     by_order (inl less) = by_fewer (more_turns (program.trapping model) tree model values more turns (omega arith))
     by_order (inr no_less) = by_more (more_turns (program.trapping model) tree model values turns more no_less)
@@ -135,10 +137,12 @@ reaches_told read_rose told put_rose words file answer status kept caused t has 
     by_answer s k e (inl is) = reached (s ∙ ap status_of (sym e ∙ is)) (k ∙ ap kept_of (sym e ∙ is)) is
     by_answer s k e (inr (inl is)) = out_of_turns (s ∙ ap status_of (sym e ∙ is.0)) (k ∙ ap kept_of (sym e ∙ is.0)) is.1
     by_answer s k e (inr (inr is)) = limited is.0 is.1 (s ∙ ap status_of (sym e ∙ is.2)) (k ∙ ap kept_of (sym e ∙ is.2)) is.3
+
     by_cause : status ≡ status_of answer → kept ≡ kept_of answer → ((answer ≡ ReadFault) × read_rose) ⊎ ((answer ≡ NoMemory) ⊎ (outcome_of words file ≡ answer)) → IsReachTold words file read_rose put_rose status kept wanted tree values kind at
     by_cause s k (inl e) = read_failed (s ∙ ap status_of e.0) e.1
     by_cause s k (inr (inl e)) = no_memory (s ∙ ap status_of e)
     by_cause s k (inr (inr e)) = by_answer s k e (reach_outcome words file wanted tree values kind at asks)
+
     by_status : (status ≡ 14) ⊎ ((status ≡ 15) ⊎ ((status ≡ status_of answer) × (kept ≡ kept_of answer))) → IsReachTold words file read_rose put_rose status kept wanted tree values kind at
     by_status (inl is) = put_failed is (put is)
     by_status (inr (inl is)) = no_memory is

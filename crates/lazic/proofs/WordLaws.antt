@@ -1,6 +1,5 @@
 -- Where one word or digit is none, the whole is none.
-use Rattle.std.proofs.Common.{◌≡◌, ℕ, ◌+◌, ◌<◌, List, [], ◌∷◌, Option, None, Some, Bor, map, drop, length, refl, sym, ap, ◌∙◌}
-use Rattle.std.proofs.lemmas.List.{drop_more}
+use Rattle.std.proofs.Common.{◌≡◌, ℕ, List, [], ◌∷◌, None, Some, refl, ap, ◌∙◌}
 use Rattle.lazic.specs.Words.{Given, digit_added, number_behind, with_word, with_words}
 
 none_behind : (bytes : List ℕ) → number_behind None bytes ≡ None

@@ -1,5 +1,4 @@
 -- What the program's words give, without where they lie in memory.
-use Rattle.std.specs.Prelude.{Option, Some, None}
 use Rattle.std.specs.Option.{option_map}
 use Rattle.lazic.specs.declared.words.Wanted.{Wanted}
 use Rattle.lazic.specs.declared.words.Given.{Given}

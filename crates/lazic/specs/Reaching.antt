@@ -14,7 +14,6 @@ use Rattle.c_meaning.specs.Program.{run, Reaches}
 use Rattle.stored_text.specs.RunText.{Spells}
 use Rattle.lazic.specs.Words.{Wanted, request_of}
 use Rattle.lazic.specs.Answer.{outcome_of}
-use Rattle.lazic.specs.declared.outcome.Outcome.{Outcome}
 use Rattle.lazic.specs.declared.outcome.Outcome.TheVariants.{Reached}
 use Rattle.lazic.specs.declared.report.Kept.{Kept}
 use Rattle.lazic.specs.declared.report.Kept.TheVariants.{Nothing, Unsafe, Limited}

@@ -95,13 +95,7 @@ fn decide_run<F: Folder>(
 }
 
 // The answer to a run file.
-fn run_file(
-    alloc: Global,
-    source: &[u8],
-    examined: &Examined,
-    bytes: &[u8],
-    turns: u64,
-) -> Outcome
+fn run_file(alloc: Global, source: &[u8], examined: &Examined, bytes: &[u8], turns: u64) -> Outcome
     requires { length source.now ≤ 2 ^ 20 }
     ensures { IsRunOf (tree_of examined.now.typed) turns source.now bytes.now result }
 {

@@ -1,4 +1,4 @@
-use Rattle.std.proofs.Common.{◌≡◌, ◌∙◌}
+use Rattle.std.proofs.Common.{◌∙◌}
 use Rattle.c_typed.specs.Parts.{tree_of}
 use Rattle.lazic.proofs.CauseLaws.{run_caused}
 use Rattle.lazic.proofs.answer.decide_run.Goals as goal

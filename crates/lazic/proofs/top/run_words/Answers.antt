@@ -1,4 +1,4 @@
-use Rattle.std.proofs.Common.{⊎_elim, inl, inr}
+use Rattle.std.proofs.Common.{inl, inr}
 use Rattle.lazic.specs.declared.outcome.Outcome.TheVariants.{NoMemory}
 use Rattle.lazic.proofs.MeaningLaws.{computed_is_meant, meant_is_computed, report_means}
 use Rattle.lazic.proofs.ReachingLaws.{reaches_told}
