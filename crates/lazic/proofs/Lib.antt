@@ -3,4 +3,5 @@ pub mod CauseLaws
 pub mod MeaningLaws
 pub mod NumberLaws
 pub mod ReachingLaws
+pub mod TreeLaws
 pub mod WordLaws

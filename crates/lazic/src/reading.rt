@@ -35,6 +35,8 @@ fn tree(alloc: Global, source: &[u8]) -> Result<Unit, SourceFail>
     ensures read { IfOk result (λ unit. (model : Model) → IsRead (tree_of unit) model) }
 {
     sources_read();
-    let tokens = tokens_of(alloc, source)?;
-    parse(alloc, &tokens)
+    match tokens_of(alloc, source) {
+        Ok(tokens) => parse(alloc, &tokens),
+        Err(fail) => Err(fail),
+    }
 }
