@@ -84,12 +84,11 @@ callees_stand functions before other [] w b h = tt
 callees_stand functions before other (n ∷ ns) w b h =
     let low : n < length (graph_of functions) = ltb-true n (length (graph_of functions)) (and_first (nat_lt n (length (graph_of functions))) (list_all (λ f. nat_lt f (length (graph_of functions))) ns) b) in
     let front : list_all (has before) (slice_index_or (graph_of functions) n []) ≡ true =
-    and_first (list_all (has before) (slice_index_or (graph_of functions) n [])) (callees_first (graph_of functions) (before ++ n ∷ []) ns) h in
-    (
+    and_first (list_all (has before) (slice_index_or (graph_of functions) n [])) (callees_first (graph_of functions) (before ++ n ∷ []) ns) h in (
       may_stand functions before other n (slice_get functions n) refl (omega (arith, low, graph_long functions)) w front,
       callees_stand functions (before ++ n ∷ []) (n ∷ other) ns (within_more before other n w)
-      (and_second (nat_lt n (length (graph_of functions))) (list_all (λ f. nat_lt f (length (graph_of functions))) ns) b)
-      (and_second (list_all (has before) (slice_index_or (graph_of functions) n [])) (callees_first (graph_of functions) (before ++ n ∷ []) ns) h),
+          (and_second (nat_lt n (length (graph_of functions))) (list_all (λ f. nat_lt f (length (graph_of functions))) ns) b)
+          (and_second (list_all (has before) (slice_index_or (graph_of functions) n [])) (callees_first (graph_of functions) (before ++ n ∷ []) ns) h),
     )
 
 -- ---- `main`

@@ -1,4 +1,4 @@
-ghost use Rattle.std.specs.Prelude.{◌≡◌, IfOk, codes, bytes_eq, map, option_map};
+ghost use Rattle.std.specs.Prelude.{◌≡◌, IfOk, codes, bytes_eq, map, option_map, position};
 ghost use Rattle.c_typed.specs.Run as run;
 ghost use Rattle.c_typed.specs.View as v;
 ghost use Rattle.slot_code.specs.Machine as flat;
@@ -18,10 +18,16 @@ fn is_main(function: &Function) -> bool
     function.name.as_bytes() == b"main".as_slice()
 }
 
+fn place_of_main(functions: &[Function]) -> Option<usize>
+    ensures { result ≡ position (λ f. bytes_eq f.name (codes "main")) functions.now }
+{
+    functions.iter().position(|function| is_main(function))
+}
+
 fn main_number(functions: &[Function]) -> Option<usize>
     ensures { result ≡ run.main_number (map v.function_of functions.now) }
 {
-    functions.iter().position(|function| is_main(function))
+    place_of_main(functions)
 }
 
 // A function without a number has no code that could be called.
