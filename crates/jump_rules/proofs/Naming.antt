@@ -218,12 +218,14 @@ looks_more xs g i x enters before next l e t f a n =
     let name : name_at (names_of (jumps xs)) i ≡ g.name = sym (same_bytes g.name (name_at (names_of (jumps xs)) i) (last_has (jumps xs) g.name (λ y. r.enters g.scope.items y.scope) i (jump_of x) (omega (arith, low, jumps_length xs)) l.last)) in
     let is : next ≡ last_below (names_of (jumps xs)) g.name i = n ∙ a i low ∙ ap (λ z. last_below (names_of (jumps xs)) z i) name in
     let e1 : Ends (jumps xs) g.name (λ y. r.enters g.scope.items y.scope) i (last_below (names_of (jumps xs)) g.name i) = ends (jumps xs) g.name (λ y. r.enters g.scope.items y.scope) i (jump_of x) (omega (arith, low, jumps_length xs)) in
-    let e2 : Ends (jumps xs) g.name (λ y. r.enters g.scope.items y.scope) i next = subst (λ (z : Option ℕ). Ends (jumps xs) g.name (λ y. r.enters g.scope.items y.scope) i z) (sym is) e1 in
-    (record {
-      fits = omega (arith, e2.below, low);
-      last = e2.last;
-      rest = e2.rest ∙ or_false (list_any (test_of g) (take i (jumps xs))) ∙ ap (λ z. list_any (test_of g) (take i (jumps xs)) || z) (sym f) ∙ sym (looks_whole xs g i x enters l e t);
-    }, omega (arith, e2.below))
+    let e2 : Ends (jumps xs) g.name (λ y. r.enters g.scope.items y.scope) i next = subst (λ (z : Option ℕ). Ends (jumps xs) g.name (λ y. r.enters g.scope.items y.scope) i z) (sym is) e1 in (
+      record {
+        fits = omega (arith, e2.below, low);
+        last = e2.last;
+        rest = e2.rest ∙ or_false (list_any (test_of g) (take i (jumps xs))) ∙ ap (λ z. list_any (test_of g) (take i (jumps xs)) || z) (sym f) ∙ sym (looks_whole xs g i x enters l e t);
+      },
+      omega (arith, e2.below),
+    )
 
 pub looks_found : (xs : List Jump) (g : Jump) (i : ℕ) (x : Jump) (enters : Bool) → Looks xs g (Some i) → x ≡ get_or xs i x → enters ≡ r.enters g.scope.items x.scope.items → enters ≡ true →
     true ≡ list_any (λ (y : Jump). bytes_eq y.name g.name && r.enters g.scope.items y.scope.items) xs
