@@ -135,7 +135,7 @@ reaches_told read_rose told put_rose words file answer status kept caused t has 
   where
     by_answer : status ≡ status_of answer → kept ≡ kept_of answer → outcome_of words file ≡ answer → IsReachAnswer wanted (file wanted.source) tree values kind at (outcome_of words file) → IsReachTold words file read_rose put_rose status kept wanted tree values kind at
     by_answer s k e (inl is) = reached (s ∙ ap status_of (sym e ∙ is)) (k ∙ ap kept_of (sym e ∙ is)) is
-    by_answer s k e (inr (inl is)) = out_of_turns (s ∙ ap status_of (sym e ∙ is.0)) (k ∙ ap kept_of (sym e ∙ is.0)) is.1
+    by_answer s k e (inr (inl is)) = out_of_turns (s ∙ ap status_of (sym e ∙ is.0)) (k ∙ ap kept_of (sym e ∙ is.0)) is.0 is.1
     by_answer s k e (inr (inr is)) = limited is.0 is.1 (s ∙ ap status_of (sym e ∙ is.2)) (k ∙ ap kept_of (sym e ∙ is.2)) is.3
 
     by_cause : status ≡ status_of answer → kept ≡ kept_of answer → ((answer ≡ ReadFault) × read_rose) ⊎ ((answer ≡ NoMemory) ⊎ (outcome_of words file ≡ answer)) → IsReachTold words file read_rose put_rose status kept wanted tree values kind at
