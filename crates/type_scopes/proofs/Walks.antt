@@ -2,7 +2,7 @@
 use Rattle.std.proofs.Common.{◌≡◌, ℕ, zero, suc, ◌-◌, ◌<◌, ◌≤◌, Bool, true, false, not, ◌&&◌, ◌||◌, if◌then◌else◌, nat_eq, nat_le, nat_lt, List, [], ◌∷◌, ◌++◌, Option, None, Some, length, take, refl, sym, ◌∙◌, ap, subst, arith, slice_get, get_or, bytes_eq, inl, inr}
 use Rattle.std.specs.Option.{option_map}
 use Rattle.std.proofs.lemmas.Bool.{both_ways, cases_Bool, leb-true, le-leb, lt-leb, ltb-true, eqb-true, ne_eqb, or_cases, and_left, and_right, and_parts}
-use Rattle.std.proofs.lemmas.List.{take_all, length-map}
+use Rattle.std.proofs.lemmas.List.{take_all}
 use Rattle.std.proofs.lemmas.Option.{slice_get_within, slice_get_read, slice_get-map}
 use Rattle.std.proofs.lemmas.Slice.Eq.{bytes_eq-Decides}
 use Rattle.c_tree.specs.Tree as t
@@ -93,9 +93,6 @@ module _ (tag : Bool) (name : List ℕ) (at : ℕ) where
   seen_push best (x ∷ es) e = seen_push (if is_visible tag name at x then Some (inner best x) else best) es e
 
   module _ (xs : List Row) where
-    abbrev V : ℕ → Option b.Entry
-    V k = visible_in tag name at None (take k (es_of xs))
-
     seen_step : (k : ℕ) (x : Row) (best : Option b.Entry) → slice_get xs k ≡ Some x → joined (visible_in tag name at None (take (suc k) (es_of xs))) best ≡ joined (visible_in tag name at None (take k (es_of xs))) (joined (seen_one tag name at (entry_of x.entry)) best)
     seen_step k x best h =
         ap (λ ys. joined (visible_in tag name at None ys) best) (taken (es_of xs) (entry_of x.entry) k (at_es xs k x h))
@@ -235,12 +232,6 @@ order_few xs (suc k) h = let r = h k refl in let w = slice_get_within xs k r.0 r
 pub name_few : (n : ℕ) (xs : List Row) (left : ℕ) → Leads by_name n xs left → left ≤ length xs
 name_few n xs zero h = omega arith
 name_few n xs (suc k) h = let r = h k refl in let w = slice_get_within xs k r.0 r.1 in omega (arith, w)
-
-pub viewed : (xs : List Row) (es : List Entry) (count : ℕ) → entries_of xs ≡ es → count ≤ length es → count ≤ length xs
-viewed xs es count v few =
-    let l = length-map xs (λ (r : Row). r.entry) in
-    let m : length (entries_of xs) ≡ length es = ap length v in
-    omega (arith, few, l, m)
 
 abbrev or_entry : Entry → Option Entry → Entry
 or_entry y None = y
