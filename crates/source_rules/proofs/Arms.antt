@@ -24,7 +24,7 @@ use Rattle.typing_rules.specs.Summed as s
 use Rattle.source_rules.specs.Summed as a
 use Rattle.source_rules.specs.Cases as c
 use Rattle.source_rules.specs.declared.cases.Case.{Case}
-use Rattle.source_rules.proofs.Rows.{firsts_more, params_more, declarators_more, statements_more, items_more, cases_more, repeated_more}
+use Rattle.source_rules.proofs.Rows.{firsts_more, params_more, declarators_more, statements_more, items_more, cases_more}
 
 module _ (env : Env) (model : Model) (bodies : List (List ℕ)) (again : List ℕ) where
   pub firsts_step : (b : Bool) (xs : List Listed) (i : ℕ) (x : Listed) (g : Expr) (all own new : Summary) → i < length xs → x ≡ get_or xs i x → g ≡ x.value.value →
@@ -66,22 +66,8 @@ cases_block env model k x n ss m list old new (Ok y) p q h =
     h ∙ ap (λ z. old ++ c.cases_in_all env model k (statements_of z)) q ∙ sym (ap (λ z. old ++ c.cases_in env model k (statement z)) p ∙ ap (λ z. old ++ c.cases_in env model k z) (statement_Block n ss m))
 cases_block env model k x n ss m list old new (Err e) p q h = h
 
-any_seen : (p : r.Case → Bool) (xs : List Case) → list_any (λ (x : Case). p (c.case_of x)) xs ≡ list_any p (c.cases xs)
-any_seen p [] = refl
-any_seen p (y ∷ xs) = ap (λ z. p (c.case_of y) || z) (any_seen p xs)
-
 pub cases_step : (env : Env) (model : Model) (k : Kind) (xs : List Statement) (i : ℕ) (x : Statement) (old all new : List r.Case) → i < length xs → x ≡ get_or xs i x →
     all ≡ old ++ c.cases_in_all env model k (statements_of (take i xs)) → new ≡ all ++ c.cases_in env model k (statement x) → new ≡ old ++ c.cases_in_all env model k (statements_of (take (i + 1) xs))
 cases_step env model k xs i x old all new l e m n =
     n ∙ ap (λ z. z ++ c.cases_in env model k (statement x)) m ∙ append_assoc old (c.cases_in_all env model k (statements_of (take i xs))) (c.cases_in env model k (statement x))
     ∙ ap (λ z. old ++ z) (ap (λ y. c.cases_in_all env model k (statements_of (take i xs)) ++ c.cases_in env model k (statement y)) e ∙ sym (cases_more env model k xs i x l))
-
-pub duplicates_step : (xs : List Case) (i : ℕ) (d : Case) (before : List Case) (test : Bool) (at : ℕ) (all own new : Summary) → i < length xs → before ≡ take i xs →
-    test ≡ list_any (λ (z : Case). r.is_same_case (c.case_of (get_or xs i d)) (c.case_of z)) before → at ≡ r.case_at (c.case_of (get_or xs i d)) →
-    all ≡ summary (c.repeated [] (c.cases (take i xs))) → own ≡ summary (line test fault.DuplicateCase at) → new ≡ both all own → new ≡ summary (c.repeated [] (c.cases (take (i + 1) xs)))
-duplicates_step xs i d before test at all own new l f t p m o n =
-    n ∙ ap (λ z. both z own) m
-    ∙ ap (both (summary (c.repeated [] (c.cases (take i xs)))))
-    (o ∙ ap (λ z. summary (line z fault.DuplicateCase at)) (t ∙ any_seen (r.is_same_case (c.case_of (get_or xs i d))) before ∙ ap (λ z. list_any (r.is_same_case (c.case_of (get_or xs i d))) (c.cases z)) f)
-    ∙ ap (λ z. summary (line (list_any (r.is_same_case (c.case_of (get_or xs i d))) (c.cases (take i xs))) fault.DuplicateCase z)) p)
-    ∙ sym (repeated_more xs i d l)

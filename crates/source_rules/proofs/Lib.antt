@@ -1,4 +1,5 @@
 pub mod Views
 mod Summing
 mod Rows
+mod Past
 mod Arms

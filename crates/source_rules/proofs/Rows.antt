@@ -23,7 +23,7 @@ use Rattle.source_rules.specs.Summed as a
 use Rattle.source_rules.specs.Cases as c
 use Rattle.source_rules.specs.declared.cases.Case.{Case}
 
-take_more : {A : Type 0} (xs : List A) (i : ℕ) (d : A) → i < length xs → take (i + 1) xs ≡ take i xs ++ (get_or xs i d ∷ [])
+pub take_more : {A : Type 0} (xs : List A) (i : ℕ) (d : A) → i < length xs → take (i + 1) xs ≡ take i xs ++ (get_or xs i d ∷ [])
 take_more xs i d b = let e : i + 1 ≡ suc i = omega arith in rw e (take-suc xs i d b)
 
 items_push_behind : (xs : List Item) (x : Item) (is : t.Items) → items_behind is (xs ++ x ∷ []) ≡ t.items_and (items_behind is xs) (item_of x)
@@ -58,12 +58,9 @@ module _ (env : Env) (model : Model) (k : Kind) where
       c.cases_in_all env model k (statements_of (take (i + 1) xs)) ≡ c.cases_in_all env model k (statements_of (take i xs)) ++ c.cases_in env model k (statement (get_or xs i d))
   cases_more xs i d b = ap (λ ys. c.cases_in_all env model k (statements_of ys)) (take_more xs i d b) ∙ ap (c.cases_in_all env model k) (statements_push (take i xs) (get_or xs i d))
 
-map_behind : (xs : List Case) (x : Case) → c.cases (xs ++ x ∷ []) ≡ c.cases xs ++ c.case_of x ∷ []
+pub map_behind : (xs : List Case) (x : Case) → c.cases (xs ++ x ∷ []) ≡ c.cases xs ++ c.case_of x ∷ []
 map_behind [] x = refl
 map_behind (y ∷ xs) x = ap (λ z. c.case_of y ∷ z) (map_behind xs x)
-
-pub cases_push : (xs : List Case) (x : Case) → c.cases (xs ++ x ∷ []) ≡ c.cases xs ++ c.case_of x ∷ []
-cases_push xs x = map_behind xs x
 
 -- one case more
 repeated_behind : (before xs : List r.Case) (x : r.Case) → c.repeated before (xs ++ x ∷ []) ≡ c.repeated before xs ++ line (list_any (r.is_same_case x) (before ++ xs)) fault.DuplicateCase (r.case_at x)

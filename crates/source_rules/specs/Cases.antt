@@ -1,5 +1,6 @@
 -- The cases of a switch (C11 6.8.4.2 p3), in their order.
-use Rattle.std.specs.Prelude.{ℕ, List, [], ◌∷◌, ◌++◌, map, Option, ℤ}
+use Rattle.std.specs.Prelude.{◌≡◌, ℕ, Bool, true, false, ◌||◌, List, [], ◌∷◌, ◌++◌, map, Option, None, Some, ℤ}
+use Rattle.std.specs.Ordering.{int_eq}
 use Rattle.std.specs.List.{list_any}
 use Rattle.std.specs.Option.{option_map}
 use Rattle.lv_base.specs.declared.kind.Kind.{Kind}
@@ -48,3 +49,31 @@ module _ (env : Env) (model : Model) where
 abbrev pub repeated : List r.Case → List r.Case → List Broken
 repeated before [] = []
 repeated before (x ∷ xs) = line (list_any (is_same_case x) before) fault.DuplicateCase (case_at x) ++ repeated (before ++ x ∷ []) xs
+
+-- ---- The cases so far, by their values and whether a `default` is among them
+
+abbrev pub values_of : r.Case → List ℤ
+values_of (r.aCase None at) = []
+values_of (r.aCase (Some v) at) = v ∷ []
+values_of (r.aDefault at) = []
+
+abbrev pub has_value : List ℤ → ℤ → Bool
+has_value vs v = list_any (int_eq v) vs
+
+abbrev pub has_default : Bool → r.Case → Bool
+has_default before (r.aCase v at) = before
+has_default before (r.aDefault at) = true
+
+-- the same case is among them
+abbrev pub stands : List ℤ → Bool → r.Case → Bool
+stands vs default (r.aCase None at) = false
+stands vs default (r.aCase (Some v) at) = has_value vs v
+stands vs default (r.aDefault at) = default
+
+-- the values before and these, in whatever order
+abbrev pub Gains : (before added after : List ℤ) → Type 0
+Gains before added after = (v : ℤ) → has_value after v ≡ (has_value before v || has_value added v)
+
+-- these values and this `default` show which cases are among these
+abbrev pub Shows : List ℤ → Bool → List r.Case → Type 0
+Shows vs default before = (x : r.Case) → stands vs default x ≡ list_any (is_same_case x) before

@@ -1,5 +1,4 @@
-ghost use Rattle.std.specs.Prelude.{◌≡◌, ◌++◌, IfOk, []};
-ghost use Rattle.std.specs.List.{list_any};
+ghost use Rattle.std.specs.Prelude.{◌≡◌, ◌++◌, IfOk, [], false};
 ghost use Rattle.c_tree.specs.View as v;
 ghost use Rattle.c_meaning.specs.Kinds as k;
 ghost use Rattle.c_meaning.specs.Rules as r;
@@ -13,6 +12,7 @@ use c_tree::{Expr, Head, Statement};
 use lv_base::{Kind, Memory, Model, SourceFault, convert};
 use rule_lines::{Found, both, line, none};
 use std::alloc::Global;
+use std::collections::HashSet;
 use type_constants::constant;
 use type_kinds::{kind_of, promoted};
 use type_scopes::{Env, type_of};
@@ -31,33 +31,6 @@ fn case_at(case: Case) -> u32
     match case {
         Case::Value(_, at) => at,
         Case::Default(at) => at,
-    }
-}
-
-fn is_same_value(x: Option<i128>, y: Option<i128>) -> bool
-    ensures { result ≡ r.is_same_value x y }
-{
-    match x {
-        None => false,
-        Some(x) => match y {
-            None => false,
-            Some(y) => x <= y && y <= x,
-        },
-    }
-}
-
-fn is_same_case(x: Case, y: Case) -> bool
-    ensures { result ≡ r.is_same_case (c.case_of x) (c.case_of y) }
-{
-    match x {
-        Case::Value(x, _) => match y {
-            Case::Value(y, _) => is_same_value(x, y),
-            Case::Default(_) => false,
-        },
-        Case::Default(_) => match y {
-            Case::Value(_, _) => false,
-            Case::Default(_) => true,
-        },
     }
 }
 
@@ -130,23 +103,64 @@ fn cases_in_all(
     Ok(())
 }
 
-fn stands_among(case: Case, before: &[Case]) -> bool
-    ensures { result ≡ list_any (λ (x : Case). r.is_same_case (c.case_of case) (c.case_of x)) before.now }
+// The cases so far, for look-ups: their values, and whether a `default` is among them.
+#[derive(Drop)]
+struct Past {
+    values: HashSet<i128>,
+    has_default: bool,
+}
+
+fn nothing_past(alloc: Global) -> Past
+    ensures values { result.values.keys ≡ [] }
+    ensures default { result.has_default ≡ false }
 {
-    before.iter().any(|earlier| is_same_case(case, *earlier))
+    Past {
+        values: HashSet::new(alloc),
+        has_default: false,
+    }
+}
+
+// Whether the same case is among those so far.
+fn is_past(past: &Past, case: Case) -> bool
+    ensures { result ≡ c.stands past.now.values.keys past.now.has_default (c.case_of case) }
+{
+    match case {
+        Case::Value(None, _) => false,
+        Case::Value(Some(value), _) => past.values.contains(&value),
+        Case::Default(_) => past.has_default,
+    }
+}
+
+// With one more case.
+fn keep_case(past: &mut Past, case: Case) -> Result<(), Memory>
+    ensures values { IfOk result (λ _. c.Gains past.old.values.keys (c.values_of (c.case_of case)) past.new.values.keys) }
+    ensures default { IfOk result (λ _. past.new.has_default ≡ c.has_default past.old.has_default (c.case_of case)) }
+{
+    match case {
+        Case::Value(None, _) => {}
+        Case::Value(Some(value), _) => {
+            past.values.insert(value)?;
+        }
+        Case::Default(_) => past.has_default = true,
+    }
+    Ok(())
 }
 
 /// Two cases of one value, or two defaults: each later one is broken (C11 6.8.4.2 p3).
+///
+/// Fails with `Memory` where there is no more memory for the values.
 #[tactic(auto, using(std::proofs::lemmas::List::take_all))]
-pub fn duplicates(cases: &[Case]) -> Found
-    ensures { lines.found_of result ≡ summary (c.repeated [] (c.cases cases.now)) }
+pub fn duplicates(alloc: Global, cases: &[Case]) -> Result<Found, Memory>
+    ensures { IfOk result (λ x. lines.found_of x ≡ summary (c.repeated [] (c.cases cases.now))) }
 {
+    let mut past = nothing_past(alloc);
     let mut all = none();
-    for (i, case) in cases.iter().enumerate() {
-        let test = stands_among(*case, &cases[..i]);
+    for case in cases {
+        let test = is_past(&past, *case);
         all = both(all, line(test, SourceFault::DuplicateCase, case_at(*case)));
+        keep_case(&mut past, *case)?;
     }
-    all
+    Ok(all)
 }
 
 /// The cases of the switch with this head and body.

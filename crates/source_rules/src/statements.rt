@@ -104,7 +104,7 @@ fn switch_found(
     ensures { IfOk result (λ r. lines.found_of r ≡ a.switch_found (seen.env_of env.now) model (v.head_of head.now) (v.statement statement.now)) }
 {
     let cases = cases_of(alloc, env, model, head, statement)?;
-    Ok(duplicates(&cases))
+    duplicates(alloc, &cases)
 }
 
 // What a statement breaks, in a function whose result has this kind, or which has none.

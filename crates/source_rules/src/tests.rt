@@ -115,6 +115,6 @@ fn a_switch_has_its_cases_in_their_order(rt: HostRuntime) -> Result<(), Fail> {
     assert_eq!(rt; cases.len(), 2);
     assert!(rt; matches!(cases.first(), Some(Case::Value(Some(4294967295), 27))));
     assert!(rt; matches!(cases.last(), Some(Case::Default(38))));
-    assert_eq!(rt; first(duplicates(&cases)), (0, 0));
+    assert_eq!(rt; first(duplicates(alloc, &cases)?), (0, 0));
     Ok(())
 }

@@ -4,6 +4,9 @@ use Rattle.rule_lines.specs.Found.{summary}
 use Rattle.source_rules.specs.Cases as c
 use Rattle.source_rules.proofs.cases.duplicates.Given as goal
 
--- the sum of those so far
-abbrev pub invariant-loop-i : goal.invariant-loop-i
-invariant-loop-i l = found_of l.all ≡ summary (c.repeated [] (c.cases (take l.i l.cases)))
+-- the sum of those so far, and what shows them
+abbrev pub invariant-loop-case : goal.invariant-loop-case
+invariant-loop-case l = record {
+  all : found_of l.all ≡ summary (c.repeated [] (c.cases (take l.case-index l.cases)));
+  past : c.Shows l.past.values.keys l.past.has_default (c.cases (take l.case-index l.cases));
+}
