@@ -1,3 +1,3 @@
 mod Orders
-mod Small
+mod Tried
 mod Whole
