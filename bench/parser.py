@@ -2,7 +2,8 @@
 """Times the parser, through the built program, on generated sources near the limits, and prints time and memory of each.
 
 Run it at the root after `rt run` in crates/lazic. Each source is replayed five times; the least user time counts, and the
-most memory that was resident. Each source has a tree that no thin program has, so that the answer comes right behind it.
+most memory that was resident. Most of the sources have no `main`, so that the answer comes from the layer behind the parser,
+and its time is that of both.
 """
 import os, resource, subprocess, sys, tempfile
 

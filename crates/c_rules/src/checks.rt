@@ -93,7 +93,7 @@ fn add_function(
 {
     let walk = walk_body(alloc, function.result, &function.body)?;
     let checked = values_checked(alloc, function)?;
-    let jumps = jumps_found(&walk.labels, &walk.gotos);
+    let jumps = jumps_found(alloc, &walk.labels, &walk.gotos)?;
     let own = both(both(jumps, walk.found), checked.found);
     let function = number_of(number)?;
     add_labels(alloc, &mut gathered.labels, function, &walk.labels)?;

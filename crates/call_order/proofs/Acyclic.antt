@@ -1,11 +1,11 @@
 -- Where each function is taken behind those that it calls there is no cycle.
-use Rattle.std.proofs.Common.{◌≡◌, ℕ, zero, suc, ◌<◌, ◌≤◌, ◌+◌, Bool, true, false, ◌||◌, List, [], ◌∷◌, ◌++◌, length, get_or, refl, ap, ◌∙◌, sym, subst, arith, append_assoc}
-use Rattle.std.specs.Prelude.{nat_eq, nat_lt, ◌&&◌, not}
+use Rattle.std.proofs.Common.{◌≡◌, ℕ, zero, suc, ◌<◌, ◌≤◌, ◌+◌, Bool, true, false, ◌||◌, List, [], ◌∷◌, ◌++◌, get_or, refl, ap, ◌∙◌, sym, subst, arith, append_assoc}
+use Rattle.std.specs.Prelude.{nat_eq, not}
 use Rattle.std.specs.List.{list_any, list_all}
 use Rattle.std.proofs.lemmas.Bool.{eqb-true}
 use Rattle.c_typed.specs.Rules.{leads, has}
 use Rattle.call_order.specs.Order.{bit, times, callees_first}
-use Rattle.call_order.proofs.Tests.{and_first, and_second, or_first, or_second, true_is_not_false, all_in, all_of, any_more, has_head}
+use Rattle.call_order.proofs.Bools.{and_first, and_second, or_first, or_second, true_is_not_false, all_in, all_of, has_head}
 
 module _ (graph : List (List ℕ)) where
   -- what these functions call is among them

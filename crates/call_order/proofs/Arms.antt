@@ -1,5 +1,5 @@
 -- What arms and loops give, by the answers of the calls in them.
-use Rattle.std.proofs.Common.{◌≡◌, ℕ, zero, suc, ◌<◌, ◌≤◌, ◌+◌, Bool, true, false, ◌||◌, List, [], ◌∷◌, ◌++◌, length, map, take, drop, get_or, set, append_assoc, append-nil, Option, Result, Ok, Err, refl, ap, ◌∙◌, sym, subst, Vec, Global, arith, add-one, zero-add}
+use Rattle.std.proofs.Common.{◌≡◌, ℕ, zero, suc, ◌<◌, ◌≤◌, ◌+◌, Bool, true, false, ◌||◌, List, [], ◌∷◌, ◌++◌, length, map, take, drop, get_or, set, append_assoc, append-nil, Option, Result, Ok, Err, refl, ap, ◌∙◌, sym, subst, Vec, Global, arith, add-one}
 use Rattle.std.specs.Prelude.{IfOk, Box, nat_eq, ◌&&◌}
 use Rattle.std.specs.List.{list_any, list_all}
 use Rattle.std.proofs.lemmas.List.{drop_more, length-map, length-take}
@@ -21,10 +21,12 @@ use Rattle.call_order.specs.declared.calls.CallAt.{CallAt}
 use Rattle.call_order.specs.Seen.{calls, call_of, targets, graph_of, all_calls}
 use Rattle.call_order.specs.Layers as l
 use Rattle.call_order.specs.Peel as p
+use Rattle.call_order.specs.Apart as a
 use Rattle.rule_lines.specs.declared.lines.Found.{Found}
 use Rattle.rule_lines.specs.Seen.{found_of}
 use Rattle.call_order.proofs.Leading.{cycles_found, cycles_none}
 use Rattle.call_order.proofs.Peeling.{whole_acyclic}
+use Rattle.call_order.proofs.Confirming.{first_is}
 
 -- ---- Calls
 
@@ -145,10 +147,10 @@ graphs (x ∷ xs) = ap (λ z. z ∷ graph_of xs) (targets_are x.items) ∙ ap (�
 pub next_arm : (graph : List (List ℕ)) (old new : p.Taking) (b : Bool) → b ≡ p.is_whole old.taken → new ≡ p.unless_whole b graph old → new ≡ p.next_round graph old
 next_arm graph old new b e n = n ∙ ap (λ z. p.unless_whole z graph old) e
 
-pub none_found : (xs : List (Vec CallAt Global)) (w : p.Taking) (b : Bool) (found : Summary) → w ≡ p.all_rounds (graph_of xs) → b ≡ p.is_whole w.taken → b ≡ true → found ≡ summary [] →
+pub none_found : (xs : List (Vec CallAt Global)) (guess : List ℕ) (w : p.Taking) (b : Bool) (found : Summary) → w ≡ p.guided (graph_of xs) guess → b ≡ p.is_whole w.taken → b ≡ true → found ≡ summary [] →
     l.IsBounded (graph_of xs) → found ≡ summary (r.recursion (graph_of xs) 0 (all_calls xs))
-none_found xs w b found e i t n h =
-    n ∙ ap summary (sym (nothing (whole_acyclic (graph_of xs) h (ap (λ (z : p.Taking). p.is_whole z.taken) (sym e) ∙ sym i ∙ t))))
+none_found xs guess w b found e i t n h =
+    n ∙ ap summary (sym (nothing (whole_acyclic (graph_of xs) guess h (ap (λ (z : p.Taking). p.is_whole z.taken) (sym e) ∙ sym i ∙ t))))
   where
     nothing : l.HasNoCycle (graph_of xs) → r.recursion (graph_of xs) 0 (all_calls xs) ≡ []
     nothing = subst (λ (z : List (List ℕ)). l.HasNoCycle z → r.recursion z 0 (all_calls xs) ≡ []) (sym (graphs xs)) (cycles_none (all_calls xs))
@@ -182,3 +184,74 @@ comma_arm x vs q list last old mid new (Err y) is a b m n = n
 pub graph_length : (xs : List (Vec CallAt Global)) → length (graph_of xs) ≡ length xs
 graph_length [] = refl
 graph_length (x ∷ xs) = ap suc (graph_length xs)
+
+-- ---- Functions in the order of a guess
+
+graph_at : (xs : List (Vec CallAt Global)) (i : ℕ) (d : Vec CallAt Global) → i < length xs → get_or (graph_of xs) i [] ≡ targets (get_or xs i d).items
+graph_at [] i d h = absurd (omega (arith, h))
+graph_at (x ∷ xs) zero d h = refl
+graph_at (x ∷ xs) (suc i) d h = graph_at xs i d (omega (arith, h))
+
+pub visits_step : (graph : List (List ℕ)) (order : List ℕ) (i f : ℕ) (st mid all : p.Taking) → i < length order → f ≡ get_or order i f →
+    p.visits graph (drop i order) st ≡ all → mid ≡ p.visit_at graph f st → p.visits graph (drop (i + 1) order) mid ≡ all
+visits_step graph order i f st mid all h e s v =
+    ap (p.visits graph (drop (i + 1) order)) (v ∙ ap (λ z. p.visit_at graph z st) e) ∙ ap (λ z. p.visits graph z st) (sym (drop_more order i f h)) ∙ s
+
+pub marks_step : (cs : List CallAt) (i : ℕ) (c : CallAt) (marks mid all : List Bool) → i < length cs → c ≡ get_or cs i c →
+    a.marked_all marks (targets (drop i cs)) ≡ all → mid ≡ p.marked marks c.to → a.marked_all mid (targets (drop (i + 1) cs)) ≡ all
+marks_step cs i c marks mid all h e s v =
+    ap (λ z. a.marked_all z (targets (drop (i + 1) cs))) (v ∙ ap (λ (z : CallAt). p.marked marks z.to) e) ∙ ap (λ z. a.marked_all marks (targets z)) (sym (drop_more cs i c h)) ∙ s
+
+-- ---- Calls in parts
+
+all_of_calls : (q : r.Call → Bool) (cs : List CallAt) → list_all (λ (c : CallAt). q (call_of c)) cs ≡ list_all q (calls cs)
+all_of_calls q [] = refl
+all_of_calls q (c ∷ cs) = ap (λ z. q (call_of c) && z) (all_of_calls q cs)
+
+any_of_calls : (q : r.Call → Bool) (cs : List CallAt) → list_any (λ (c : CallAt). q (call_of c)) cs ≡ list_any q (calls cs)
+any_of_calls q [] = refl
+any_of_calls q (c ∷ cs) = ap (λ z. q (call_of c) || z) (any_of_calls q cs)
+
+calls_at : (xs : List (Vec CallAt Global)) (i : ℕ) (d : Vec CallAt Global) → i < length xs → get_or (all_calls xs) i [] ≡ calls (get_or xs i d).items
+calls_at [] i d h = absurd (omega (arith, h))
+calls_at (x ∷ xs) zero d h = refl
+calls_at (x ∷ xs) (suc i) d h = calls_at xs i d (omega (arith, h))
+
+pub made_arm : (xs : List (Vec CallAt Global)) (i : ℕ) (x : Vec CallAt Global) (ys : List CallAt) (at to : ℕ) (test : Bool) → i < length xs → x ≡ get_or xs i x → ys ≡ x.items →
+    test ≡ list_any (λ (c : CallAt). a.is_call at to (call_of c)) ys → test ≡ a.is_made at to i (all_calls xs)
+made_arm xs i x ys at to test h e y t =
+    t ∙ ap (list_any (λ (c : CallAt). a.is_call at to (call_of c))) y ∙ any_of_calls (a.is_call at to) x.items ∙ ap (λ (z : Vec CallAt Global). list_any (a.is_call at to) (calls z.items)) e
+    ∙ ap (list_any (a.is_call at to)) (sym (calls_at xs i x h))
+
+-- the test of a function, and those of the functions behind it
+pub apart_rest : (parts : List ℕ) (at : ℕ) (xs : List (Vec CallAt Global)) (i : ℕ) (x : Vec CallAt Global) (ys : List CallAt) (own : ℕ) (test : Bool) → i < length xs → x ≡ get_or xs i x → ys ≡ x.items →
+    own ≡ a.part_of parts i → test ≡ list_all (λ (c : CallAt). a.is_apart parts at own (call_of c)) ys →
+    a.all_apart parts at i (all_calls (drop i xs)) ≡ (test && a.all_apart parts at (i + 1) (all_calls (drop (i + 1) xs)))
+apart_rest parts at xs i x ys own test h e y o t =
+    ap (λ z. a.all_apart parts at i (all_calls z)) (drop_more xs i x h)
+    ∙ ap (λ z. z && a.all_apart parts at (i + 1) (all_calls (drop (i + 1) xs)))
+    (sym (t ∙ ap (list_all (λ (c : CallAt). a.is_apart parts at own (call_of c))) y ∙ all_of_calls (a.is_apart parts at own) x.items
+    ∙ ap (λ z. list_all (a.is_apart parts at z) (calls x.items)) o ∙ ap (λ (z : Vec CallAt Global). list_all (a.is_apart parts at (a.part_of parts i)) (calls z.items)) e))
+
+pub apart_step : (parts : List ℕ) (at : ℕ) (xs : List (Vec CallAt Global)) (i : ℕ) (x : Vec CallAt Global) (ys : List CallAt) (own : ℕ) (test whole : Bool) → i < length xs → x ≡ get_or xs i x → ys ≡ x.items →
+    own ≡ a.part_of parts i → test ≡ list_all (λ (c : CallAt). a.is_apart parts at own (call_of c)) ys →
+    a.all_apart parts at i (all_calls (drop i xs)) ≡ whole → test ≡ true → a.all_apart parts at (i + 1) (all_calls (drop (i + 1) xs)) ≡ whole
+apart_step parts at xs i x ys own test whole h e y o t s b =
+    ap (λ z. z && a.all_apart parts at (i + 1) (all_calls (drop (i + 1) xs))) (sym b) ∙ sym (apart_rest parts at xs i x ys own test h e y o t) ∙ s
+
+pub apart_stop : (parts : List ℕ) (at : ℕ) (xs : List (Vec CallAt Global)) (i : ℕ) (x : Vec CallAt Global) (ys : List CallAt) (own : ℕ) (test whole : Bool) → i < length xs → x ≡ get_or xs i x → ys ≡ x.items →
+    own ≡ a.part_of parts i → test ≡ list_all (λ (c : CallAt). a.is_apart parts at own (call_of c)) ys →
+    a.all_apart parts at i (all_calls (drop i xs)) ≡ whole → test ≡ false → false ≡ whole
+apart_stop parts at xs i x ys own test whole h e y o t s b =
+    ap (λ z. z && a.all_apart parts at (i + 1) (all_calls (drop (i + 1) xs))) (sym b) ∙ sym (apart_rest parts at xs i x ys own test h e y o t) ∙ s
+
+-- a call that is shown to be the first on a cycle
+pub confirmed_arm : (xs : List (Vec CallAt Global)) (parts : List ℕ) (at to caller : ℕ) (marks : List Bool) (ap1 made mark : Bool) (found : Summary) → ap1 ≡ a.all_apart parts at 0 (all_calls xs) → ap1 ≡ true →
+    made ≡ a.is_made at to caller (all_calls xs) → made ≡ true → a.AreReached (graph_of xs) to marks → mark ≡ get_or marks caller false → mark ≡ true → found ≡ summary (line true fault.Recursion at) →
+    l.IsBounded (graph_of xs) → found ≡ summary (r.recursion (graph_of xs) 0 (all_calls xs))
+confirmed_arm xs parts at to caller marks ap1 made mark found p pt m mt re k kt n b =
+    n ∙ shown b (re caller (sym k ∙ kt))
+  where
+    shown : l.IsBounded (graph_of xs) → a.Reaches (graph_of xs) to caller → summary (line true fault.Recursion at) ≡ summary (r.recursion (graph_of xs) 0 (all_calls xs))
+    shown = subst (λ (z : List (List ℕ)). l.IsBounded z → a.Reaches z to caller → summary (line true fault.Recursion at) ≡ summary (r.recursion z 0 (all_calls xs))) (sym (graphs xs))
+        (λ c d. first_is (all_calls xs) parts at to caller c (sym p ∙ pt) (sym m ∙ mt) d)

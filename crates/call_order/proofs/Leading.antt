@@ -1,14 +1,14 @@
 -- Layers lead to their goal, and the calls found by them are those of the rule.
 use Rattle.std.proofs.Common.{◌≡◌, ℕ, zero, suc, ◌<◌, ◌+◌, Bool, true, false, ◌||◌, List, [], ◌∷◌, ◌++◌, length, map, get_or, refl, ap, ◌∙◌, sym, arith, zero-add, add-zero, add-one, length-append}
 use Rattle.std.specs.Prelude.{nat_eq, nat_lt, not}
-use Rattle.std.specs.List.{list_any, list_all}
+use Rattle.std.specs.List.{list_all}
 use Rattle.std.proofs.lemmas.Bool.{ltb-true, ltb-false}
 use Rattle.std.proofs.lemmas.List.{get_or_append_left, get_or_push, get_or-map, length-map}
 use Rattle.lv_base.specs.declared.fault.SourceFault.TheVariants as fault
 use Rattle.c_run.specs.Breaking.{Broken, line}
 use Rattle.c_typed.specs.Rules.{Call, leads, recursion, recursion_in}
 use Rattle.call_order.specs.Layers as l
-use Rattle.call_order.proofs.Tests.{and_first, and_second, and_both, all_at, any_same, not_true}
+use Rattle.call_order.proofs.Bools.{and_first, and_second, and_both, all_at, any_same, not_true}
 
 pub length_first : (n goal : ℕ) → length (l.first_layer n goal) ≡ n
 length_first zero goal = refl

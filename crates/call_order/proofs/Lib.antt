@@ -1,7 +1,8 @@
 pub mod Views
-mod Tests
+mod Bools
 pub mod Leading
 mod Ranks
 mod Acyclic
 mod Peeling
+mod Confirming
 pub mod Arms

@@ -1,14 +1,14 @@
 -- Functions that are taken round by round, each behind those that it calls, are an order of all where there is no cycle.
-use Rattle.std.proofs.Common.{◌≡◌, ◌≢◌, ◌⊎◌, inl, inr, ℕ, zero, suc, ◌<◌, ◌≤◌, ◌+◌, Bool, true, false, ◌||◌, List, [], ◌∷◌, ◌++◌, length, get_or, set, replicate, refl, ap, ◌∙◌, sym, subst, arith, append_assoc, append-nil, length-append, length-set, get_or-set_same, get_or-set_other, eq-eqb, zero-add}
+use Rattle.std.proofs.Common.{◌≡◌, ◌≢◌, ℕ, zero, suc, ◌<◌, ◌≤◌, ◌+◌, Bool, true, false, ◌||◌, if◌then◌else◌, List, [], ◌∷◌, ◌++◌, length, get_or, set, replicate, refl, ap, ◌∙◌, sym, subst, arith, append_assoc, append-nil, length-append, length-set, get_or-set_same, get_or-set_other, zero-add}
 use Rattle.std.specs.Prelude.{nat_eq, nat_lt, ◌&&◌, not}
 use Rattle.std.specs.List.{list_any, list_all}
 use Rattle.std.proofs.lemmas.Bool.{ltb-true, ltb-false, lt-ltb, eqb-true, eqb-false}
 use Rattle.std.proofs.lemmas.List.{get_or-replicate, get_or_at}
 use Rattle.c_typed.specs.Rules.{has}
-use Rattle.call_order.specs.Order.{IsOrder, bit, times, callees_first}
+use Rattle.call_order.specs.Order.{bit, times, callees_first}
 use Rattle.call_order.specs.Layers.{IsBounded, HasNoCycle}
-use Rattle.call_order.specs.Peel.{Taking, start, is_ready, marked, take_if, visit, round, is_whole, unless_whole, next_round, rounds, all_rounds, order_of, WholeAcyclic, OrdersFound}
-use Rattle.call_order.proofs.Tests.{and_first, and_second, and_both, true_is_not_false, all_at, all_in, all_of, all_append, not_true}
+use Rattle.call_order.specs.Peel.{Taking, start, is_ready, take_if, visit, round, is_whole, unless_whole, next_round, rounds, finish_if, finished, visit_at, visits, guided, WholeAcyclic, OrdersFound}
+use Rattle.call_order.proofs.Bools.{and_first, and_second, and_both, true_is_not_false, all_at, all_in, all_of, all_append}
 use Rattle.call_order.proofs.Acyclic.{none_back}
 use Rattle.call_order.proofs.Ranks.{rank, rank_less, rank_le, rank_some, callee_there}
 
@@ -138,14 +138,17 @@ module _ (graph : List (List ℕ)) (bounded : IsBounded graph) where
     behind = refl;
   }
 
-  rounds_peeled : (n : ℕ) → Peeled graph (rounds graph n (start (length graph)))
-  rounds_peeled zero = start_peeled
-  rounds_peeled (suc n) = by (rounds_peeled n) (is_whole (rounds graph n (start (length graph))).taken) refl
+  visits_peeled : (fs : List ℕ) (st : Taking) → Peeled graph st → Peeled graph (visits graph fs st)
+  visits_peeled [] st p = p
+  visits_peeled (f ∷ fs) st p = visits_peeled fs (visit_at graph f st) (by (nat_lt f (length graph)) refl)
     where
-      by : Peeled graph (rounds graph n (start (length graph))) → (b : Bool) → b ≡ is_whole (rounds graph n (start (length graph))).taken →
-          Peeled graph (unless_whole (is_whole (rounds graph n (start (length graph))).taken) graph (rounds graph n (start (length graph))))
-      by p true e = subst (λ (z : Bool). Peeled graph (unless_whole z graph (rounds graph n (start (length graph))))) e p
-      by p false e = subst (λ (z : Bool). Peeled graph (unless_whole z graph (rounds graph n (start (length graph))))) e (round_peeled [] graph (rounds graph n (start (length graph))) refl p)
+      by : (b : Bool) → b ≡ nat_lt f (length graph) → Peeled graph (if nat_lt f (length graph) then visit f (get_or graph f []) st else st)
+      by true e =
+          subst (λ (z : Bool). Peeled graph (if z then visit f (get_or graph f []) st else st)) e (visit_is st f p (ltb-true f (length graph) (sym e)))
+      by false e = subst (λ (z : Bool). Peeled graph (if z then visit f (get_or graph f []) st else st)) e p
+
+  guided_peeled : (guess : List ℕ) → Peeled graph (guided graph guess)
+  guided_peeled guess = visits_peeled guess (start (length graph)) start_peeled
 
   module _ (acyclic : HasNoCycle graph) where
     -- each function of at most this rank is taken
@@ -203,15 +206,24 @@ module _ (graph : List (List ℕ)) (bounded : IsBounded graph) where
             subst (λ (z : Bool). After (k + 1) (unless_whole z graph st)) e
             (round_is k [] graph st refl a.peeled a.reached (λ f j. absurd (omega (arith, j))))
 
-    rounds_are : (n : ℕ) → After n (rounds graph n (start (length graph)))
-    rounds_are zero = record { peeled = start_peeled; reached = λ f h le. absurd (omega (arith, le, rank_some graph bounded f h)) }
-    rounds_are (suc n) =
-        subst (λ (z : ℕ). After z (next_round graph (rounds graph n (start (length graph))))) (let e : n + 1 ≡ suc n = omega arith in e)
-        (next_is n (rounds graph n (start (length graph))) (rounds_are n))
+    rounds_are : (n : ℕ) (st : Taking) → Peeled graph st → After n (rounds graph n st)
+    rounds_are zero st p = record { peeled = p; reached = λ f h le. absurd (omega (arith, le, rank_some graph bounded f h)) }
+    rounds_are (suc n) st p =
+        subst (λ (z : ℕ). After z (next_round graph (rounds graph n st))) (let e : n + 1 ≡ suc n = omega arith in e)
+        (next_is n (rounds graph n st) (rounds_are n st p))
+
+    finished_is : (st : Taking) → Peeled graph st → After (length graph) (finished graph st)
+    finished_is st p = by (is_whole st.taken) refl
+      where
+        by : (b : Bool) → b ≡ is_whole st.taken → After (length graph) (finish_if (is_whole st.taken) graph st)
+        by true e =
+            subst (λ (z : Bool). After (length graph) (finish_if z graph st)) e
+            (record { peeled = p; reached = λ f h le. all_at (λ t. t) st.taken f false (sym e) (omega (arith, h, p.count)) })
+        by false e = subst (λ (z : Bool). After (length graph) (finish_if z graph st)) e (rounds_are (length graph) st p)
 
 pub orders_found : OrdersFound
-orders_found graph bounded acyclic =
-    let a = rounds_are graph bounded acyclic (length graph) in
+orders_found graph guess bounded acyclic =
+    let a = finished_is graph bounded acyclic (guided graph guess) (guided_peeled graph bounded guess) in
     record {
       below = a.peeled.below;
       once = λ f h. a.peeled.once f h ∙ ap bit (a.reached f h (rank_le graph bounded f));
@@ -219,16 +231,16 @@ orders_found graph bounded acyclic =
     }
 
 pub whole_acyclic : WholeAcyclic
-whole_acyclic graph bounded whole f h =
-    none_back graph (length graph) [] (order_of graph) (λ x k. absurd (true_is_not_false false k refl)) p.behind once f
-    (stands f (order_of graph) (p.once f h ∙ ap bit (all_at (λ t. t) (all_rounds graph).taken f false whole (omega (arith, h, p.count)))))
+whole_acyclic graph guess bounded whole f h =
+    none_back graph (length graph) [] (guided graph guess).order (λ x k. absurd (true_is_not_false false k refl)) p.behind once f
+    (stands f (guided graph guess).order (p.once f h ∙ ap bit (all_at (λ t. t) (guided graph guess).taken f false whole (omega (arith, h, p.count)))))
   where
-    p : Peeled graph (all_rounds graph)
-    p = rounds_peeled graph bounded (length graph)
+    p : Peeled graph (guided graph guess)
+    p = guided_peeled graph bounded guess
 
-    once : (x : ℕ) → times x (order_of graph) ≤ 1
+    once : (x : ℕ) → times x (guided graph guess).order ≤ 1
     once x = by (nat_lt x (length graph)) refl
       where
-        by : (b : Bool) → b ≡ nat_lt x (length graph) → times x (order_of graph) ≤ 1
-        by true e = omega (arith, p.once x (ltb-true x (length graph) (sym e)), bit_small (get_or (all_rounds graph).taken x false))
-        by false e = omega (arith, stands_not (length graph) x (order_of graph) p.below (ltb-false x (length graph) (sym e)))
+        by : (b : Bool) → b ≡ nat_lt x (length graph) → times x (guided graph guess).order ≤ 1
+        by true e = omega (arith, p.once x (ltb-true x (length graph) (sym e)), bit_small (get_or (guided graph guess).taken x false))
+        by false e = omega (arith, stands_not (length graph) x (guided graph guess).order p.below (ltb-false x (length graph) (sym e)))

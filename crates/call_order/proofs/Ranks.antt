@@ -1,12 +1,12 @@
 -- How many functions a function leads to. Without a cycle it is less for those that are called.
-use Rattle.std.proofs.Common.{◌≡◌, ◌⊎◌, inl, inr, ℕ, zero, suc, ◌<◌, ◌≤◌, ◌+◌, Bool, true, false, ◌||◌, List, [], ◌∷◌, length, get_or, refl, ap, ◌∙◌, sym, subst, arith, eq-eqb}
+use Rattle.std.proofs.Common.{◌≡◌, ◌⊎◌, inl, inr, ℕ, zero, suc, ◌<◌, ◌≤◌, ◌+◌, ◌-◌, Bool, true, false, ◌||◌, List, [], length, get_or, refl, ap, ◌∙◌, sym, subst, arith, eq-eqb}
 use Rattle.std.specs.Prelude.{nat_eq, nat_lt, not}
 use Rattle.std.specs.List.{list_any, list_all}
 use Rattle.std.proofs.lemmas.Bool.{ltb-true, ltb-false}
 use Rattle.c_typed.specs.Rules.{leads, has}
 use Rattle.call_order.specs.Order.{bit}
 use Rattle.call_order.specs.Layers.{IsBounded, HasNoCycle}
-use Rattle.call_order.proofs.Tests.{or_first, or_second, true_is_not_false, all_at, any_same, any_more, any_in, all_in, not_true}
+use Rattle.call_order.proofs.Bools.{or_first, or_second, true_is_not_false, all_at, any_same, any_more, any_in, all_in, not_true}
 
 -- ---- How many numbers below a number pass a test
 
@@ -102,12 +102,48 @@ module _ (graph : List (List ℕ)) (bounded : IsBounded graph) where
       split (inl s) = s x k
       split (inr m) = absurd (omega (arith, m, tally_le (λ z. leads graph (length graph) z y) (length graph)))
 
+  -- one more, and so on
+  abbrev more : ℕ → ℕ → ℕ
+  more zero k = k
+  more (suc j) k = suc (more j k)
+
+  more_is : (j k : ℕ) → more j k ≡ k + j
+  more_is zero k = omega arith
+  more_is (suc j) k = omega (arith, more_is j k)
+
+  leads_on : (j k x y : ℕ) → leads graph k x y ≡ true → leads graph (more j k) x y ≡ true
+  leads_on zero k x y h = h
+  leads_on (suc j) k x y h = leads_more (more j k) x y (leads_on j k x y h)
+
+  stays_on : (j y k : ℕ) → Stationary y k → Stationary y (more j k)
+  stays_on zero y k s = s
+  stays_on (suc j) y k s = stays y (more j k) (stays_on j y k s)
+
+  same_on : (j y k x : ℕ) → Stationary y k → x < length graph → leads graph (more j k) x y ≡ leads graph k x y
+  same_on zero y k x s h = refl
+  same_on (suc j) y k x s h = stays_on j y k s x h ∙ same_on j y k x s h
+
+  -- calls that lead there do so by as many as there are functions
+  pub always : (k x y : ℕ) → x < length graph → y < length graph → leads graph k x y ≡ true → leads graph (length graph) x y ≡ true
+  always k x y h i l = by (nat_lt k (length graph)) refl
+    where
+      by : (b : Bool) → b ≡ nat_lt k (length graph) → leads graph (length graph) x y ≡ true
+      by true e =
+          let short : k < length graph = ltb-true k (length graph) (sym e) in
+          ap (λ z. leads graph z x y) (let d : length graph ≡ more (length graph - k) k = omega (arith, short, more_is (length graph - k) k) in d)
+          ∙ leads_on (length graph - k) k x y l
+      by false e =
+          let long : length graph ≤ k = ltb-false k (length graph) (sym e) in
+          sym (same_on (k - length graph) y (length graph) x (λ z j. closed y z i j) h)
+          ∙ ap (λ z. leads graph z x y) (let d : more (k - length graph) (length graph) ≡ k = omega (arith, long, more_is (k - length graph) (length graph)) in d)
+          ∙ l
+
   -- ---- Ranks
 
   abbrev pub rank : ℕ → ℕ
   rank x = tally (λ y. leads graph (length graph) x y) (length graph)
 
-  leads_itself : (n x : ℕ) → leads graph n x x ≡ true
+  pub leads_itself : (n x : ℕ) → leads graph n x x ≡ true
   leads_itself zero x = eq-eqb x x refl
   leads_itself (suc n) x = or_first (nat_eq x x) _ (eq-eqb x x refl)
 

@@ -1,5 +1,5 @@
--- Functions taken round by round, each behind those that it calls.
-use Rattle.std.specs.Prelude.{◌≡◌, ℕ, zero, suc, ◌+◌, Bool, true, false, ◌&&◌, not, if◌then◌else◌, List, [], ◌∷◌, ◌++◌, length, replicate, slice_index_or, slice_set}
+-- Functions taken in some order and then round by round, each behind those that it calls.
+use Rattle.std.specs.Prelude.{◌≡◌, ℕ, zero, suc, nat_lt, ◌+◌, Bool, true, false, ◌&&◌, not, if◌then◌else◌, List, [], ◌∷◌, ◌++◌, length, replicate, slice_index_or, slice_set}
 use Rattle.std.specs.List.{list_all}
 use Rattle.call_order.specs.Layers.{IsBounded, HasNoCycle}
 use Rattle.call_order.specs.Order.{IsOrder}
@@ -46,16 +46,36 @@ abbrev pub rounds : List (List ℕ) → ℕ → Taking → Taking
 rounds graph zero st = st
 rounds graph (suc n) st = next_round graph (rounds graph n st)
 
-abbrev pub all_rounds : List (List ℕ) → Taking
-all_rounds graph = rounds graph (length graph) (start (length graph))
+abbrev pub all_rounds : List (List ℕ) → Taking → Taking
+all_rounds graph st = rounds graph (length graph) st
 
-abbrev pub order_of : List (List ℕ) → List ℕ
-order_of graph = (all_rounds graph).order
+abbrev pub finish_if : Bool → List (List ℕ) → Taking → Taking
+finish_if true graph st = st
+finish_if false graph st = all_rounds graph st
+
+-- round by round where functions are left
+abbrev pub finished : List (List ℕ) → Taking → Taking
+finished graph st = finish_if (is_whole st.taken) graph st
+
+-- a number past the functions takes none
+abbrev pub visit_at : List (List ℕ) → ℕ → Taking → Taking
+visit_at graph f st = if nat_lt f (length graph) then visit f (slice_index_or graph f []) st else st
+
+-- functions in some order
+abbrev pub visits : List (List ℕ) → List ℕ → Taking → Taking
+visits graph [] st = st
+visits graph (f ∷ fs) st = visits graph fs (visit_at graph f st)
+
+abbrev pub guided : List (List ℕ) → List ℕ → Taking
+guided graph guess = visits graph guess (start (length graph))
+
+abbrev pub order_of : List (List ℕ) → List ℕ → List ℕ
+order_of graph guess = (finished graph (guided graph guess)).order
 
 -- where each function is taken no call lies on a cycle
 abbrev pub WholeAcyclic : Type 0
-WholeAcyclic = (graph : List (List ℕ)) → IsBounded graph → is_whole (all_rounds graph).taken ≡ true → HasNoCycle graph
+WholeAcyclic = (graph : List (List ℕ)) (guess : List ℕ) → IsBounded graph → is_whole (guided graph guess).taken ≡ true → HasNoCycle graph
 
--- without a cycle each function is taken
+-- without a cycle each function is taken, in whatever order they are tried first
 abbrev pub OrdersFound : Type 0
-OrdersFound = (graph : List (List ℕ)) → IsBounded graph → HasNoCycle graph → IsOrder graph (order_of graph)
+OrdersFound = (graph : List (List ℕ)) (guess : List ℕ) → IsBounded graph → HasNoCycle graph → IsOrder graph (order_of graph guess)

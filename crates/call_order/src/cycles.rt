@@ -7,8 +7,10 @@ ghost use Rattle.call_order.specs.Layers as layers;
 ghost use Rattle.call_order.specs.Seen as seen;
 
 use crate::calls::CallAt;
+use crate::confirmed::confirmed;
 use crate::marks::is_marked;
-use crate::order::{is_whole, rounds};
+use crate::order::{guided, is_whole};
+use crate::walk::make_guess;
 use lv_base::{Memory, SourceFault};
 use rule_lines::{Found, both, line, none};
 use std::alloc::Global;
@@ -94,9 +96,13 @@ fn lines_found(alloc: Global, calls: &[Vec<CallAt>]) -> Result<Found, Memory>
 pub fn recursion_found(alloc: Global, calls: &[Vec<CallAt>]) -> Result<Found, Memory>
     ensures { IfOk result (λ x. layers.IsBounded (seen.graph_of calls.now) → lines.found_of x ≡ summary (r.recursion (seen.graph_of calls.now) 0 (seen.all_calls calls.now))) }
 {
-    let taking = rounds(alloc, calls)?;
+    let guess = make_guess(alloc, calls)?;
+    let taking = guided(alloc, calls, &guess.order)?;
     if is_whole(&taking.taken) {
         return Ok(none());
     }
-    lines_found(alloc, calls)
+    match confirmed(alloc, calls, &guess.parts)? {
+        Some(found) => Ok(found),
+        None => lines_found(alloc, calls),
+    }
 }

@@ -3,10 +3,15 @@
 #![tactic(auto)]
 
 mod calls;
+mod confirmed;
 mod cycles;
 mod laws;
 mod marks;
 mod order;
+mod search;
+#[cfg(test)]
+mod tests;
+mod walk;
 
 pub use calls::{CallAt, calls_of};
 pub use cycles::recursion_found;

@@ -6,7 +6,8 @@ ghost use Rattle.call_order.specs.Peel as peel;
 ghost use Rattle.call_order.specs.Seen as seen;
 
 use crate::calls::CallAt;
-use crate::marks::is_marked;
+use crate::marks::{is_marked, mark};
+use crate::walk::make_guess;
 use lv_base::Memory;
 use std::alloc::Global;
 
@@ -48,15 +49,6 @@ fn start(alloc: Global, count: usize) -> Result<Taking, Memory>
     })
 }
 
-// Marks a function.
-fn mark(taken: &mut [bool], function: usize)
-    ensures { taken.new ≡ peel.marked taken.old function }
-{
-    if function < taken.len() {
-        taken[function] = true;
-    }
-}
-
 // Takes a function if those that it calls are taken.
 fn visit(taking: &mut Taking, function: usize, calls: &[CallAt]) -> Result<(), Memory>
     ensures { IfOk result (λ _. seen.taking_of taking.new ≡ peel.visit function (seen.targets calls.now) (seen.taking_of taking.old)) }
@@ -67,6 +59,29 @@ fn visit(taking: &mut Taking, function: usize, calls: &[CallAt]) -> Result<(), M
         mark(&mut taking.taken, function);
     }
     Ok(())
+}
+
+// A number past the functions takes none.
+fn visit_at(taking: &mut Taking, calls: &[Vec<CallAt>], function: u32) -> Result<(), Memory>
+    ensures { IfOk result (λ _. seen.taking_of taking.new ≡ peel.visit_at (seen.graph_of calls.now) function (seen.taking_of taking.old)) }
+{
+    let i = function as usize;
+    if i < calls.len() {
+        visit(taking, i, &calls[i])
+    } else {
+        Ok(())
+    }
+}
+
+/// Takes functions in this order, each if those that it calls are taken.
+pub(crate) fn guided(alloc: Global, calls: &[Vec<CallAt>], order: &[u32]) -> Result<Taking, Memory>
+    ensures { IfOk result (λ x. seen.taking_of x ≡ peel.guided (seen.graph_of calls.now) order.now) }
+{
+    let mut taking = start(alloc, calls.len())?;
+    for function in order {
+        visit_at(&mut taking, calls, *function)?;
+    }
+    Ok(taking)
 }
 
 fn round(taking: &mut Taking, calls: &[Vec<CallAt>]) -> Result<(), Memory>
@@ -95,15 +110,24 @@ fn next_round(taking: &mut Taking, calls: &[Vec<CallAt>]) -> Result<(), Memory>
     round(taking, calls)
 }
 
-/// The functions that are taken when as many rounds are over as there are functions.
-pub(crate) fn rounds(alloc: Global, calls: &[Vec<CallAt>]) -> Result<Taking, Memory>
-    ensures { IfOk result (λ x. seen.taking_of x ≡ peel.all_rounds (seen.graph_of calls.now)) }
+// As many rounds as there are functions.
+fn rounds(taking: &mut Taking, calls: &[Vec<CallAt>]) -> Result<(), Memory>
+    ensures { IfOk result (λ _. seen.taking_of taking.new ≡ peel.all_rounds (seen.graph_of calls.now) (seen.taking_of taking.old)) }
 {
-    let mut taking = start(alloc, calls.len())?;
     for _round in 0..calls.len() {
-        next_round(&mut taking, calls)?;
+        next_round(taking, calls)?;
     }
-    Ok(taking)
+    Ok(())
+}
+
+// Goes on round by round if the order has left functions.
+fn finish(taking: &mut Taking, calls: &[Vec<CallAt>]) -> Result<(), Memory>
+    ensures { IfOk result (λ _. seen.taking_of taking.new ≡ peel.finished (seen.graph_of calls.now) (seen.taking_of taking.old)) }
+{
+    if is_whole(&taking.taken) {
+        return Ok(());
+    }
+    rounds(taking, calls)
 }
 
 fn order_in(taking: Taking) -> Vec<u32>
@@ -121,6 +145,8 @@ pub fn order_of(alloc: Global, calls: &[Vec<CallAt>]) -> Result<Vec<u32>, Memory
     requires acyclic { HasNoCycle (seen.graph_of calls.now) }
     ensures { IfOk result (λ x. IsOrder (seen.graph_of calls.now) x.items) }
 {
-    let taking = rounds(alloc, calls)?;
+    let guess = make_guess(alloc, calls)?;
+    let mut taking = guided(alloc, calls, &guess.order)?;
+    finish(&mut taking, calls)?;
     Ok(order_in(taking))
 }

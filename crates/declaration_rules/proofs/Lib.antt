@@ -1,4 +1,5 @@
 mod KindRows
 mod Rows
+mod Twins
 mod Agreeing
 mod Telling

@@ -27,22 +27,15 @@ any_push p (y ∷ xs) x = ap (λ z. p y || z) (any_push p xs x) ∙ turn (p y) (
     turn true false d = refl
     turn false c d = refl
 
-pub any_more : (p : b.Entry → Bool) (xs : List Entry) (i : ℕ) (f : Entry) → i < length xs → list_any p (map entry_of (take (i + 1) xs)) ≡ (p (entry_of (get_or xs i f)) || list_any p (map entry_of (take i xs)))
-any_more p xs i f h = ap (list_any p) (map_more entry_of xs i f h) ∙ any_push p (map entry_of (take i xs)) (entry_of (get_or xs i f))
-
 pub lines_push : (xs : List Broken) (x : Broken) → map broken_of (xs ++ x ∷ []) ≡ map broken_of xs ++ broken_of x ∷ []
 lines_push xs x = map_push broken_of xs x
 
 module _ (env : b.Env) (model : Model) where
-  twice_push : (before xs : List b.Entry) (x : b.Entry) → d.twice env model before (xs ++ x ∷ []) ≡ d.twice env model before xs ++ d.lines_of env model (before ++ xs) x
+  pub twice_push : (before xs : List b.Entry) (x : b.Entry) → d.twice env model before (xs ++ x ∷ []) ≡ d.twice env model before xs ++ d.lines_of env model (before ++ xs) x
   twice_push before [] x = append-nil (d.lines_of env model before x) ∙ ap (λ z. d.lines_of env model z x) (sym (append-nil before))
   twice_push before (y ∷ xs) x =
       ap (λ z. d.lines_of env model before y ++ z) (twice_push (before ++ y ∷ []) xs x ∙ ap (λ z. d.twice env model (before ++ y ∷ []) xs ++ d.lines_of env model z x) (append_assoc before (y ∷ []) xs))
       ∙ sym (append_assoc (d.lines_of env model before y) (d.twice env model (before ++ y ∷ []) xs) (d.lines_of env model (before ++ (y ∷ xs)) x))
-
-  pub twice_more : (xs : List Entry) (i : ℕ) (f : Entry) → i < length xs →
-      d.twice env model [] (map entry_of (take (i + 1) xs)) ≡ d.twice env model [] (map entry_of (take i xs)) ++ d.lines_of env model (map entry_of (take i xs)) (entry_of (get_or xs i f))
-  twice_more xs i f h = ap (d.twice env model []) (map_more entry_of xs i f h) ∙ twice_push [] (map entry_of (take i xs)) (entry_of (get_or xs i f))
 
 pub summed_more : (xs : List Broken) (i : ℕ) (f : Broken) → i < length xs →
     summary (map broken_of (take (i + 1) xs)) ≡ both (summary (map broken_of (take i xs))) (summary (line true (get_or xs i f).fault (get_or xs i f).at))
@@ -58,8 +51,3 @@ items_push_behind (y ∷ xs) x is = items_push_behind xs x (t.items_and is (item
 
 pub mains_more : (env : b.Env) (xs : List Item) (i : ℕ) (f : Item) → i < length xs → m.mains_in env (items_of (take (i + 1) xs)) ≡ m.with_item env (m.mains_in env (items_of (take i xs))) (item_of (get_or xs i f))
 mains_more env xs i f h = ap (λ ys. m.mains_in env (items_of ys)) (take_more xs i f h) ∙ ap (m.mains_in env) (items_push_behind (take i xs) (get_or xs i f) t.no_items)
-
-pub any_step : (p : b.Entry → Bool) (xs : List Entry) (i : ℕ) (x : Entry) (found test new : Bool) → i < length xs → x ≡ get_or xs i x →
-    found ≡ list_any p (map entry_of (take i xs)) → test ≡ p (entry_of x) → new ≡ (test || found) → new ≡ list_any p (map entry_of (take (i + 1) xs))
-any_step p xs i x found test new h e f t n =
-    n ∙ ap (λ z. z || found) t ∙ ap (λ z. p (entry_of x) || z) f ∙ ap (λ y. p (entry_of y) || list_any p (map entry_of (take i xs))) e ∙ sym (any_more p xs i x h)

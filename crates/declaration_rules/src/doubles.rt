@@ -1,4 +1,4 @@
-ghost use Rattle.std.specs.Prelude.{◌≡◌, ◌++◌, ◌||◌, [], map, IfOk};
+ghost use Rattle.std.specs.Prelude.{◌≡◌, ◌++◌, [], Some, map, slice_get, take, IfOk};
 ghost use Rattle.std.specs.List.{list_any};
 ghost use Rattle.c_run.specs.Breaking as br;
 ghost use Rattle.c_meaning.specs.Bindings as b;
@@ -14,44 +14,13 @@ use lv_base::{Kind, Memory, Model, SourceFault};
 use rule_lines::{Broken, Found, both, line, none};
 use std::alloc::Global;
 use type_kinds::kind_in;
-use type_scopes::{Entry, Env, Scope, What, is_tag, parameter_kinds, words_type};
+use type_scopes::{Entry, Env, What, is_file, is_same, is_tag, parameter_kinds, words_type};
 use typed_values::{Known, known_of};
 
 fn same_space(x: &What<'_>, y: &What<'_>) -> bool
     ensures { result ≡ t.same_space (seen.what_of x.now) (seen.what_of y.now) }
 {
     if is_tag(x) { is_tag(y) } else { !is_tag(y) }
-}
-
-// The first token of a scope that is not the file.
-fn is_block(scope: Scope, first: u64, last: u32) -> bool
-    ensures { result ≡ s.is_same (s.block first last) (seen.scope_of scope) }
-{
-    match scope {
-        Scope::File => false,
-        Scope::Block(begin, end) => first == begin as u64 && last == end,
-        Scope::Behind(before, end) => first == before as u64 + 1 && last == end,
-    }
-}
-
-fn is_file(scope: Scope) -> bool
-    ensures { result ≡ s.is_file (seen.scope_of scope) }
-{
-    match scope {
-        Scope::File => true,
-        Scope::Block(_, _) => false,
-        Scope::Behind(_, _) => false,
-    }
-}
-
-fn is_same(x: Scope, y: Scope) -> bool
-    ensures { result ≡ s.is_same (seen.scope_of x) (seen.scope_of y) }
-{
-    match x {
-        Scope::File => is_file(y),
-        Scope::Block(first, last) => is_block(y, first as u64, last),
-        Scope::Behind(before, last) => is_block(y, before as u64 + 1, last),
-    }
 }
 
 // Whether two declarations are in one name space and one scope, and have one name. A parameter without a name has none.
@@ -84,28 +53,42 @@ fn clashes(
     Ok(!same)
 }
 
-fn or_found(test: bool, found: bool) -> bool
-    ensures { result ≡ (test || found) }
+// Whether the declaration at a place leaves no room for this one.
+fn clashes_at(
+    alloc: Global,
+    env: &Env<'_>,
+    model: Model,
+    place: usize,
+    entry: &Entry<'_>,
+) -> Result<bool, Memory>
+    ensures { IfOk result (λ r. r ≡ t.clashes_at (seen.env_of env.now) model (seen.declared_of entry.now) (slice_get (seen.env_of env.now).entries place)) }
 {
-    test || found
+    match env.entries.get(place) {
+        None => Ok(false),
+        Some(earlier) => clashes(alloc, env, model, entry, earlier),
+    }
 }
 
-#[tactic(auto, using(crate::proofs::Rows::any_more, std::proofs::lemmas::List::take_all))]
+// Whether a declaration before this one, at its place, leaves no room for it: one of its name and scope.
 fn clashes_before(
     alloc: Global,
     env: &Env<'_>,
     model: Model,
-    before: &[Entry<'_>],
+    place: usize,
     entry: &Entry<'_>,
 ) -> Result<bool, Memory>
-    ensures { IfOk result (λ r. r ≡ list_any (t.clashes (seen.env_of env.now) model (seen.declared_of entry.now)) (map seen.entry_of before.now)) }
+    requires { slice_get env.now.entries place ≡ Some entry.now }
+    ensures { IfOk result (λ r. r ≡ list_any (t.clashes (seen.env_of env.now) model (seen.declared_of entry.now)) (take place (seen.env_of env.now).entries)) }
 {
-    let mut found = false;
-    for earlier in before {
-        let test = clashes(alloc, env, model, entry, earlier)?;
-        found = or_found(test, found);
+    let mut left = env.entries.twin_before(place);
+    'twins: while left > 0 {
+        let test = clashes_at(alloc, env, model, left - 1, entry)?;
+        if test {
+            return Ok(true);
+        }
+        left = env.entries.twin_before(left - 1);
     }
-    Ok(found)
+    Ok(false)
 }
 
 fn is_known_right(known: Known, of: Option<Kind>) -> bool
@@ -180,29 +163,45 @@ fn add_lines(
     alloc: Global,
     env: &Env<'_>,
     model: Model,
-    before: &[Entry<'_>],
+    place: usize,
     entry: &Entry<'_>,
     lines: &mut Vec<Broken>,
 ) -> Result<(), Memory>
-    ensures { IfOk result (λ _. map told.broken_of lines.new.items ≡ map told.broken_of lines.old.items ++ t.lines_of (seen.env_of env.now) model (map seen.entry_of before.now) (seen.entry_of entry.now)) }
+    requires { slice_get env.now.entries place ≡ Some entry.now }
+    ensures { IfOk result (λ _. map told.broken_of lines.new.items ≡ map told.broken_of lines.old.items ++ t.lines_of (seen.env_of env.now) model (take place (seen.env_of env.now).entries) (seen.entry_of entry.now)) }
 {
-    let test = clashes_before(alloc, env, model, before, entry)?;
+    let test = clashes_before(alloc, env, model, place, entry)?;
     add_line(lines, test, entry.at)?;
     let wrong = is_declared_wrong(alloc, env, entry.name, &entry.what)?;
     add_line(lines, wrong, entry.at)
+}
+
+fn add_lines_at(
+    alloc: Global,
+    env: &Env<'_>,
+    model: Model,
+    place: usize,
+    lines: &mut Vec<Broken>,
+) -> Result<(), Memory>
+    ensures { IfOk result (λ _. map told.broken_of lines.new.items ≡ map told.broken_of lines.old.items ++ t.lines_at (seen.env_of env.now) model (take place (seen.env_of env.now).entries) (slice_get (seen.env_of env.now).entries place)) }
+{
+    match env.entries.get(place) {
+        None => Ok(()),
+        Some(entry) => add_lines(alloc, env, model, place, entry, lines),
+    }
 }
 
 /// The names that are declared a second time in their scopes where that is not allowed, and the functions that mean something
 /// without a body and are declared otherwise, in the order of the declarations.
 ///
 /// Fails with `Memory`.
-#[tactic(auto, using(crate::proofs::Rows::twice_more, std::proofs::lemmas::List::take_all))]
+#[tactic(auto, using(crate::proofs::Twins::twice_more))]
 pub fn redeclared(alloc: Global, env: &Env<'_>, model: Model) -> Result<Vec<Broken>, Memory>
     ensures { IfOk result (λ r. map told.broken_of r.items ≡ t.twice (seen.env_of env.now) model [] (seen.env_of env.now).entries) }
 {
     let mut found = Vec::new(alloc);
-    for (i, entry) in env.entries.iter().enumerate() {
-        add_lines(alloc, env, model, &env.entries[..i], entry, &mut found)?;
+    for place in 0..env.entries.len() {
+        add_lines_at(alloc, env, model, place, &mut found)?;
     }
     Ok(found)
 }

@@ -1,5 +1,5 @@
 -- What loops and arms give, by the answers of the calls in them.
-use Rattle.std.proofs.Common.{◌≡◌, ℕ, ◌<◌, ◌+◌, Bool, ◌||◌, List, [], ◌∷◌, ◌++◌, length, take, get_or, map, append-nil, refl, ap, ◌∙◌, sym}
+use Rattle.std.proofs.Common.{◌≡◌, ℕ, ◌<◌, ◌+◌, Bool, ◌||◌, List, [], ◌∷◌, ◌++◌, length, take, get_or, append-nil, refl, ap, ◌∙◌, sym}
 use Rattle.std.specs.Prelude.{IfOk, Box}
 use Rattle.std.proofs.Common.{Result, Ok, Err, Option, Vec, Global, false}
 use denote.Ref.{Bor}

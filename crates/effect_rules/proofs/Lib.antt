@@ -1,4 +1,5 @@
 pub mod Views
 pub mod Bools
+pub mod Sets
 mod Arms
 mod Summing

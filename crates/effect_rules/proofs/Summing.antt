@@ -4,7 +4,7 @@ use Rattle.lv_base.specs.declared.fault.SourceFault.TheVariants as fault
 use Rattle.c_run.specs.Breaking.{Broken, line}
 use Rattle.c_typed.specs.Tree as t
 use Rattle.c_typed.specs.Rules as r
-use Rattle.rule_lines.specs.Found.{Summary, summary, both}
+use Rattle.rule_lines.specs.Found.{Summary, summary}
 use Rattle.rule_lines.proofs.Least.{joined_is}
 use Rattle.effect_rules.specs.Effects as e
 use Rattle.effect_rules.proofs.Bools.{clash_left, or_commutes}

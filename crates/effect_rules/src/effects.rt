@@ -5,10 +5,14 @@ ghost use Rattle.effect_rules.specs.Effects as e;
 ghost use Rattle.effect_rules.specs.Seen as seen;
 
 use crate::clashes::{clash, has};
+use crate::touched::{is_touched, touch, untouched};
 use c_typed::{Target, Value};
 use lv_base::{Memory, SourceFault};
 use rule_lines::{Found, both, line, none};
 use std::alloc::Global;
+
+// As many objects are looked for one by one.
+const FEW: usize = 8;
 
 /// The objects that an expression writes and those that it reads, by number and in the order of its parts, an array as a whole,
 /// and the first of the rules that it breaks.
@@ -76,10 +80,44 @@ fn lined(effects: Effects, test: bool, at: u32) -> Effects
     }
 }
 
-fn parts_clash(first: &Effects, second: &Effects) -> bool
-    ensures { result ≡ e.parts_clash (seen.effects_of first.now) (seen.effects_of second.now) }
+// Whether a part touches so few objects that it is tried in pairs.
+fn is_few(effects: &Effects) -> bool {
+    effects.writes.len() <= FEW && effects.reads.len() <= FEW
+}
+
+// By the sets of the objects of the first part.
+fn sets_clash(alloc: Global, first: &Effects, second: &Effects) -> Result<bool, Memory>
+    ensures { IfOk result (λ b. b ≡ e.parts_clash (seen.effects_of first.now) (seen.effects_of second.now)) }
 {
-    clash(&first.writes, &first.reads, &second.writes, &second.reads)
+    let mut touched = untouched(alloc);
+    touch(&mut touched, &first.writes, &first.reads)?;
+    Ok(is_touched(&touched, &second.writes, &second.reads))
+}
+
+// By the sets of the objects of the second part.
+fn sets_clash_behind(alloc: Global, first: &Effects, second: &Effects) -> Result<bool, Memory>
+    ensures { IfOk result (λ b. b ≡ e.parts_clash (seen.effects_of first.now) (seen.effects_of second.now)) }
+{
+    sets_clash(alloc, second, first)
+}
+
+fn is_smaller(first: &Effects, second: &Effects) -> bool {
+    let own = first.writes.len().saturating_add(first.reads.len());
+    own < second.writes.len().saturating_add(second.reads.len())
+}
+
+// In pairs where one part touches few objects, and else by sets of the objects of the smaller one.
+fn parts_clash(alloc: Global, first: &Effects, second: &Effects) -> Result<bool, Memory>
+    ensures { IfOk result (λ b. b ≡ e.parts_clash (seen.effects_of first.now) (seen.effects_of second.now)) }
+{
+    if is_few(first) || is_few(second) {
+        return Ok(clash(&first.writes, &first.reads, &second.writes, &second.reads));
+    }
+    if is_smaller(first, second) {
+        sets_clash(alloc, first, second)
+    } else {
+        sets_clash_behind(alloc, first, second)
+    }
 }
 
 fn either(first: bool, second: bool) -> bool
@@ -88,10 +126,10 @@ fn either(first: bool, second: bool) -> bool
     first || second
 }
 
-fn operands(at: u32, first: Effects, second: &Effects) -> Result<Effects, Memory>
+fn operands(alloc: Global, at: u32, first: Effects, second: &Effects) -> Result<Effects, Memory>
     ensures { IfOk result (λ x. seen.effects_of x ≡ e.operands at (seen.effects_of first) (seen.effects_of second.now)) }
 {
-    let test = parts_clash(&first, second);
+    let test = parts_clash(alloc, &first, second)?;
     let all = joined(first, second)?;
     Ok(lined(all, test, at))
 }
@@ -119,8 +157,8 @@ fn assigned(
     let own = written(alloc, is_read, object)?;
     let target = joined(own, index)?;
     let all = joined(target, value)?;
-    let test = parts_clash(index, value)
-        || (has(&value.writes, object) || has(&index.writes, object));
+    let clashes = parts_clash(alloc, index, value)?;
+    let test = clashes || (has(&value.writes, object) || has(&index.writes, object));
     Ok(lined(all, test, at))
 }
 
@@ -166,7 +204,7 @@ pub fn value_effects(alloc: Global, value: &Value) -> Result<Effects, Memory>
         Value::Binary(_, _, at, first, second) => {
             let first = value_effects(alloc, first)?;
             let second = value_effects(alloc, second)?;
-            operands(*at, first, &second)
+            operands(alloc, *at, first, &second)
         }
         Value::Both(first, second) => {
             let first = value_effects(alloc, first)?;
@@ -240,11 +278,13 @@ fn argument_effects(alloc: Global, bracket: u32, values: &[Value]) -> Result<Eff
     ensures { IfOk result (λ x. seen.effects_of x ≡ e.lined (e.list_effects (v.values_of values.now)) (e.arguments_clash (v.values_of values.now)) bracket) }
 {
     let mut all = nothing(alloc);
+    let mut touched = untouched(alloc);
     let mut test = false;
     for value in values {
         let own = value_effects(alloc, value)?;
-        let clashes = parts_clash(&all, &own);
+        let clashes = is_touched(&touched, &own.writes, &own.reads);
         test = either(clashes, test);
+        touch(&mut touched, &own.writes, &own.reads)?;
         all = joined(all, &own)?;
     }
     Ok(lined(all, test, bracket))

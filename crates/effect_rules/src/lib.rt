@@ -5,6 +5,7 @@ mod clashes;
 mod effects;
 mod laws;
 mod marks;
+mod touched;
 
 pub use clashes::{clash, has};
 pub use effects::{Effects, value_effects};

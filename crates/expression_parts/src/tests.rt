@@ -9,7 +9,7 @@ use run_machine::{Cells, Element, Halt, Machine};
 use std::alloc::Global;
 use std::process::Abort;
 use std::test::Fail;
-use type_scopes::{Entity, Entry, Env, Object, Scope, What};
+use type_scopes::{Declarations, Entity, Entry, Env, Object, Scope, What};
 
 fn entry<'a>(name: &'a [u8], at: u32, entity: Entity) -> Entry<'a> {
     Entry {
@@ -36,7 +36,7 @@ fn object<'a>(name: &'a [u8], at: u32, length: Option<u64>) -> Object<'a> {
 
 // `int x; int a[3]; int f(void) { }`
 fn program<'a>(alloc: Global, inputs: &'a [i128]) -> Result<Program<'a>, Fail> {
-    let mut entries = Vec::new(alloc);
+    let mut entries = Declarations::new(alloc);
     entries.push(entry(b"x", 4, Entity::Object(0)))?;
     entries.push(entry(b"a", 11, Entity::Object(1)))?;
     let kinds = Vec::new(alloc);

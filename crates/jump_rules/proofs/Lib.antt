@@ -2,3 +2,4 @@ pub mod Views
 mod Walking
 mod Arms
 mod Rows
+mod Naming

@@ -17,7 +17,7 @@ pub any_jumps : (p : r.Jump → Bool) (xs : List Jump) → list_any (λ (x : Jum
 any_jumps p [] = refl
 any_jumps p (x ∷ xs) = ap (λ z. p (jump_of x) || z) (any_jumps p xs)
 
-any_append : {A : Type 0} (p : A → Bool) (xs ys : List A) → list_any p (xs ++ ys) ≡ (list_any p xs || list_any p ys)
+pub any_append : {A : Type 0} (p : A → Bool) (xs ys : List A) → list_any p (xs ++ ys) ≡ (list_any p xs || list_any p ys)
 any_append p [] ys = refl
 any_append p (x ∷ xs) ys = ap (λ z. p x || z) (any_append p xs ys) ∙ assoc (p x) (list_any p xs) (list_any p ys)
   where
@@ -66,10 +66,10 @@ sum_step bs a b k all own new m t o n =
     n ∙ ap (λ z. both z own) m ∙ ap (both (summary bs)) (o ∙ ap (λ z. summary (line z fault.Label k)) t) ∙ sym (joined_is bs (line b fault.Label k))
 
 pub repeated_step : (xs : List Jump) (i : ℕ) (x : Jump) (test : Bool) (all own new : Summary) → i < length xs → x ≡ get_or xs i x →
-    test ≡ list_any (λ (y : Jump). bytes_eq y.name x.name) (take i xs) → all ≡ summary (r.repeated_labels [] (jumps (take i xs))) → own ≡ summary (line test fault.Label x.named_at) → new ≡ both all own →
+    test ≡ r.has_name x.name (jumps (take i xs)) → all ≡ summary (r.repeated_labels [] (jumps (take i xs))) → own ≡ summary (line test fault.Label x.named_at) → new ≡ both all own →
     new ≡ summary (r.repeated_labels [] (jumps (take (i + 1) xs)))
 repeated_step xs i x test all own new l e t m o n =
-    sum_step (r.repeated_labels [] (jumps (take i xs))) test (r.has_name x.name (jumps (take i xs))) x.named_at all own new m (t ∙ any_jumps (λ y. bytes_eq y.name x.name) (take i xs)) o n
+    sum_step (r.repeated_labels [] (jumps (take i xs))) test (r.has_name x.name (jumps (take i xs))) x.named_at all own new m t o n
     ∙ ap summary (sym (repeated_behind [] (jumps (take i xs)) (jump_of x)))
     ∙ ap (λ z. summary (r.repeated_labels [] z)) (sym (taken xs i x l e))
 
@@ -82,10 +82,10 @@ lost_behind labels (k ∷ gs) g =
     ∙ sym (append_assoc (line (not (r.has_name k.name labels)) fault.Label k.named_at) (r.lost_gotos labels gs) (line (not (r.has_name g.name labels)) fault.Label g.named_at))
 
 pub lost_step : (labels xs : List Jump) (i : ℕ) (x : Jump) (has : Bool) (all own new : Summary) → i < length xs → x ≡ get_or xs i x →
-    has ≡ list_any (λ (y : Jump). bytes_eq y.name x.name) labels → all ≡ summary (r.lost_gotos (jumps labels) (jumps (take i xs))) → own ≡ summary (line (not has) fault.Label x.named_at) → new ≡ both all own →
+    has ≡ r.has_name x.name (jumps labels) → all ≡ summary (r.lost_gotos (jumps labels) (jumps (take i xs))) → own ≡ summary (line (not has) fault.Label x.named_at) → new ≡ both all own →
     new ≡ summary (r.lost_gotos (jumps labels) (jumps (take (i + 1) xs)))
 lost_step labels xs i x has all own new l e t m o n =
-    sum_step (r.lost_gotos (jumps labels) (jumps (take i xs))) (not has) (not (r.has_name x.name (jumps labels))) x.named_at all own new m (ap not (t ∙ any_jumps (λ y. bytes_eq y.name x.name) labels)) o n
+    sum_step (r.lost_gotos (jumps labels) (jumps (take i xs))) (not has) (not (r.has_name x.name (jumps labels))) x.named_at all own new m (ap not t) o n
     ∙ ap summary (sym (lost_behind (jumps labels) (jumps (take i xs)) (jump_of x)))
     ∙ ap (λ z. summary (r.lost_gotos (jumps labels) z)) (sym (taken xs i x l e))
 

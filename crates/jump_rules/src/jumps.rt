@@ -1,4 +1,4 @@
-ghost use Rattle.std.specs.Prelude.{◌≡◌, IfOk};
+ghost use Rattle.std.specs.Prelude.{◌≡◌, ◌<◌, ◌≤◌, IfOk, length, take, slice_index_or, true};
 ghost use Rattle.c_typed.specs.Rules as r;
 ghost use Rattle.jump_rules.specs.Seen as seen;
 
@@ -40,9 +40,41 @@ fn has(objects: &[u32], object: u32) -> bool
     objects.iter().any(|x| object == *x)
 }
 
-/// Whether a jump from one scope to another enters the scope of an object's declaration. Both are lists of objects.
-pub fn enters(start: &[u32], goal: &[u32]) -> bool
+// Whether this object stands at this place.
+fn is_at(objects: &[u32], place: usize, object: u32) -> bool
+    ensures there { result ≡ true → place < length objects.now }
+    ensures same { result ≡ true → slice_index_or objects.now place 0 ≡ object }
+{
+    match objects.get(place) {
+        None => false,
+        Some(x) => *x == object,
+    }
+}
+
+// How many objects two scopes both begin with.
+fn shared(start: &[u32], goal: &[u32]) -> usize
+    ensures goal { result ≤ length goal.now }
+    ensures same { take result start.now ≡ take result goal.now }
+{
+    for (i, object) in goal.iter().enumerate() {
+        if !is_at(start, i, *object) {
+            return i;
+        }
+    }
+    goal.len()
+}
+
+fn any_new(start: &[u32], goal: &[u32]) -> bool
     ensures { result ≡ r.enters start.now goal.now }
 {
     goal.iter().any(|object| !has(start, *object))
+}
+
+/// Whether a jump from one scope to another enters the scope of an object's declaration. Both are lists of objects. The objects
+/// that both begin with are not looked for.
+pub fn enters(start: &[u32], goal: &[u32]) -> bool
+    ensures { result ≡ r.enters start.now goal.now }
+{
+    let count = shared(start, goal);
+    any_new(start, &goal[count..])
 }

@@ -5,6 +5,7 @@
 mod jumps;
 mod labels;
 mod laws;
+mod names;
 mod places;
 mod walk;
 

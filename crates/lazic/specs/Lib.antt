@@ -1,5 +1,10 @@
 pub mod Answer
+pub mod Given
 pub mod Meaning
 pub mod Outcome
+pub mod Reaching
+pub mod Reading
 pub mod Report
+pub mod Running
+pub mod Runs
 pub mod Words

@@ -3,17 +3,18 @@ use Rattle.std.specs.Prelude.{ℕ, ◌≡◌, ◌⊎◌, List, ◌==◌, if◌th
 use Rattle.lazic.specs.Meaning.{Means}
 use Rattle.lazic.specs.Outcome.{status_of, text_of}
 use Rattle.lazic.specs.declared.outcome.Outcome.{Outcome}
-use Rattle.lazic.specs.declared.outcome.Outcome.TheVariants.{Usage, ReadFault, Over, Faulty, BadRun, Reached, Ended, NeedsMore, BadValue, NoMemory}
+use Rattle.lazic.specs.declared.outcome.Outcome.TheVariants.{Usage, ReadFault, Over, Faulty, BadRun, Reached, Ended, OutOfTurns, NeedsMore, BadValue, NoMemory}
 use Rattle.lazic.specs.declared.report.Kept.{Kept}
 use Rattle.lazic.specs.declared.report.Kept.TheVariants.{Nothing, Unsafe, Limited}
 
 abbrev pub kept_of : Outcome → Kept
-kept_of (Reached place values) = Unsafe values
+kept_of (Reached kind place values) = Unsafe values
 kept_of (Over number count) = Limited number count
 kept_of Usage = Nothing
 kept_of ReadFault = Nothing
 kept_of (Faulty fault place) = Nothing
-kept_of BadRun = Nothing
+kept_of (BadRun at) = Nothing
+kept_of (OutOfTurns turns) = Nothing
 kept_of Ended = Nothing
 kept_of NeedsMore = Nothing
 kept_of (BadValue i) = Nothing

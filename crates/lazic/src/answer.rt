@@ -1,23 +1,24 @@
-ghost use Rattle.std.specs.Prelude.{◌≡◌, ◌≤◌, ◌^◌, ◌⊎◌, ℕ, List, map, length, IfOk, IsNone, Some, ◌↔◌, ◌≢◌};
-ghost use Rattle.lazic.specs.Words.{request_of};
+ghost use Rattle.std.specs.Prelude.{◌≡◌, ◌≤◌, ◌^◌, ℕ, List, map, length, IsNone, ◌↔◌};
 ghost use Rattle.lv_outside.specs.Counts.{Rose};
-ghost use Rattle.c_lexer.specs.Lexed.{lexed};
-ghost use Rattle.c_tree.specs.Symbols.{signs_of};
-ghost use Rattle.parse_machine.specs.Machine.{parse_of};
-ghost use Rattle.thin_program.specs.Grammar.{thin_of};
-ghost use Rattle.lazic.specs.Answer.{outcome_of, source_outcome, tokens_outcome, thin_outcome, shape_outcome, run_outcome, said_of, refused, IsCaused};
+ghost use Rattle.c_tree.specs.Tree.{Items};
+ghost use Rattle.c_typed.specs.Parts.{tree_of};
+ghost use Rattle.lazic.specs.Words.{request_of};
+ghost use Rattle.lazic.specs.Reading.{source_read, RunsAs};
+ghost use Rattle.lazic.specs.Answer.{outcome_of, source_outcome, tree_outcome, run_outcome, refused, IsCaused};
+ghost use Rattle.lazic.specs.Runs.{IsRunOf, IsRunOn};
 
 use crate::outcome::Outcome;
-use crate::words::request;
-use c_lexer::{Token, lex};
-use lv_base::{SourceFail, SourceFault, place_of};
+use crate::reading::examined;
+use crate::running::{replayed, told};
+use crate::values::Values;
+use crate::words::{Wanted, request};
+use c_rules::Examined;
+use lv_base::{SourceFail, place_of};
 use lv_outside::{FileFail, Folder, Got};
 use std::alloc::Global;
-use thin_program::{Ending, Thin, Values, parse, read_run, run};
+use stored_text::{MOST_BYTES, StoredFail, read_run};
 
 const MOST_SOURCE: usize = 1_048_576;
-
-const MOST_RUN: usize = 22_006;
 
 /// The answer to the words.
 pub fn decide<F: Folder>(alloc: Global, words: &[&str], folder: &mut F) -> Outcome
@@ -25,42 +26,44 @@ pub fn decide<F: Folder>(alloc: Global, words: &[&str], folder: &mut F) -> Outco
     ensures usage { IsNone (request_of (map (λ w. w.now) words.now)) ↔ (result ≡ Outcome.Usage) }
     ensures files { (n : List ℕ) → F.file folder.new n ≡ F.file folder.old n }
 {
-    let Some(names) = request(words) else {
-        return Outcome::Usage;
-    };
-    decide_source(alloc, folder, names.source, names.run)
+    match request(words) {
+        Some(wanted) => decide_source(alloc, folder, wanted),
+        None => Outcome::Usage,
+    }
 }
 
-fn decide_source<F: Folder>(alloc: Global, folder: &mut F, source: &str, run: &str) -> Outcome
-    ensures caused { IsCaused (Rose (F.read_faults folder.old) (F.read_faults folder.new)) (F.tells folder.old) (source_outcome (F.file folder.old source.now) (F.file folder.old run.now)) result }
-    ensures asked { result ≢ Outcome.Usage }
+fn decide_source<F: Folder>(alloc: Global, folder: &mut F, wanted: Wanted<'_>) -> Outcome
+    ensures caused { IsCaused (Rose (F.read_faults folder.old) (F.read_faults folder.new)) (F.tells folder.old) (source_outcome wanted.entry.model wanted.entry.turns (F.file folder.old wanted.entry.source.now) (F.file folder.old wanted.entry.run.now)) result }
     ensures files { (n : List ℕ) → F.file folder.new n ≡ F.file folder.old n }
 {
-    match folder.read(alloc, source, MOST_SOURCE) {
-        Ok(Got::Bytes(bytes)) => decide_tokens(alloc, folder, &bytes, run),
+    match folder.read(alloc, wanted.source, MOST_SOURCE) {
+        Ok(Got::Bytes(bytes)) => decide_tree(alloc, folder, &bytes, wanted),
         Ok(Got::Longer) => Outcome::Over(1, 1_048_577),
         Err(FileFail::Failed) => Outcome::ReadFault,
         Err(FileFail::Memory) => Outcome::NoMemory,
     }
 }
 
-fn decide_tokens<F: Folder>(alloc: Global, folder: &mut F, source: &[u8], run: &str) -> Outcome
+fn decide_tree<F: Folder>(
+    alloc: Global,
+    folder: &mut F,
+    source: &[u8],
+    wanted: Wanted<'_>,
+) -> Outcome
     requires { length source.now ≤ 2 ^ 20 }
-    ensures caused { IsCaused (Rose (F.read_faults folder.old) (F.read_faults folder.new)) (F.tells folder.old) (tokens_outcome source.now (lexed source.now) (F.file folder.old run.now)) result }
-    ensures asked { result ≢ Outcome.Usage }
+    ensures caused { IsCaused (Rose (F.read_faults folder.old) (F.read_faults folder.new)) (F.tells folder.old) (tree_outcome wanted.entry.model wanted.entry.turns source.now (source_read wanted.entry.model source.now) (F.file folder.old wanted.entry.run.now)) result }
     ensures files { (n : List ℕ) → F.file folder.new n ≡ F.file folder.old n }
     ensures later { F.read_faults folder.old ≤ F.read_faults folder.new }
 {
-    match lex(alloc, source) {
-        Ok(tokens) => decide_thin(alloc, folder, source, &tokens, run),
+    match examined(alloc, source, wanted.model) {
+        Ok(examined) => decide_run(alloc, folder, source, &examined, wanted),
         Err(fail) => refuse(source, fail),
     }
 }
 
 fn refuse(source: &[u8], fail: SourceFail) -> Outcome
     requires { length source.now ≤ 2 ^ 20 }
-    ensures value { result ≡ refused source.now fail }
-    ensures asked { result ≢ Outcome.Usage }
+    ensures { result ≡ refused source.now fail }
 {
     match fail {
         SourceFail::Fault(fault, at) => {
@@ -71,77 +74,51 @@ fn refuse(source: &[u8], fail: SourceFail) -> Outcome
     }
 }
 
-fn decide_thin<F: Folder>(
-    alloc: Global,
-    folder: &mut F,
-    source: &[u8],
-    tokens: &[Token],
-    run: &str,
-) -> Outcome
-    requires { length source.now ≤ 2 ^ 20 }
-    ensures caused { IsCaused (Rose (F.read_faults folder.old) (F.read_faults folder.new)) (F.tells folder.old) (thin_outcome source.now tokens.now (thin_of tokens.now) (F.file folder.old run.now)) result }
-    ensures asked { result ≢ Outcome.Usage }
-    ensures files { (n : List ℕ) → F.file folder.new n ≡ F.file folder.old n }
-    ensures later { F.read_faults folder.old ≤ F.read_faults folder.new }
-{
-    match parse(alloc, tokens) {
-        Ok(Some(thin)) => decide_run(alloc, folder, source, &thin, run),
-        Ok(None) => decide_shape(alloc, source, tokens),
-        Err(_) => Outcome::NoMemory,
-    }
-}
-
-// The answer to a source that isn't thin.
-fn decide_shape(alloc: Global, source: &[u8], tokens: &[Token]) -> Outcome
-    requires { length source.now ≤ 2 ^ 20 }
-    ensures value { (result ≡ Outcome.NoMemory) ⊎ (result ≡ shape_outcome source.now (parse_of (signs_of tokens.now))) }
-    ensures asked { result ≢ Outcome.Usage }
-{
-    match c_parser::parse(alloc, tokens) {
-        Ok(_) => Outcome::Faulty(SourceFault::Unsupported, place_of(source, 0)),
-        Err(fail) => refuse(source, fail),
-    }
-}
-
 fn decide_run<F: Folder>(
     alloc: Global,
     folder: &mut F,
     source: &[u8],
-    thin: &Thin,
-    name: &str,
+    examined: &Examined,
+    wanted: Wanted<'_>,
 ) -> Outcome
     requires { length source.now ≤ 2 ^ 20 }
-    ensures caused { IsCaused (Rose (F.read_faults folder.old) (F.read_faults folder.new)) (F.tells folder.old) (run_outcome source.now thin.now (F.file folder.old name.now)) result }
-    ensures asked { result ≢ Outcome.Usage }
+    ensures caused { (tree : Items) → RunsAs (tree_of examined.now.typed) tree wanted.entry.model → IsCaused (Rose (F.read_faults folder.old) (F.read_faults folder.new)) (F.tells folder.old) (run_outcome wanted.entry.model wanted.entry.turns source.now tree (F.file folder.old wanted.entry.run.now)) result }
     ensures files { (n : List ℕ) → F.file folder.new n ≡ F.file folder.old n }
     ensures later { F.read_faults folder.old ≤ F.read_faults folder.new }
 {
-    match folder.read(alloc, name, MOST_RUN) {
-        Ok(Got::Bytes(bytes)) => match read_run(alloc, &bytes) {
-            Ok(Some(values)) => {
-                let ending = run(thin.pieces(), values.as_slice());
-                said(source, values, ending)
-            }
-            Ok(None) => Outcome::BadRun,
-            Err(_) => Outcome::NoMemory,
-        },
-        Ok(Got::Longer) => Outcome::BadRun,
+    match folder.read(alloc, wanted.run, MOST_BYTES) {
+        Ok(Got::Bytes(bytes)) => run_file(alloc, source, examined, &bytes, wanted.turns),
+        Ok(Got::Longer) => Outcome::Over(9, 22_000_007),
         Err(FileFail::Failed) => Outcome::ReadFault,
         Err(FileFail::Memory) => Outcome::NoMemory,
     }
 }
 
-fn said(source: &[u8], values: Values, ending: Ending) -> Outcome
+// The answer to a run file.
+fn run_file(alloc: Global, source: &[u8], examined: &Examined, bytes: &[u8], turns: u64) -> Outcome
     requires { length source.now ≤ 2 ^ 20 }
-    ensures { result ≡ said_of source.now values ending }
+    ensures { IsRunOf (tree_of examined.now.typed) turns source.now bytes.now result }
 {
-    match ending {
-        Ending::Error(_, at, drawn) => {
-            let offset = (at as usize).min(source.len());
-            Outcome::Reached(place_of(source, offset), values.first(drawn))
-        }
-        Ending::Ended => Outcome::Ended,
-        Ending::NoInput => Outcome::NeedsMore,
-        Ending::BadInput(i) => Outcome::BadValue(i),
+    match read_run(alloc, bytes) {
+        Ok(values) => run_values(alloc, source, examined, Values::new(values), turns),
+        Err(StoredFail::Format(at)) => Outcome::BadRun(at),
+        Err(StoredFail::Over(number, count)) => Outcome::Over(number, count),
+        Err(StoredFail::Memory) => Outcome::NoMemory,
+    }
+}
+
+fn run_values(
+    alloc: Global,
+    source: &[u8],
+    examined: &Examined,
+    values: Values,
+    turns: u64,
+) -> Outcome
+    requires { length source.now ≤ 2 ^ 20 }
+    ensures { IsRunOn (tree_of examined.now.typed) turns source.now values result }
+{
+    match replayed(alloc, examined, values.as_slice(), turns) {
+        Ok(ending) => told(source, turns, values, ending),
+        Err(_) => Outcome::NoMemory,
     }
 }

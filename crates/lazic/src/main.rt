@@ -1,12 +1,15 @@
-//! `lazic replay SOURCE RUN` answers what a thin program does with given values.
+//! `lazic replay SOURCE RUN` answers what a C program does with given values.
 #![tactic(auto)]
 
 ghost use Rattle.std.specs.Prelude.{pos, ◌≤ℤ◌};
 
 mod answer;
 mod outcome;
+mod reading;
 mod report;
+mod running;
 mod top;
+mod values;
 mod words;
 
 use crate::top::run_words;

@@ -5,9 +5,9 @@ ghost use Rattle.lazic.specs.Outcome.{status_of, text_of};
 ghost use Rattle.lazic.specs.Report.{kept_of};
 
 use crate::outcome::{Outcome, line, status};
+use crate::values::Values;
 use lv_outside::Sink;
 use std::alloc::Global;
-use thin_program::Values;
 
 /// What an answer keeps: the values of a run that reached an error, or a limit's number and the count that passed it.
 #[derive(Drop)]
@@ -71,7 +71,7 @@ fn keep(outcome: Outcome) -> Kept
     ensures { result ≡ kept_of outcome }
 {
     match outcome {
-        Outcome::Reached(_, values) => Kept::Unsafe(values),
+        Outcome::Reached(_, _, values) => Kept::Unsafe(values),
         Outcome::Over(number, count) => Kept::Limited(number, count),
         _ => Kept::Nothing,
     }

@@ -1,11 +1,12 @@
 ghost use Rattle.std.specs.Prelude.{◌≡◌, ◌≢◌, ◌⊎◌, ◌++◌, ℕ, List, map, pos, ◌≤ℤ◌, IsNone};
-ghost use Rattle.lazic.specs.Words.{request_of};
+ghost use Rattle.lazic.specs.Words.{request_of, TurnsAreRead};
 ghost use Rattle.lv_outside.specs.Counts.{Rose};
 ghost use Rattle.lv_outside.specs.Bytes.{GrewByFront};
 ghost use Rattle.lazic.specs.declared.outcome.Outcome.{Outcome};
 ghost use Rattle.lazic.specs.Outcome.{status_of, text_of};
 ghost use Rattle.lazic.specs.Answer.{outcome_of, IsCaused};
-ghost use Rattle.lazic.specs.Meaning.{OneAnswer, ShapesAreTold};
+ghost use Rattle.lazic.specs.Meaning.{OneAnswer};
+ghost use Rattle.lazic.specs.Reaching.{ReachesAreTold};
 ghost use Rattle.lazic.specs.Report.{MeansReport, kept_of, told_text, IsFree};
 
 use crate::answer::decide;
@@ -29,11 +30,14 @@ pub fn run_words<F: Folder, S: Sink, G: Gate>(
     // Some words over some files have exactly one answer, by what is written in them. Each answer but a fault of the
     // outside and want of memory is that one.
     ensures one_answer { OneAnswer }
-    ensures shapes { ShapesAreTold }
+    ensures turns { TurnsAreRead }
     ensures means { F.tells folder.old → IsFree result.status ⊎ MeansReport (map (λ w. w.now) words.now) (F.file folder.old) result.status result.kept }
     ensures status { F.tells folder.old → IsFree result.status ⊎ (result.status ≡ status_of (outcome_of (map (λ w. w.now) words.now) (F.file folder.old))) }
     ensures kept { F.tells folder.old → IsFree result.status ⊎ (result.kept ≡ kept_of (outcome_of (map (λ w. w.now) words.now) (F.file folder.old))) }
     ensures free { IsFree result.status → result.kept ≡ Kept.Nothing }
+
+    // A run that reaches an error is told, with its values.
+    ensures reaches { F.tells folder.old → ReachesAreTold (map (λ w. w.now) words.now) (F.file folder.old) (Rose (F.read_faults folder.old) (F.read_faults folder.new)) (Rose (S.faults out.old) (S.faults out.new)) result.status result.kept }
 
     // A fault of the outside is answered only where its count rose in this call.
     ensures read_fault { result.status ≡ 13 → Rose (F.read_faults folder.old) (F.read_faults folder.new) }

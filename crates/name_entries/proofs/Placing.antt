@@ -1,5 +1,5 @@
 -- An object that is declared, or declared again.
-use Rattle.std.proofs.Common.{◌≡◌, ℕ, Bool, true, false, if◌then◌else◌, Option, None, Some, refl}
+use Rattle.std.proofs.Common.{◌≡◌, ℕ, Bool, true, false, if◌then◌else◌, None, Some, refl}
 use Rattle.c_meaning.specs.Scope.{Declared, is_file}
 use Rattle.c_meaning.specs.Bindings.{Object, Entity, anObjectOf, aFunctionOf, aConstantOf, aTypeOf, aTagOf, aNameOf, nothingOf, Env, object_number}
 use Rattle.c_meaning.specs.Constants.{object_or_same, new_object, entered}

@@ -1,27 +1,11 @@
 -- Lists in a tree, one more at a time.
-use Rattle.std.proofs.Common.{◌≡◌, ℕ, ◌<◌, ◌+◌, ◌-◌, suc, Bool, true, false, if◌then◌else◌, List, [], ◌∷◌, ◌++◌, length, take, drop, drop-cons, get_or, map, find, Option, None, Some, refl, ap, ◌∙◌, sym, arith}
-use Rattle.std.proofs.Math.Seq.{take-suc}
+use Rattle.std.proofs.Common.{◌≡◌, ◌<◌, ◌-◌, suc, List, [], ◌∷◌, length, get_or, Some, refl, ap, ◌∙◌, arith}
 use Rattle.c_tree.specs.declared.tree.Enumerator.{Enumerator, Plain, Valued'}
-use Rattle.c_tree.specs.declared.tree.Spec.{Spec}
-use Rattle.c_tree.specs.declared.tree.Item.{Item}
 use Rattle.c_tree.specs.Tree as t
-use Rattle.c_tree.specs.declared.symbol.StorageWord.TheVariants as storage
-use Rattle.c_tree.specs.View.{word, words_behind, enumerators_of, enumerators_behind, enumerator_behind, items_of, items_behind, item_of}
-use Rattle.c_tree.proofs.Views.{words_push, enumerators_push}
-use Rattle.c_meaning.specs.Bindings as b
+use Rattle.c_tree.specs.View.{enumerators_of, enumerators_behind, enumerator_behind}
 use Rattle.c_meaning.specs.Bindings.{Env, constant_value, declared_at}
 use Rattle.c_meaning.specs.Constants.{last_constant}
-use Rattle.c_meaning.specs.Scope as s
-use Rattle.type_scopes.specs.declared.entries.Entry.{Entry}
-use Rattle.type_scopes.specs.Seen.{entry_of}
 use Rattle.type_scopes.specs.Steps.{place_of}
-
-map_more : {A B : Type 0} (f : A → B) (xs : List A) (i : ℕ) (d : A) → i < length xs → map f (drop i xs) ≡ f (get_or xs i d) ∷ map f (drop (i + 1) xs)
-map_more f xs i d b = let e : i + 1 ≡ suc i = omega arith in rw e (ap (map f) (drop-cons xs i d b))
-
-pub find_more : (p : b.Entry → Bool) (xs : List Entry) (i : ℕ) (d : Entry) → i < length xs →
-    find p (map entry_of (drop i xs)) ≡ (if p (entry_of (get_or xs i d)) then Some (entry_of (get_or xs i d)) else find p (map entry_of (drop (i + 1) xs)))
-find_more p xs i d b = ap (find p) (map_more entry_of xs i d b)
 
 last_index : {A : Type 0} (x y : A) (xs : List A) (d : A) → get_or (y ∷ xs) (length (y ∷ xs) - 1) d ≡ get_or (x ∷ (y ∷ xs)) (length (x ∷ (y ∷ xs)) - 1) d
 last_index x y xs d = let e : length (x ∷ (y ∷ xs)) - 1 ≡ suc (length (y ∷ xs) - 1) = omega arith in rw e refl

@@ -15,9 +15,7 @@ use crate::places::{Named, Region};
 use c_tree::{Form, Initial, Specs};
 use lv_base::{Memory, Model};
 use type_kinds::kind_or_int;
-use type_scopes::{
-    Entity, Entry, Env, Object, Scope, What, has_const, is_tag, object_number, words_type,
-};
+use type_scopes::{Entity, Entry, Env, Object, Scope, What, has_const, object_number, words_type};
 
 /// Adds a declaration.
 pub fn enter<'a>(
@@ -58,16 +56,13 @@ fn add_object<'a>(
     enter(env, region, named, what, Entity::Object(number as u32))
 }
 
-#[tactic(auto, using(crate::proofs::Rows::find_more))]
 fn earlier_in_file<'b, 'a>(env: &'b Env<'a>, name: &[u8]) -> Option<&'b Entity>
     ensures { found.some_entity (option_copied result) ≡ c.earlier_in_file (seen.env_of env.now) name.now }
 {
-    for entry in &env.entries {
-        if entry.scope == Scope::File && (!is_tag(&entry.what) && entry.name == name) {
-            return Some(&entry.entity);
-        }
+    match env.entries.first_in_file(name) {
+        None => None,
+        Some(entry) => Some(&entry.entity),
     }
-    None
 }
 
 fn same_object(env: &Env<'_>, scope: Scope, name: &[u8]) -> Option<u32>

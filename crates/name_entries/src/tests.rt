@@ -8,11 +8,13 @@ use lv_base::{Kind, Model, Text};
 use std::alloc::Global;
 use std::process::Abort;
 use std::test::Fail;
-use type_scopes::{Env, Scope, constant_value, named_entity, named_kind, object_number};
+use type_scopes::{
+    Declarations, Env, Scope, constant_value, named_entity, named_kind, object_number,
+};
 
 fn no_names<'a>(alloc: Global) -> Env<'a> {
     Env {
-        entries: Vec::new(alloc),
+        entries: Declarations::new(alloc),
         objects: Vec::new(alloc),
     }
 }

@@ -1,7 +1,7 @@
 -- Each array of a source that breaks no rule has elements.
 use Rattle.std.proofs.Common.{◌≡◌, ℕ, suc, ◌≤◌, ◌<◌, Bool, true, false, ◌&&◌, ◌||◌, not, if◌then◌else◌, List, [], ◌∷◌, ◌++◌, length, map, Option, None, Some, ℤ, pos, negsuc, sym, ap, ◌∙◌, subst, arith}
 use Rattle.std.proofs.lemmas.Bool.{leb-false, le-leb}
-use Rattle.std.specs.Prelude.{slice_get, find, nat_eq, nat_le, int_le}
+use Rattle.std.specs.Prelude.{min, slice_get, find, nat_eq, nat_le, int_le}
 use Rattle.c_tree.specs.Tree as t
 use Rattle.c_meaning.specs.Kinds.{is_kind}
 use Rattle.c_meaning.specs.Types.{type_of}

@@ -75,7 +75,7 @@ fn labels_and_gotos_have_their_scopes(rt: HostRuntime) -> Result<(), Fail> {
     let goto = &walk.gotos[0];
     assert!(rt; goto.name.is(b"N") && goto.at == 30 && goto.named_at == 35);
     assert_eq!(rt; goto.scope.as_slice(), [0].as_slice());
-    assert!(rt; jumps_found(&walk.labels, &walk.gotos) == none());
+    assert!(rt; jumps_found(alloc, &walk.labels, &walk.gotos)? == none());
     assert!(rt; enters(&[], &[0]) && enters(&[1, 2], &[1, 2, 3]));
     assert!(rt; !enters(&[0], &[]) && !enters(&[1, 2], &[2]));
     Ok(())
@@ -88,7 +88,7 @@ fn a_jump_into_a_scope_is_found(rt: HostRuntime) -> Result<(), Fail> {
     let typed = typed_of(alloc, source.as_bytes(), Model::Ilp32)?;
     let walk = walk_body(alloc, Some(Kind::Int), body_of(&typed))?;
     assert!(rt; walk.found == broken(SourceFault::BadJump, 33));
-    assert!(rt; jumps_found(&walk.labels, &walk.gotos) == broken(SourceFault::JumpIntoScope, 13));
+    assert!(rt; jumps_found(alloc, &walk.labels, &walk.gotos)? == broken(SourceFault::JumpIntoScope, 13));
     Ok(())
 }
 

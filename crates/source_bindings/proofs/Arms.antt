@@ -1,8 +1,8 @@
 -- What the parts of an expression and of a word add, by the answers of the calls for them.
-use Rattle.std.proofs.Common.{◌≡◌, ℕ, suc, ◌<◌, ◌+◌, List, length, take, get_or, Option, Result, Ok, Err, refl, ap, ◌∙◌, sym, Vec, Global}
+use Rattle.std.proofs.Common.{◌≡◌, ℕ, suc, ◌<◌, ◌+◌, List, length, take, get_or, Option, Result, Ok, Err, ap, ◌∙◌, sym, Vec, Global}
 use Rattle.std.specs.Prelude.{Box, IfOk}
 use Rattle.lv_base.specs.declared.kind.Model.{Model}
-use Rattle.c_tree.specs.declared.tree.Expr.{Expr, Call, Cast, SizeofType, Comma}
+use Rattle.c_tree.specs.declared.tree.Expr.{Expr, Call, Cast, SizeofType}
 use Rattle.c_tree.specs.declared.tree.Listed.{Listed}
 use Rattle.c_tree.specs.declared.tree.Spec.{Spec, Enum, TagEnum}
 use Rattle.c_tree.specs.declared.tree.Specs.{Specs}

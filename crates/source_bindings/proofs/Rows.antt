@@ -1,6 +1,5 @@
 -- Lists in a tree, one element more at a time.
-use Rattle.std.proofs.Common.{◌≡◌, ℕ, ◌<◌, ◌+◌, suc, Bool, true, false, List, [], ◌∷◌, ◌++◌, length, take, get_or, Option, None, Some, Result, Ok, Err, refl, ap, ◌∙◌, sym, arith, Vec, Global}
-use Rattle.std.specs.Prelude.{Box, IfOk}
+use Rattle.std.proofs.Common.{◌≡◌, ℕ, ◌<◌, ◌+◌, suc, List, [], ◌∷◌, ◌++◌, length, take, get_or, Option, refl, ap, ◌∙◌, arith}
 use Rattle.std.proofs.Math.Seq.{take-suc}
 use Rattle.lv_base.specs.declared.kind.Model.{Model}
 use Rattle.c_tree.specs.declared.symbol.StorageWord.TheVariants as storage
@@ -12,7 +11,7 @@ use Rattle.c_tree.specs.declared.tree.Declarator.{Declarator}
 use Rattle.c_tree.specs.declared.tree.Statement.{Statement}
 use Rattle.c_tree.specs.declared.tree.Item.{Item}
 use Rattle.c_tree.specs.Tree as t
-use Rattle.c_tree.specs.View.{expr, parts_of, word, words_behind, words_of, enumerators_of, enumerator_behind, params_of, option_name, name_of, form_of, initial_of, declarators_of, declarator_behind, attributes_of, statement, statements_of, items_of, items_behind, item_of}
+use Rattle.c_tree.specs.View.{expr, parts_of, word, words_behind, words_of, enumerators_of, enumerator_behind, params_of, option_name, name_of, form_of, initial_of, declarators_of, statement, statements_of, items_of, items_behind, item_of}
 use Rattle.c_tree.proofs.Views.{parts_push, words_push, enumerators_push, params_push, declarators_push, statements_push}
 use Rattle.c_meaning.specs.Scope as s
 use Rattle.c_meaning.specs.Bindings.{Env}

@@ -1,10 +1,10 @@
 -- What the parts of declarations, statements and items add, and one element more of a list.
-use Rattle.std.specs.Prelude.{ℕ, suc, Bool, true, false, List, Option, None, Some}
+use Rattle.std.specs.Prelude.{ℕ, suc, Bool, true, List, Option, None, Some}
 use Rattle.lv_base.specs.declared.kind.Model.{Model}
 use Rattle.c_tree.specs.declared.tree.Enumerator.{Enumerator, Plain, Valued'}
 use Rattle.c_tree.specs.declared.symbol.StorageWord.TheVariants as storage
 use Rattle.c_tree.specs.Tree as t
-use Rattle.c_tree.specs.View.{expr, enumerator_behind}
+use Rattle.c_tree.specs.View.{expr}
 use Rattle.c_meaning.specs.Tokens.{last_of, open_of, close_of, end_of}
 use Rattle.c_meaning.specs.Scope as s
 use Rattle.c_meaning.specs.Bindings.{Env}

@@ -17,7 +17,7 @@ use name_bindings::part_by_part;
 use name_entries::{Named, Region, declare_function};
 use std::alloc::Global;
 use tree_places::{close_of, open_of};
-use type_scopes::{Env, Scope};
+use type_scopes::{Declarations, Env, Scope};
 
 // A function with a body is declared in the file, behind its parameters.
 fn bind_whole<'a>(
@@ -186,7 +186,7 @@ pub fn bind_all<'a>(alloc: Global, unit: &'a Unit, model: Model) -> Result<Env<'
 {
     part_by_part();
     let mut env = Env {
-        entries: Vec::new(alloc),
+        entries: Declarations::new(alloc),
         objects: Vec::new(alloc),
     };
     bind_items(alloc, &mut env, model, &unit.items)?;

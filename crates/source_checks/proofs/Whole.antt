@@ -27,6 +27,10 @@ typing_none items model h =
 pub good_from : (items : Items) (model : Model) (program : Program) → refusal items model ≡ None → broken program ≡ control items model → broken program ≡ [] → Good items model
 good_from items model program h c b = ap (λ bs. or_control bs (control items model)) (typing_none items model h) ∙ sym c ∙ b
 
+-- nothing refuses it
+pub free_from : (items : Items) (model : Model) (program : Program) → refusal items model ≡ None → broken program ≡ control items model → broken program ≡ [] → source_refusal items model ≡ None
+free_from items model program h c b = ap (λ o. or_else o (control_refusal items model)) h ∙ ap (λ bs. fault_of (first_broken bs)) (sym c ∙ b)
+
 -- a refusal by the rules of labels, jumps, effects and calls
 pub refused_from : (items : Items) (model : Model) (program : Program) (f : SourceFail) → refusal items model ≡ None → broken program ≡ control items model → IsRefused program f → (f ≡ fail.Memory) ⊎ (source_refusal items model ≡ Some f)
 refused_from items model program (fail.Fault f at) h c r =

@@ -1,4 +1,4 @@
-ghost use Rattle.std.specs.Prelude.{ℕ, ◌≡◌, ◌⊎◌, List, Some, ℤ, IfErr, IfOk};
+ghost use Rattle.std.specs.Prelude.{ℕ, ◌≡◌, ◌⊎◌, List, None, Some, ℤ, IfErr, IfOk};
 ghost use Rattle.c_tree.specs.View as v;
 ghost use Rattle.c_meaning.specs.Good.{Good};
 ghost use Rattle.c_meaning.specs.Program.{run};
@@ -23,6 +23,7 @@ use std::alloc::Global;
 pub fn accepted(alloc: Global, unit: &Unit, model: Model) -> Result<Examined, SourceFail>
     requires { IsRead (v.items_of unit.now.items.items) model }
     ensures good { IfOk result (λ _. Good (v.items_of unit.now.items.items) model) }
+    ensures free { IfOk result (λ _. source_refusal (v.items_of unit.now.items.items) model ≡ None) }
     ensures tree { IfOk result (λ e. tree_of e.typed ≡ elaborated (v.items_of unit.now.items.items) model) }
     ensures runs { IfOk result (λ e. (turns : ℕ) → (inputs : List ℤ) → typed.run turns (tree_of e.typed) inputs ≡ run turns (v.items_of unit.now.items.items) model inputs) }
     ensures refused { IfErr result (λ fail. (fail ≡ SourceFail.Memory) ⊎ (source_refusal (v.items_of unit.now.items.items) model ≡ Some fail)) }

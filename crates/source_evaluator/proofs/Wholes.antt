@@ -20,7 +20,7 @@ use Rattle.c_meaning.specs.Program as program
 use Rattle.type_scopes.specs.declared.entries.Object.{Object}
 use Rattle.type_scopes.specs.declared.entries.Entry.{Entry as Row}
 use Rattle.type_scopes.specs.Seen.{object_of, entry_of}
-use Rattle.source_evaluator.specs.Whole.{parameter_number, function_in, listed, own_initial}
+use Rattle.source_evaluator.specs.Whole.{parameter_number, function_in, listed}
 
 -- ---- Parameters and functions
 
@@ -65,17 +65,6 @@ functions_more env xs i d b =
 pub constants_more : (env : Env) (model : Model) (k : Kind) (xs : List Listed) (i : ℕ) (d : Listed) → i < length xs →
     program.constants env model k (parts_of (take (i + 1) xs)) ≡ program.constants env model k (parts_of (take i xs)) ++ converted k model (or_zero (constant_of env model (expr (get_or xs i d).value.value))) ∷ []
 constants_more env model k xs i d b = ap (program.constants env model k) (parts_take xs i d b)
-
-initial_is : (number : ℕ) (e : Entry) (es : List Entry) → program.initial_of number (e ∷ es) ≡ program.or_initial (own_initial number e) (program.initial_of number es)
-initial_is number e es = by_test (program.is_number number e.entity) (program.initial_in e.declared.what) (program.initial_of number es)
-  where
-    by_test : (b : Bool) (i other : t.Initial) → (if b then program.or_initial i other else other) ≡ program.or_initial (if b then i else t.iNothing) other
-    by_test true i other = refl
-    by_test false i other = refl
-
-pub initial_more : (number : ℕ) (xs : List Row) (i : ℕ) (d : Row) → i < length xs →
-    program.initial_of number (map entry_of (drop i xs)) ≡ program.or_initial (own_initial number (entry_of (get_or xs i d))) (program.initial_of number (map entry_of (drop (suc i) xs)))
-initial_more number xs i d b = rw (drop-cons xs i d b) (initial_is number (entry_of (get_or xs i d)) (map entry_of (drop (suc i) xs)))
 
 pub store_more : (env : Env) (model : Model) (xs : List Object) (i : ℕ) (d : Object) → i < length xs →
     program.start_store env model i (map object_of (drop i xs)) ≡ program.start_values env model i (object_of (get_or xs i d)) ∷ program.start_store env model (i + 1) (map object_of (drop (i + 1) xs))

@@ -29,18 +29,9 @@ abbrev pub some_function : Option Body → Option program.Function
 some_function None = None
 some_function (Some b) = Some (function_of b)
 
--- an initial value, which may be left out
-abbrev pub some_initial : Option Initial → t.Initial
-some_initial None = t.iNothing
-some_initial (Some i) = v.initial_of i
-
 abbrev pub store_of : Vec (List ℤ) Global → List (List ℤ)
 store_of v = v.items
 
 abbrev pub listed : {A : Type 0} → Option A → List A
 listed None = []
 listed (Some a) = a ∷ []
-
--- the initial value in this declaration, where it is one of the object
-abbrev pub own_initial : ℕ → Entry → t.Initial
-own_initial number e = if program.is_number number e.entity then program.initial_in e.declared.what else t.iNothing

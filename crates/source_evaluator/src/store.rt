@@ -9,7 +9,8 @@ ghost use Rattle.c_run.specs.Run as run;
 ghost use Rattle.type_scopes.specs.Seen as seen;
 ghost use Rattle.run_machine.specs.Seen.{same};
 ghost use Rattle.statement_parts.specs.Parts.{IsMade, items_of};
-ghost use Rattle.source_evaluator.specs.Whole.{some_initial, own_initial, store_of};
+ghost use Rattle.type_scopes.specs.Found.{some_initial};
+ghost use Rattle.source_evaluator.specs.Whole.{store_of};
 
 use c_tree::{Expr, Initial, Listed};
 use lv_base::{Kind, Model, convert};
@@ -17,7 +18,7 @@ use run_machine::{Cells, Halt};
 use statement_parts::padded;
 use std::alloc::Global;
 use type_constants::constant;
-use type_scopes::{Entity, Entry, Env, Object, What};
+use type_scopes::{Env, Object};
 
 fn constant_of(env: &Env<'_>, model: Model, kind: Kind, e: &Expr) -> i128
     ensures { result ≡ int.converted kind model (c.or_zero (c.constant_of (seen.env_of env.now) model (v.expr e.now))) }
@@ -94,69 +95,6 @@ fn initial_values(
     }
 }
 
-fn is_number(number: usize, entity: &Entity) -> bool
-    ensures { result ≡ program.is_number number (seen.entity_of entity.now) }
-{
-    match entity {
-        Entity::Object(given) => *given as usize == number,
-        Entity::Function(_, _) => false,
-        Entity::Constant(_) => false,
-        Entity::Typedef(_, _) => false,
-        Entity::Tag(_) => false,
-        Entity::Name(_, _) => false,
-    }
-}
-
-// The initial value in a declaration, where it has one.
-fn initial_in<'b>(entry: &'b Entry<'_>) -> Option<&'b Initial>
-    ensures { some_initial (option_copied result) ≡ program.initial_in (seen.what_of entry.now.what) }
-{
-    match entry.what {
-        What::Object(_, _, initial) => Some(initial),
-        What::Parameter(_) => None,
-        What::Function(_, _, _) => None,
-        What::Typedef(_) => None,
-        What::Constant(_) => None,
-        What::Tag(_) => None,
-        What::Name(_) => None,
-    }
-}
-
-fn own_initial<'b>(entry: &'b Entry<'_>, number: usize) -> Option<&'b Initial>
-    ensures { some_initial (option_copied result) ≡ own_initial number (seen.entry_of entry.now) }
-{
-    if is_number(number, &entry.entity) {
-        initial_in(entry)
-    } else {
-        None
-    }
-}
-
-fn or_initial<'b>(initial: Option<&'b Initial>, other: Option<&'b Initial>) -> Option<&'b Initial>
-    ensures { some_initial (option_copied result) ≡ program.or_initial (some_initial (option_copied initial.entry)) (some_initial (option_copied other.entry)) }
-{
-    match initial {
-        None => other,
-        Some(Initial::Nothing) => other,
-        Some(Initial::Value(_, _)) => initial,
-        Some(Initial::List(_, _, _, _, _)) => initial,
-    }
-}
-
-// The one initial value among the declarations of an object.
-#[tactic(auto, using(crate::proofs::Wholes::initial_more, std::proofs::lemmas::List::drop_all))]
-fn initial_of<'b>(entries: &'b [Entry<'_>], number: usize) -> Option<&'b Initial>
-    ensures { some_initial (option_copied result) ≡ program.initial_of number (map seen.entry_of entries.now) }
-{
-    let mut found: Option<&'b Initial> = None;
-    let mut left = entries.len();
-    'entries: while left > 0 {
-        left -= 1;
-        found = or_initial(own_initial(&entries[left], number), found);
-    }
-    found
-}
-
 fn size_of(object: &Object<'_>) -> u64
     ensures { result ≡ b.size_of_object (Some (seen.object_of object.now)) }
 {
@@ -179,7 +117,7 @@ fn start_values(
     match object.owner {
         Some(_) => zeros(alloc, count),
         None => {
-            let initial = initial_of(&env.entries, number);
+            let initial = env.entries.initial_of(number);
             initial_values(alloc, env, model, object.kind, count, initial)
         }
     }

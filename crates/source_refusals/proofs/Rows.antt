@@ -26,10 +26,6 @@ use Rattle.typed_programs.specs.Parts as part
 use Rattle.source_refusals.specs.Cells as c
 use Rattle.source_refusals.specs.Refusals as re
 
-pub find_more : (p : b.Entry → Bool) (xs : List Entry) (i : ℕ) (f : Entry) → i < length xs →
-    find p (map entry_of (drop i xs)) ≡ (if p (entry_of (get_or xs i f)) then Some (entry_of (get_or xs i f)) else find p (map entry_of (drop (i + 1) xs)))
-find_more p xs i f h = ap (λ ys. find p (map entry_of ys)) (drop_more xs i f h)
-
 pub passed_more : (env : b.Env) (cells : ℕ) (xs : List Object) (i : ℕ) (f : Object) → i < length xs →
     c.passed env cells (map object_of (drop i xs))
     ≡ (if c.is_over cells (b.size_of_object (Some (object_of (get_or xs i f)))) then Some (record { from = c.declared_from_at env (object_of (get_or xs i f)).at; count = c.count_after cells (b.size_of_object (Some (object_of (get_or xs i f)))) })

@@ -3,7 +3,7 @@ ghost use Rattle.c_meaning.specs.Bindings as b;
 ghost use Rattle.type_scopes.specs.Seen as seen;
 ghost use Rattle.source_refusals.specs.Cells as c;
 
-use type_scopes::{Env, Object, is_tag};
+use type_scopes::{Env, Object};
 
 const MOST_ELEMENTS: u64 = 1024;
 
@@ -27,16 +27,13 @@ fn count_of(object: &Object<'_>) -> u64
     }
 }
 
-#[tactic(auto, using(crate::proofs::Rows::find_more))]
 fn declared_from(env: &Env<'_>, at: u32) -> u64
     ensures { result ≡ c.declared_from_at (seen.env_of env.now) at }
 {
-    for entry in &env.entries {
-        if entry.at == at && !is_tag(&entry.what) {
-            return entry.from;
-        }
+    match env.entries.placed(at) {
+        None => 0,
+        Some(entry) => entry.from,
     }
-    0
 }
 
 fn is_over(cells: u64, count: u64) -> bool

@@ -5,7 +5,7 @@ use rule_lines::none;
 use std::alloc::Global;
 use std::process::Abort;
 use std::test::Fail;
-use type_scopes::{Env, Object};
+use type_scopes::{Declarations, Env, Object};
 
 fn int_at(alloc: Global, at: u32) -> Result<Specs, Fail> {
     let mut words = Vec::new(alloc);
@@ -58,7 +58,7 @@ fn with_array(alloc: Global, length: u64) -> Result<Env<'static>, Fail> {
     let mut objects = Vec::new(alloc);
     objects.push(array_of(length))?;
     Ok(Env {
-        entries: Vec::new(alloc),
+        entries: Declarations::new(alloc),
         objects,
     })
 }

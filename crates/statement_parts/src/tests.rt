@@ -13,21 +13,20 @@ use run_machine::{Cells, Element, Halt, Machine};
 use std::alloc::Global;
 use std::process::Abort;
 use std::test::Fail;
-use type_scopes::{Entity, Entry, Env, Object, Scope, What};
+use type_scopes::{Declarations, Entity, Entry, Env, Object, Scope, What};
 
 // `int x;` in a function, at offset 4
 fn program<'a>(alloc: Global, inputs: &'a [i128]) -> Result<Program<'a>, Fail> {
-    let entries = vec![in alloc;
-        Entry {
-            name: b"x",
-            at: 4,
-            from: 1,
-            scope: Scope::File,
-            owner: Some(0),
-            what: What::Constant(&[]),
-            entity: Entity::Object(0),
-        },
-    ]?;
+    let mut entries = Declarations::new(alloc);
+    entries.push(Entry {
+        name: b"x",
+        at: 4,
+        from: 1,
+        scope: Scope::File,
+        owner: Some(0),
+        what: What::Constant(&[]),
+        entity: Entity::Object(0),
+    })?;
     let objects = vec![in alloc;
         Object {
             name: b"x",

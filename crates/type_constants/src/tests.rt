@@ -5,7 +5,7 @@ use lv_base::{Model, Text};
 use std::alloc::Global;
 use std::process::Abort;
 use std::test::Fail;
-use type_scopes::{Entity, Entry, Env, Scope, What};
+use type_scopes::{Declarations, Entity, Entry, Env, Scope, What};
 
 fn number(alloc: Global, value: u64, unsigned_suffix: bool) -> Result<Box<Expr>, Fail> {
     let form = NumberForm {
@@ -26,7 +26,7 @@ fn prefix(alloc: Global, op: PrefixOp, e: Box<Expr>) -> Result<Box<Expr>, Fail> 
 
 fn no_names<'a>(alloc: Global) -> Env<'a> {
     Env {
-        entries: Vec::new(alloc),
+        entries: Declarations::new(alloc),
         objects: Vec::new(alloc),
     }
 }

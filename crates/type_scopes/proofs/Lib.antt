@@ -1,2 +1,5 @@
 mod Views
 mod Rows
+mod Chaining
+mod Joining
+mod Walks

@@ -1,21 +1,17 @@
 -- Lists of words, constants and parameters, one more at a time.
-use Rattle.std.proofs.Common.{◌≡◌, ℕ, ◌<◌, ◌+◌, suc, Bool, true, false, cond, if◌then◌else◌, List, [], ◌∷◌, ◌++◌, length, take, get_or, drop, drop-cons, map, find, ◌-◌, Option, Some, refl, ap, ◌∙◌, sym, arith, Vec, Global, ℤ, pos, int_lt}
+use Rattle.std.proofs.Common.{◌≡◌, ℕ, ◌<◌, ◌+◌, suc, Bool, true, if◌then◌else◌, List, [], ◌∷◌, ◌++◌, length, take, get_or, ◌-◌, Option, Some, refl, ap, ◌∙◌, sym, arith, Vec, Global, pos, int_lt}
 use Rattle.std.proofs.Math.Seq.{take-suc}
 use Rattle.c_tree.specs.declared.tree.Enumerator.{Enumerator, Plain, Valued'}
 use Rattle.c_tree.specs.declared.tree.Spec.{Spec, Enum, TagEnum}
 use Rattle.c_tree.specs.declared.tree.Parameter.{Parameter}
 use Rattle.c_tree.specs.Tree as t
-use Rattle.c_tree.specs.View.{word, words_behind, words_of, enumerators_of, enumerators_behind, enumerator_behind, params_of, option_name, parts_of, parts_behind, expr}
+use Rattle.c_tree.specs.View.{word, words_behind, words_of, enumerators_of, enumerator_behind, params_of, parts_of, parts_behind, expr}
 use Rattle.c_tree.proofs.Views.{words_push, enumerators_push, params_push, word_Enum, word_TagEnum}
-use Rattle.lv_base.specs.declared.kind.Kind.{Kind}
-use Rattle.c_meaning.specs.Bindings as b
 use Rattle.c_meaning.specs.Types.{type_of, type_of_last}
 use Rattle.lv_base.specs.declared.kind.Model.{Model}
 use Rattle.c_tree.specs.declared.tree.Listed.{Listed}
-use Rattle.c_meaning.specs.Bindings.{Env, visible_in, is_visible, inner, word_kind, enum_kind, has_negative, has_const, constant_value, declared_at, params_kinds, kind_or_int, words_type}
+use Rattle.c_meaning.specs.Bindings.{Env, word_kind, enum_kind, has_negative, has_const, constant_value, declared_at, params_kinds, kind_or_int, words_type}
 use Rattle.type_scopes.specs.Steps.{const_with, place_of}
-use Rattle.type_scopes.specs.declared.entries.Entry.{Entry}
-use Rattle.type_scopes.specs.Seen.{entry_of}
 
 take_more : {A : Type 0} (xs : List A) (i : ℕ) (d : A) → i < length xs → take (i + 1) xs ≡ take i xs ++ (get_or xs i d ∷ [])
 take_more xs i d b = let e : i + 1 ≡ suc i = omega arith in rw e (take-suc xs i d b)
@@ -64,19 +60,6 @@ const_take env xs i d b = ap (has_const env) (words_take xs i d b) ∙ const_and
 pub params_take : (env : Env) (xs : List Parameter) (i : ℕ) (d : Parameter) → i < length xs →
     params_kinds env (params_of (take (i + 1) xs)) ≡ params_kinds env (params_of (take i xs)) ++ (kind_or_int (words_type env (words_of (get_or xs i d).specs)) ∷ [])
 params_take env xs i d b = ap (λ ps. params_kinds env (params_of ps)) (take_more xs i d b) ∙ ap (params_kinds env) (params_push (take i xs) (get_or xs i d))
-
--- ---- Declarations, one less at a time
-
-map_more : {A B : Type 0} (f : A → B) (xs : List A) (i : ℕ) (d : A) → i < length xs → map f (drop i xs) ≡ f (get_or xs i d) ∷ map f (drop (i + 1) xs)
-map_more f xs i d b = let e : i + 1 ≡ suc i = omega arith in rw e (ap (map f) (drop-cons xs i d b))
-
-pub visible_more : (tag : Bool) (name : List ℕ) (at : ℕ) (best : Option b.Entry) (xs : List Entry) (i : ℕ) (d : Entry) → i < length xs →
-    visible_in tag name at best (map entry_of (drop i xs)) ≡ visible_in tag name at (if is_visible tag name at (entry_of (get_or xs i d)) then Some (inner best (entry_of (get_or xs i d))) else best) (map entry_of (drop (i + 1) xs))
-visible_more tag name at best xs i d b = ap (visible_in tag name at best) (map_more entry_of xs i d b)
-
-pub find_more : (p : b.Entry → Bool) (xs : List Entry) (i : ℕ) (d : Entry) → i < length xs →
-    find p (map entry_of (drop i xs)) ≡ (if p (entry_of (get_or xs i d)) then Some (entry_of (get_or xs i d)) else find p (map entry_of (drop (i + 1) xs)))
-find_more p xs i d b = ap (find p) (map_more entry_of xs i d b)
 
 -- ---- The last part of a list
 

@@ -1,5 +1,5 @@
 -- Declarations, without where they lie in memory.
-use Rattle.std.specs.Prelude.{suc, List, map, Option, None, Some, slice_get}
+use Rattle.std.specs.Prelude.{suc, map}
 use Rattle.type_scopes.specs.declared.entries.Scope.{Scope}
 use Rattle.type_scopes.specs.declared.entries.Scope.TheVariants as sc
 use Rattle.type_scopes.specs.declared.entries.What.{What}
@@ -45,4 +45,4 @@ abbrev pub object_of : Object → b.Object
 object_of o = record { name = o.name.now; at = o.at; kind = o.kind; length = o.length; is_const = o.is_const; owner = o.owner }
 
 abbrev pub env_of : Env → b.Env
-env_of env = record { entries = map entry_of env.entries.items; objects = map object_of env.objects.items }
+env_of env = record { entries = map entry_of env.entries; objects = map object_of env.objects.items }

@@ -1,7 +1,7 @@
 -- One word more of a declaration's words.
-use Rattle.std.specs.Prelude.{ℕ, Bool, true, false, if◌then◌else◌}
+use Rattle.std.specs.Prelude.{ℕ, Bool, true, if◌then◌else◌}
 use Rattle.c_tree.specs.declared.tree.Enumerator.{Enumerator, Plain, Valued'}
-use Rattle.c_tree.specs.Tree.{Word, wType, wStorage, wConst, wExtension, wAttribute, wTypedef, wTag, wEnum, wTagEnum}
+use Rattle.c_tree.specs.Tree.{Word, wConst, wTypedef}
 use Rattle.c_meaning.specs.Bindings.{Env, entity_of, is_const_entity}
 
 -- the words are const, or this one says so

@@ -2,6 +2,7 @@ ghost use Rattle.std.specs.Prelude.{◌≡◌};
 ghost use Rattle.c_meaning.specs.Scope as s;
 ghost use Rattle.type_scopes.specs.Seen as seen;
 
+use crate::collected::Declarations;
 use c_tree::{Enumerator, Form, Initial, Parameters, Specs};
 use lv_base::Kind;
 
@@ -72,7 +73,7 @@ pub struct Object<'a> {
 /// The declarations so far in their order, and the objects by number.
 #[derive(Drop)]
 pub struct Env<'a> {
-    pub entries: Vec<Entry<'a>>,
+    pub entries: Declarations<'a>,
     pub objects: Vec<Object<'a>>,
 }
 
@@ -110,5 +111,38 @@ pub fn is_tag(what: &What<'_>) -> bool
         What::Typedef(_) => false,
         What::Constant(_) => false,
         What::Name(_) => false,
+    }
+}
+
+// The first token of a scope that is not the file.
+fn is_block(scope: Scope, first: u64, last: u32) -> bool
+    ensures { result ≡ s.is_same (s.block first last) (seen.scope_of scope) }
+{
+    match scope {
+        Scope::File => false,
+        Scope::Block(begin, end) => first == begin as u64 && last == end,
+        Scope::Behind(before, end) => first == before as u64 + 1 && last == end,
+    }
+}
+
+/// Whether a scope is the file.
+pub fn is_file(scope: Scope) -> bool
+    ensures { result ≡ s.is_file (seen.scope_of scope) }
+{
+    match scope {
+        Scope::File => true,
+        Scope::Block(_, _) => false,
+        Scope::Behind(_, _) => false,
+    }
+}
+
+/// Whether two scopes are one.
+pub fn is_same(x: Scope, y: Scope) -> bool
+    ensures { result ≡ s.is_same (seen.scope_of x) (seen.scope_of y) }
+{
+    match x {
+        Scope::File => is_file(y),
+        Scope::Block(first, last) => is_block(y, first as u64, last),
+        Scope::Behind(before, last) => is_block(y, before as u64 + 1, last),
     }
 }

@@ -4,46 +4,14 @@ ghost use Rattle.c_meaning.specs.Bindings as b;
 ghost use Rattle.type_scopes.specs.Seen as seen;
 ghost use Rattle.type_scopes.specs.Found as found;
 
-use crate::entries::{Entity, Entry, Env, begin_of, holds, is_tag};
-
-// Whether this is a declaration of the name, in its name space, whose scope holds the token.
-fn is_visible(tag: bool, name: &[u8], at: u32, entry: &Entry<'_>) -> bool
-    ensures { result ≡ b.is_visible tag name.now at (seen.entry_of entry.now) }
-{
-    is_tag(&entry.what) == tag
-        && entry.name == name
-        && entry.from <= at as u64
-        && holds(entry.scope, at)
-}
-
-fn inner<'b, 'a>(best: Option<&'b Entry<'a>>, entry: &'b Entry<'a>) -> &'b Entry<'a>
-    ensures { seen.entry_of result.now ≡ b.inner (found.some_entry (option_copied best.entry)) (seen.entry_of entry.now) }
-{
-    match best {
-        None => entry,
-        Some(best) => {
-            if begin_of(best.scope) <= begin_of(entry.scope) {
-                entry
-            } else {
-                best
-            }
-        }
-    }
-}
+use crate::entries::{Entity, Entry, Env};
 
 /// The declaration that a name of a token names: the last one before it in the innermost scope that has one
 /// (C11 6.2.1 p4). Tags have a name space of their own.
-#[tactic(auto, using(crate::proofs::Rows::visible_more))]
 pub fn visible<'b, 'a>(env: &'b Env<'a>, tag: bool, name: &[u8], at: u32) -> Option<&'b Entry<'a>>
     ensures { found.some_entry (option_copied result) ≡ b.visible (seen.env_of env.now) tag name.now at }
 {
-    let mut best: Option<&'b Entry<'a>> = None;
-    for entry in &env.entries {
-        if is_visible(tag, name, at, entry) {
-            best = Some(inner(best, entry));
-        }
-    }
-    best
+    env.entries.visible(tag, name, at)
 }
 
 /// What a name of a token stands for, but for tags.
@@ -57,16 +25,13 @@ pub fn named_entity<'b, 'a>(env: &'b Env<'a>, name: &[u8], at: u32) -> Option<&'
 }
 
 /// What is declared where its name is this token.
-#[tactic(auto, using(crate::proofs::Rows::find_more))]
 pub fn declared_entity<'b, 'a>(env: &'b Env<'a>, at: u32) -> Option<&'b Entity>
     ensures { found.some_entity (option_copied result) ≡ b.declared_at (seen.env_of env.now) at }
 {
-    for entry in &env.entries {
-        if entry.at == at && !is_tag(&entry.what) {
-            return Some(&entry.entity);
-        }
+    match env.entries.placed(at) {
+        None => None,
+        Some(entry) => Some(&entry.entity),
     }
-    None
 }
 
 /// The number of an object.

@@ -1,10 +1,12 @@
 use crate::{
-    Entity, Entry, Env, Object, Scope, What, begin_of, constant_value, declared_entity,
-    entity_type, enum_kind, has_const, holds, is_tag, named_entity, named_kind, object_number,
-    object_type, parameter_kinds, type_of, typing_of, visible, words_type,
+    Declarations, Entity, Entry, Env, Object, Scope, What, begin_of, constant_value,
+    declared_entity, entity_type, enum_kind, has_const, holds, is_file, is_same, is_tag,
+    named_entity, named_kind, object_number, object_type, parameter_kinds, type_of, typing_of,
+    visible, words_type,
 };
 use c_tree::{
-    BinaryOp, ConstWord, Enumerator, Expr, Parameter, Parameters, Spec, Specs, TypeWord, Typing,
+    BinaryOp, ConstWord, Enumerator, Expr, Form, Initial, Parameter, Parameters, Spec, Specs,
+    TypeWord, Typing,
 };
 use lv_base::{Kind, Model, Text};
 use std::alloc::Global;
@@ -37,7 +39,7 @@ fn the_inner_declaration_is_named(rt: HostRuntime) -> Result<(), Fail> {
     let alloc = rt.alloc();
     let words = specs(alloc, TypeWord::Long)?;
     let constants: Vec<Enumerator> = Vec::new(alloc);
-    let mut entries = Vec::new(alloc);
+    let mut entries = Declarations::new(alloc);
     entries.push(entry(5, Scope::File, What::Parameter(&words), Entity::Object(0)))?;
     entries.push(entry(
         20,
@@ -74,10 +76,61 @@ fn the_inner_declaration_is_named(rt: HostRuntime) -> Result<(), Fail> {
     assert!(rt; object_number(declared_entity(&env, 57)) == Some(1));
     assert!(rt; kind_of(object_type(env.objects.first())) == Kind::Char);
     assert!(rt; kind_in(entity_type(&env, declared_entity(&env, 57))) == Some(Kind::Long));
+    assert!(rt;
+        env.entries.len() == 3 && env.entries.get(2).is_some() && env.entries.get(3).is_none()
+    );
+    assert!(rt; env.entries.placed(5).is_some() && env.entries.placed(20).is_none());
+    assert!(rt; is_at(env.entries.first_in_file(b"x"), 5));
+    assert!(rt; env.entries.twin_before(1) == 1 && env.entries.twin_before(2) == 0);
     let x = Box::new(alloc, Expr::Name(Text::copy_of(alloc, b"x")?, 60))?;
     let c = Box::new(alloc, Expr::Letter(97, 62))?;
     let sum = Expr::Binary(x, BinaryOp::Add, 61, c);
     assert!(rt; kind_in(type_of(&env, Model::Ilp32, &sum)) == Some(Kind::Long));
+    Ok(())
+}
+
+fn is_at(found: Option<&Entry<'_>>, at: u32) -> bool {
+    match found {
+        None => false,
+        Some(entry) => entry.at == at,
+    }
+}
+
+// `long x; long x = 7;` in the file, and `x` in 30 blocks behind it, of which each begins at a multiple of 100
+#[test]
+fn many_declare_one_name(rt: HostRuntime) -> Result<(), Fail> {
+    let alloc = rt.alloc();
+    let words = specs(alloc, TypeWord::Long)?;
+    let form = Form::Plain;
+    let nothing = Initial::Nothing;
+    let value = Initial::Value(10, Box::new(alloc, Expr::Letter(7, 12))?);
+    let mut entries = Declarations::new(alloc);
+    let first = What::Object(&words, &form, &nothing);
+    let second = What::Object(&words, &form, &value);
+    entries.push(entry(5, Scope::File, first, Entity::Object(0)))?;
+    entries.push(entry(8, Scope::File, second, Entity::Object(0)))?;
+    for k in 1..31u32 {
+        let scope = Scope::Block(k * 100, k * 100 + 90);
+        let what = What::Object(&words, &form, &nothing);
+        entries.push(entry(k * 100 + 20, scope, what, Entity::Object(k)))?;
+    }
+    for k in 1..31u32 {
+        assert!(rt; is_at(entries.visible(false, b"x", k * 100 + 10), 8));
+        assert!(rt; is_at(entries.visible(false, b"x", k * 100 + 50), k * 100 + 20));
+        assert!(rt; is_at(entries.visible(false, b"x", k * 100 + 95), 8));
+        assert!(rt; is_at(entries.placed(k * 100 + 20), k * 100 + 20));
+        assert!(rt;
+            entries.initial_of(k as usize).is_none() && entries.twin_before(k as usize + 1) == 0
+        );
+    }
+    assert!(rt; is_at(entries.visible(false, b"x", 7), 5));
+    assert!(rt; entries.visible(true, b"x", 700).is_none());
+    assert!(rt; entries.twin_before(1) == 1);
+    assert!(rt; is_same(Scope::Behind(5, 9), Scope::Block(6, 9)) && !is_file(Scope::Block(6, 9)));
+    match entries.initial_of(0) {
+        Some(Initial::Value(at, _)) => assert_eq!(rt; *at, 10),
+        _ => assert!(rt; false),
+    }
     Ok(())
 }
 
@@ -97,7 +150,7 @@ fn scopes_hold_their_tokens(rt: HostRuntime) {
 fn words_name_types(rt: HostRuntime) -> Result<(), Fail> {
     let alloc = rt.alloc();
     let env = Env {
-        entries: Vec::new(alloc),
+        entries: Declarations::new(alloc),
         objects: Vec::new(alloc),
     };
     let words = specs(alloc, TypeWord::Bool)?;

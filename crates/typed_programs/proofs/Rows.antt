@@ -21,7 +21,11 @@ use Rattle.c_typed.specs.View as tv
 use Rattle.c_types.specs.Elaborated as el
 use Rattle.type_scopes.specs.declared.entries.Entry.{Entry}
 use Rattle.type_scopes.specs.declared.entries.Object.{Object}
-use Rattle.type_scopes.specs.Seen.{entry_of, object_of}
+use Rattle.c_tree.specs.declared.tree.Initial.{Initial}
+use Rattle.c_tree.specs.View.{initial_of}
+use Rattle.std.specs.Option.{option_map}
+use Rattle.type_scopes.specs.Found.{some_initial}
+use Rattle.type_scopes.specs.Seen.{object_of}
 use Rattle.typed_programs.specs.Parts as part
 
 take_more : {A : Type 0} (xs : List A) (i : ℕ) (d : A) → i < length xs → take (i + 1) xs ≡ take i xs ++ (get_or xs i d ∷ [])
@@ -94,18 +98,9 @@ pub constants_more : (env : b.Env) (model : Model) (k : Kind) (xs : List Listed)
     program.constants env model k (parts_of (take (i + 1) xs)) ≡ program.constants env model k (parts_of (take i xs)) ++ converted k model (or_zero (constant_of env model (expr (get_or xs i d).value.value))) ∷ []
 constants_more env model k xs i d b = ap (λ ys. program.constants env model k (parts_of ys)) (take_more xs i d b) ∙ ap (program.constants env model k) (parts_push (take i xs) (get_or xs i d))
 
-chosen : (b : Bool) (i rest : tr.Initial) → (if b then program.or_initial i rest else rest) ≡ part.or_written (if b then part.written i else None) rest
-chosen true tr.iNothing rest = refl
-chosen true (tr.iValue at e) rest = refl
-chosen true (tr.iList at a es c b) rest = refl
-chosen false i rest = refl
-
-initial_and : (number : ℕ) (e : b.Entry) (es : List b.Entry) → program.initial_of number (e ∷ es) ≡ part.or_written (part.written_for number e) (program.initial_of number es)
-initial_and number e es = chosen (program.is_number number e.entity) (program.initial_in e.declared.what) (program.initial_of number es)
-
-pub initial_more : (number : ℕ) (xs : List Entry) (i : ℕ) (d : Entry) → i < length xs →
-    program.initial_of number (map entry_of (drop i xs)) ≡ part.or_written (part.written_for number (entry_of (get_or xs i d))) (program.initial_of number (map entry_of (drop (i + 1) xs)))
-initial_more number xs i d b = ap (program.initial_of number) (map_more entry_of xs i d b) ∙ initial_and number (entry_of (get_or xs i d)) (map entry_of (drop (i + 1) xs))
+pub initial_is : (o : Option Initial) → part.or_nothing (option_map initial_of o) ≡ some_initial o
+initial_is None = refl
+initial_is (Some i) = refl
 
 -- ---- Objects
 

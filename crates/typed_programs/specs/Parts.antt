@@ -10,21 +10,9 @@ use Rattle.c_types.specs.Elaborated.{owner_of, length_of, first_of}
 
 -- ---- Initial values
 
-abbrev pub written : Initial → Option Initial
-written iNothing = None
-written i = Some i
-
 abbrev pub or_nothing : Option Initial → Initial
 or_nothing None = iNothing
 or_nothing (Some i) = i
-
-abbrev pub or_written : Option Initial → Initial → Initial
-or_written None other = other
-or_written (Some i) other = i
-
--- the initial value in this declaration, if it declares the object
-abbrev pub written_for : ℕ → Entry → Option Initial
-written_for number e = if is_number number e.entity then written (initial_in e.declared.what) else None
 
 -- ---- Objects
 

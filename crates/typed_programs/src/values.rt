@@ -12,7 +12,7 @@ use c_tree::{Expr, Initial, Listed};
 use lv_base::{Kind, Memory, Model, convert};
 use std::alloc::Global;
 use type_constants::constant;
-use type_scopes::{Entity, Entry, Env, What};
+use type_scopes::Env;
 
 fn or_zero(value: Option<i128>) -> i128
     ensures { result ≡ c.or_zero value }
@@ -113,63 +113,10 @@ pub fn initial_values(
 }
 
 // Whether this is the object of this number.
-fn is_number(number: u32, entity: &Entity) -> bool
-    ensures { result ≡ program.is_number number (seen.entity_of entity.now) }
-{
-    match entity {
-        Entity::Object(other) => *other == number,
-        Entity::Function(_, _) => false,
-        Entity::Constant(_) => false,
-        Entity::Typedef(_, _) => false,
-        Entity::Tag(_) => false,
-        Entity::Name(_, _) => false,
-    }
-}
-
-fn written<'a>(initial: &'a Initial) -> Option<&'a Initial>
-    ensures { option_map v.initial_of (option_copied result) ≡ part.written (v.initial_of initial.now) }
-{
-    match initial {
-        Initial::Nothing => None,
-        Initial::Value(_, _) => Some(initial),
-        Initial::List(_, _, _, _, _) => Some(initial),
-    }
-}
-
-fn written_in<'a>(what: &What<'a>) -> Option<&'a Initial>
-    ensures { option_map v.initial_of (option_copied result) ≡ part.written (program.initial_in (seen.what_of what.now)) }
-{
-    match what {
-        What::Object(_, _, initial) => written(initial),
-        What::Parameter(_) => None,
-        What::Function(_, _, _) => None,
-        What::Typedef(_) => None,
-        What::Constant(_) => None,
-        What::Tag(_) => None,
-        What::Name(_) => None,
-    }
-}
-
-fn written_for<'a>(number: u32, entry: &Entry<'a>) -> Option<&'a Initial>
-    ensures { option_map v.initial_of (option_copied result) ≡ part.written_for number (seen.entry_of entry.now) }
-{
-    if is_number(number, &entry.entity) {
-        written_in(&entry.what)
-    } else {
-        None
-    }
-}
-
 /// The one initial value among the declarations of an object.
-#[tactic(auto, using(crate::proofs::Rows::initial_more))]
+#[tactic(auto, using(crate::proofs::Rows::initial_is))]
 pub fn initial_of<'a>(env: &Env<'a>, number: u32) -> Option<&'a Initial>
     ensures { part.or_nothing (option_map v.initial_of (option_copied result)) ≡ program.initial_of number (seen.env_of env.now).entries }
 {
-    for entry in &env.entries {
-        let initial = written_for(number, entry);
-        if initial.is_some() {
-            return initial;
-        }
-    }
-    None
+    env.entries.initial_of(number as usize)
 }

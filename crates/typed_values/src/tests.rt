@@ -10,7 +10,7 @@ use std::alloc::Global;
 use std::process::Abort;
 use std::test::Fail;
 use type_kinds::ExprType;
-use type_scopes::{Entity, Entry, Env, Object, Scope, What, named_entity};
+use type_scopes::{Declarations, Entity, Entry, Env, Object, Scope, What, named_entity};
 
 // A call of the crate.
 #[derive(Clone, Copy)]
@@ -90,7 +90,7 @@ fn entry<'a>(words: &'a Specs, name: &'a [u8], entity: Entity) -> Entry<'a> {
 
 // `long a[3];`, a function f of a short, reach_error, and a drawn input that is declared as a long
 fn environment<'a>(alloc: Global, words: &'a Specs) -> Result<Env<'a>, Fail> {
-    let mut entries = Vec::new(alloc);
+    let mut entries = Declarations::new(alloc);
     entries.push(entry(words, b"a", Entity::Object(0)))?;
     let kinds = vec![in alloc; Kind::Short]?;
     entries.push(entry(words, b"f", Entity::Function(Some(Kind::Int), kinds)))?;

@@ -7,5 +7,6 @@ use Rattle.call_order.proofs.order.order_of.Goals as goal
 
 pub returns : goal.returns
 returns c =
-    subst (λ (z : List ℕ). IsOrder (graph_of c.args.calls.now) z) (sym (c.order_in.ensures ∙ ap (λ (z : p.Taking). z.order) c.in_ok-taking.ensures))
-    (orders_found (graph_of c.args.calls.now) c.requires.bounded c.requires.acyclic)
+    subst (λ (z : List ℕ). IsOrder (graph_of c.args.calls.now) z)
+    (sym (c.order_in.ensures ∙ ap (λ (z : p.Taking). z.order) (c.in_ok-finish.ensures ∙ ap (p.finished (graph_of c.args.calls.now)) c.in_ok-taking.ensures)))
+    (orders_found (graph_of c.args.calls.now) c.deref.result.now c.requires.bounded c.requires.acyclic)

@@ -1,10 +1,29 @@
-use Rattle.std.proofs.Common.{arith}
+use Rattle.std.proofs.Common.{◌∙◌, ◌≤◌, ◌-◌, length, map, sym, arith}
+use Rattle.std.proofs.lemmas.List.{length-map}
+use Rattle.std.proofs.lemmas.Option.{slice_get_within}
 use Rattle.type_scopes.specs.Seen as seen
-use Rattle.declaration_rules.specs.Twice as t
-use Rattle.declaration_rules.proofs.Rows.{any_step}
+use Rattle.declaration_rules.proofs.Twins.{passing_starts, passing_goes, next_less, clash_found, none_found}
 use Rattle.declaration_rules.proofs.doubles.clashes_before.Goals as goal
 
-pub loop-earlier-preserved : goal.loop-earlier-preserved
-loop-earlier-preserved c =
-    any_step (t.clashes (seen.env_of c.args.env.now) c.args.model (seen.declared_of c.args.entry.now)) c.args.before.now c.loop-earlier.earlier-index c.earlier-item.result c.loop-earlier.found c.in_ok-test.test c.or_found-found.result
-    (omega arith) c.earlier-item.is c.loop-earlier.invariant c.in_ok-test.ensures c.or_found-found.ensures
+pub twins-init : goal.twins-init
+twins-init c =
+    let xs = c.args.env.now.entries in
+    let within = slice_get_within xs c.args.place c.args.entry.now c.requires in
+    let long = length-map xs seen.entry_of in
+    passing_starts (seen.env_of c.args.env.now) c.args.model (seen.declared_of c.args.entry.now) (map seen.entry_of xs) c.args.place c.twin_before-left.result (omega (arith, within, long)) (c.twin_before-left.ensures c.args.entry.now c.requires)
+
+pub returns-then-test : goal.returns-then-test
+returns-then-test c =
+    clash_found (seen.env_of c.args.env.now) c.args.model (seen.declared_of c.args.entry.now) (map seen.entry_of c.args.env.now.entries) c.args.place c.twins.left (c.twins.left - 1) (omega (arith, c.twins-test.true)) (sym c.in_ok-test.ensures ∙ c.if-test.true) c.twins.invariant
+
+pub twins-smaller : goal.twins-smaller
+twins-smaller c =
+    next_less (seen.env_of c.args.env.now) c.args.model (seen.declared_of c.args.entry.now) c.args.env.now.entries c.args.place c.twins.left (c.twins.left - 1) c.twin_before-left-in-twins.result (omega (arith, c.twins-test.true)) c.twin_before-left-in-twins.ensures c.twins.invariant
+
+pub twins-preserved : goal.twins-preserved
+twins-preserved c =
+    passing_goes (seen.env_of c.args.env.now) c.args.model (seen.declared_of c.args.entry.now) c.args.env.now.entries c.args.place c.twins.left (c.twins.left - 1) c.twin_before-left-in-twins.result (omega (arith, c.twins-test.true)) (sym c.in_ok-test.ensures ∙ c.if-test.false) c.twin_before-left-in-twins.ensures c.twins.invariant
+
+pub returns : goal.returns
+returns c =
+    none_found (seen.env_of c.args.env.now) c.args.model (seen.declared_of c.args.entry.now) (map seen.entry_of c.args.env.now.entries) c.args.place c.twins.left (omega (arith, c.twins-test.false)) c.twins.invariant

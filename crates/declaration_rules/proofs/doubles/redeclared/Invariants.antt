@@ -5,5 +5,5 @@ use Rattle.declaration_rules.specs.Twice as t
 use Rattle.declaration_rules.proofs.doubles.redeclared.Given as goal
 
 -- the lines of those so far
-abbrev pub invariant-loop-i : goal.invariant-loop-i
-invariant-loop-i l = map broken_of l.found.items ≡ t.twice (seen.env_of l.env) l.model [] (map seen.entry_of (take l.i l.env.entries.items))
+abbrev pub invariant-loop-place : goal.invariant-loop-place
+invariant-loop-place l = map broken_of l.found.items ≡ t.twice (seen.env_of l.env) l.model [] (take l.place (seen.env_of l.env).entries)

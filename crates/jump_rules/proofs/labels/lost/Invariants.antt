@@ -1,4 +1,4 @@
-use Rattle.std.proofs.Common.{◌≡◌, take}
+use Rattle.std.proofs.Common.{◌≡◌, take, []}
 use Rattle.c_typed.specs.Rules as r
 use Rattle.rule_lines.specs.Seen.{found_of}
 use Rattle.rule_lines.specs.Found.{summary}
@@ -7,4 +7,4 @@ use Rattle.jump_rules.proofs.labels.lost.Given as goal
 
 -- the sum of those so far
 abbrev pub invariant-loop-goto : goal.invariant-loop-goto
-invariant-loop-goto l = found_of l.all ≡ summary (r.lost_gotos (jumps l.labels) (jumps (take l.goto-index l.gotos)))
+invariant-loop-goto l = found_of l.all ≡ summary (r.lost_gotos (jumps l.named.labels.now) (jumps (take l.goto-index l.gotos)))

@@ -7,4 +7,4 @@ use Rattle.jump_rules.proofs.labels.repeated.Given as goal
 
 -- the sum of those so far
 abbrev pub invariant-loop-i : goal.invariant-loop-i
-invariant-loop-i l = found_of l.all ≡ summary (r.repeated_labels [] (jumps (take l.i l.labels)))
+invariant-loop-i l = found_of l.all ≡ summary (r.repeated_labels [] (jumps (take l.i l.named.labels.now)))

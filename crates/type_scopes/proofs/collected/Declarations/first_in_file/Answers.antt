@@ -1,0 +1,68 @@
+use Rattle.std.proofs.Common.{◌≡◌, ◌∙◌, ◌-◌, get_or, arith, ap, find}
+use Rattle.std.specs.Prelude.{map}
+use Rattle.std.specs.Option.{option_copied}
+use Rattle.type_scopes.specs.Buckets.{bucket}
+use Rattle.type_scopes.specs.Found.{some_entry}
+use Rattle.type_scopes.specs.Seen.{entry_of}
+use Rattle.type_scopes.specs.Chains.{by_name}
+use Rattle.type_scopes.specs.Walking.{is_in_file, or_found}
+use Rattle.type_scopes.proofs.Joining.{finding_starts, finding_jumps, finding_goes, finding_ends}
+use Rattle.type_scopes.proofs.Walks.{not_in_file, other_in_file, name_few, head_leads, head_free, read, older_less, jump_less}
+use Rattle.type_scopes.proofs.collected.Declarations.first_in_file.Goals as goal
+
+pub bucket-init : goal.bucket-init
+bucket-init c =
+    let xs = c.self.inside.rows.items in
+    let table = c.self.inside.newest.items in
+    let name = c.args.name.now in
+    let n = c.bucket_of.result in
+    let left = c.newest_in-left.result in
+    let head : left ≡ get_or table n 0 = c.newest_in-left.ensures ∙ ap (λ t. get_or t n 0) c.deref.ensures.value in
+    finding_starts by_name (bucket name) (is_in_file name) xs (other_in_file name) left
+    (head_leads xs table name n left c.self.invariant c.bucket_of.ensures.value c.bucket_of.ensures.below head)
+    (head_free xs table name n left c.self.invariant c.bucket_of.ensures.value c.bucket_of.ensures.below head)
+
+pub index-row-requires : goal.index-row-requires
+index-row-requires c =
+    let few = name_few (bucket c.args.name.now) c.self.inside.rows.items c.bucket.left c.bucket.invariant.leads in
+    omega (arith, few, c.bucket-test.true)
+
+pub bucket-smaller-then-row : goal.bucket-smaller-then-row
+bucket-smaller-then-row c =
+    let few = name_few (bucket c.args.name.now) c.self.inside.rows.items c.bucket.left c.bucket.invariant.leads in
+    let at = read c.self.inside.rows.items c.bucket.left c.index-row.result.now c.bucket-test.true few c.index-row.ensures in
+    jump_less by_name c.self.inside.rows.items c.bucket.left c.index-row.result.now c.self.invariant.names c.bucket-test.true at
+
+pub bucket-preserved-then-row : goal.bucket-preserved-then-row
+bucket-preserved-then-row c =
+    let xs = c.self.inside.rows.items in
+    let x = c.index-row.result.now in
+    let name = c.args.name.now in
+    let k = c.bucket.left - 1 in
+    let few = name_few (bucket name) xs c.bucket.left c.bucket.invariant.leads in
+    let at = read xs c.bucket.left x c.bucket-test.true few c.index-row.ensures in
+    finding_jumps by_name (bucket name) (is_in_file name) xs (other_in_file name) (some_entry (option_copied c.bucket.first)) c.bucket.left k x (omega (arith, c.bucket-test.true)) at (c.self.invariant.names k x at) c.bucket.invariant
+    (λ z w. not_in_file name x.name.span z (omega (arith, c.if-row.true)) w)
+
+pub bucket-smaller : goal.bucket-smaller
+bucket-smaller c =
+    let few = name_few (bucket c.args.name.now) c.self.inside.rows.items c.bucket.left c.bucket.invariant.leads in
+    let at = read c.self.inside.rows.items c.bucket.left c.index-row.result.now c.bucket-test.true few c.index-row.ensures in
+    older_less by_name c.self.inside.rows.items c.bucket.left c.index-row.result.now c.self.invariant.names c.bucket-test.true at
+
+pub bucket-preserved : goal.bucket-preserved
+bucket-preserved c =
+    let xs = c.self.inside.rows.items in
+    let x = c.index-row.result.now in
+    let name = c.args.name.now in
+    let k = c.bucket.left - 1 in
+    let few = name_few (bucket name) xs c.bucket.left c.bucket.invariant.leads in
+    let at = read xs c.bucket.left x c.bucket-test.true few c.index-row.ensures in
+    let later = some_entry (option_copied c.bucket.first) in
+    finding_goes by_name (bucket name) (is_in_file name) xs (other_in_file name) later (some_entry (option_copied c.or_found-first.result)) c.bucket.left k x (omega (arith, c.bucket-test.true)) at (c.self.invariant.names k x at) c.bucket.invariant
+    (c.or_found-first.ensures ∙ ap (λ t. or_found t (entry_of x.entry) later) c.is_in_file.ensures)
+
+pub returns : goal.returns
+returns c =
+    finding_ends by_name (bucket c.args.name.now) (is_in_file c.args.name.now) c.self.inside.rows.items (other_in_file c.args.name.now) (some_entry (option_copied c.bucket.first)) c.bucket.left (omega (arith, c.bucket-test.false)) c.bucket.invariant
+    ∙ ap (λ es. find (is_in_file c.args.name.now) (map entry_of es)) c.self.view_is
