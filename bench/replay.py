@@ -12,19 +12,19 @@ ROOT = os.path.dirname(os.path.dirname(os.path.abspath(__file__)))
 LAZIC = os.path.join(ROOT, "crates/lazic/out/lazic")
 WALK = os.path.join(ROOT, "crates/evaluator_speed/out/evaluator_speed")
 HEAD = "extern void abort(void);\nvoid reach_error() {}\n"
-MANY, FEW = 4_000_000, 1_000
+MANY, FEW = 9_000_000, 1_000
 
 # name, body with N turns of the loop, how many turns of ours one turn of the loop takes
 PROGRAMS = [
-    ("sums of int", 1, "int main() { int i; int s = 0; for (i = 0; i < N; i = i + 1) { s = (s * 31 + i) % 1000003; } if (s < 0) reach_error(); return 0; }"),
-    ("sums of unsigned long long", 1, "int main() { unsigned long long i; unsigned long long s = 1; for (i = 0; i < N; i++) { s = s * 6364136223846793005ULL + (i ^ (s >> 7)); } if (i != N) reach_error(); return 0; }"),
-    ("sums of long long", 1, "int main() { long long i; long long s = 0; for (i = 0; i < N; i++) { s = (s * 31 + (i ^ 5)) % 1000003LL; } if (s < 0) reach_error(); return 0; }"),
-    ("kinds that are converted", 1, "int main() { int i; unsigned char c = 0; short h = 0; for (i = 0; i < N; i++) { c = c + i; h = h ^ c; } if (h > 1000) reach_error(); return 0; }"),
-    ("calls", 2, "int f(int x, int y) { return (x ^ y) & 1023; } int main() { int i; int s = 0; for (i = 0; i < N; i++) { s = f(s, i); } if (s < 0) reach_error(); return 0; }"),
-    ("an array", 1, "int main() { int a[1024] = {0}; int i; for (i = 0; i < N; i++) { a[i & 1023] = a[(i + 7) & 1023] + 1; a[i & 1023] = a[i & 1023] & 4095; } if (a[0] < 0) reach_error(); return 0; }"),
-    ("a switch", 1, "int main() { int i; int s = 0; for (i = 0; i < N; i++) { switch (i & 7) { case 0: s = s + 1; break; case 1: s = s ^ 3; break; case 2: case 3: s = s & 65535; break; default: s = s + 2; } } if (s < 0) reach_error(); return 0; }"),
+    ("sums of int", 1, "int main() { int i = 0; int s = 0; for (i = 0; i < N; i = i + 1) { s = (s * 31 + i) % 1000003; } if (s < 0) reach_error(); return 0; }"),
+    ("sums of unsigned long long", 1, "int main() { unsigned long long i = 0; unsigned long long s = 1; for (i = 0; i < N; i++) { s = s * 6364136223846793005ULL + (i ^ (s >> 7)); } if (i != N) reach_error(); return 0; }"),
+    ("sums of long long", 1, "int main() { long long i = 0; long long s = 0; for (i = 0; i < N; i++) { s = (s * 31 + (i ^ 5)) % 1000003LL; } if (s < 0) reach_error(); return 0; }"),
+    ("kinds that are converted", 1, "int main() { int i = 0; unsigned char c = 0; short h = 0; for (i = 0; i < N; i++) { c = c + i; h = h ^ c; } if (h > 1000) reach_error(); return 0; }"),
+    ("calls", 2, "int f(int x, int y) { return (x ^ y) & 1023; } int main() { int i = 0; int s = 0; for (i = 0; i < N; i++) { s = f(s, i); } if (s < 0) reach_error(); return 0; }"),
+    ("an array", 1, "int main() { int a[1024] = {0}; int i = 0; for (i = 0; i < N; i++) { a[i & 1023] = a[(i + 7) & 1023] + 1; a[i & 1023] = a[i & 1023] & 4095; } if (a[0] < 0) reach_error(); return 0; }"),
+    ("a switch", 1, "int main() { int i = 0; int s = 0; for (i = 0; i < N; i++) { switch (i & 7) { case 0: s = s + 1; break; case 1: s = s ^ 3; break; case 2: case 3: s = s & 65535; break; default: s = s + 2; } } if (s < 0) reach_error(); return 0; }"),
     ("gotos", 1, "int main() { int i = 0; int s = 0; L: s = s ^ i; i++; if (i < N) goto L; if (i != N) reach_error(); return 0; }"),
-    ("logic", 1, "int main() { int i; int s = 0; for (i = 0; i < N; i++) { if ((i & 1 && i & 2) || !(i & 4)) s = s < 1000 ? s + 1 : 0; } if (s < 0) reach_error(); return 0; }"),
+    ("logic", 1, "int main() { int i = 0; int s = 0; for (i = 0; i < N; i++) { if ((i & 1 && i & 2) || !(i & 4)) s = s < 1000 ? s + 1 : 0; } if (s < 0) reach_error(); return 0; }"),
 ]
 
 
