@@ -11,7 +11,7 @@ PROGRAM = os.path.join(ROOT, "crates/lazic/out/lazic")
 STACK = 8 << 20
 
 # As many functions as 200,000 tokens hold, where each of them calls the one before.
-CHAIN = 19_997
+CHAIN = 19_999
 
 
 def chain(first):
@@ -59,7 +59,7 @@ if(s==7)reach_error();}
 
 # The program, the words behind its names, the values, the status and the line.
 ROWS = {
-    "a chain of 19,997 functions": (chain(""), [], [], 0, "ENDED"),
+    "a chain of 20,000 functions, with main": (chain(""), [], [], 0, "ENDED"),
     "the same, with an error in the first one": (chain("1/0;"), [], [], 1, "UNSAFE zero at 1:12"),
     "the same, out of turns in the last one": (chain(""), ["--turns", str(CHAIN - 1)], [], 2, f"UNKNOWN turns {CHAIN - 1}"),
     "a chain of functions that are called before they are defined": (turned_chain(), [], [], 0, "ENDED"),
