@@ -1,6 +1,6 @@
 -- What the layers below answer of a source is what is read of it.
-use Rattle.std.proofs.Common.{inl, inr, ◌⊎◌, ◌≡◌, ℕ, List, refl, sym, ◌∙◌, ap, ℤ}
-use Rattle.std.specs.Prelude.{Option, Some, None, Result, Ok, Err, IfOk, IfErr, MatchResult}
+use Rattle.std.proofs.Common.{inl, inr, ◌⊎◌, ◌≡◌, ℕ, List, refl, ◌∙◌, ap}
+use Rattle.std.specs.Prelude.{Some, None, Result, Ok, Err, IfOk, IfErr, MatchResult}
 use Rattle.lv_base.specs.declared.kind.Model.{Model}
 use Rattle.lv_base.specs.declared.fail.SourceFail.{SourceFail}
 use Rattle.lv_base.specs.declared.fail.SourceFail.TheVariants as source
@@ -14,7 +14,6 @@ use Rattle.c_tree.specs.Symbols.{signs_of}
 use Rattle.c_tree.specs.Tree.{Items}
 use Rattle.c_parser.specs.StateView.{Answers}
 use Rattle.parse_machine.specs.Machine as ma
-use Rattle.c_meaning.specs.Program.{run}
 use Rattle.c_rules.specs.Parts.{Parts}
 use Rattle.c_typed.specs.Parts as typed
 use Rattle.source_checks.specs.Refusals.{source_refusal}
