@@ -12,7 +12,8 @@ use crate::values::{
     applied, chosen, crement_op, guarded, is_index, is_true, is_zero, promoted, truth,
 };
 use c_tree::{BinaryOp, Crement};
-use lv_base::{ErrorKind, Kind, Model, Op, convert};
+use lv_base::{ErrorKind, Kind, Model, Op};
+use quick_integers::convert;
 use slot_code::{Ending, Instruction};
 
 /// Where an instruction stands: its place, the slot that it works on, and the offset of its token.

@@ -2,7 +2,8 @@ ghost use Rattle.std.specs.Prelude.{◌≡◌, ◌≤◌, ℕ, List, ℤ, length
 ghost use Rattle.c_run.specs.Run as run;
 ghost use Rattle.slot_board.specs.Seen.{reply, seen, drew, state};
 
-use lv_base::{Kind, Model as DataModel, in_range};
+use lv_base::{Kind, Model as DataModel};
+use quick_integers::in_range;
 use slot_code::Ending;
 use std::marker::Model;
 

@@ -7,7 +7,8 @@ ghost use Rattle.typed_ranges.specs.Guards as guards;
 ghost use Rattle.slot_board.specs.Seen.{applied_value, is_index_of};
 
 use c_tree::{BinaryOp, Crement};
-use lv_base::{ErrorKind, Kind, Model, Op, arith, in_range};
+use lv_base::{ErrorKind, Kind, Model, Op};
+use quick_integers::{arith, in_range};
 
 /// 1 of what holds, and 0.
 pub fn truth(holds: bool) -> i128
