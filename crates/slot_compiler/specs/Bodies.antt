@@ -8,7 +8,7 @@ use Rattle.slot_code.specs.declared.flat.Instruction.TheVariants as i
 use Rattle.slot_code.specs.Values as c
 use Rattle.slot_code.specs.Statements.{Mark, or_place, label_in, marks_in, size_in, steps_code}
 use Rattle.slot_values.specs.declared.scene.Scene.{Scene}
-use Rattle.slot_values.specs.Seen.{objects_of, functions_of, links_of}
+use Rattle.slot_values.specs.Seen.{objects_of, functions_of}
 
 -- a label that isn't there leaves the body
 abbrev pub label_place : (end start : ℕ) → List Mark → List ℕ → ℕ
@@ -25,7 +25,7 @@ module _ (model : Model) (objects : List t.Object) (functions : List t.Function)
   code_of = steps_of ++ i.Constant (suc (suc slot)) (pos 0) ∷ i.Return slot ∷ []
 
 abbrev pub body_steps : Scene → Model → Option Kind → (slot place : ℕ) → t.Steps → List Instruction
-body_steps scene model kind slot place body = steps_of model (objects_of scene) (functions_of scene) (links_of scene.links.now) kind slot place body
+body_steps scene model kind slot place body = steps_of model (objects_of scene) (functions_of scene) scene.links.now kind slot place body
 
 abbrev pub body_code : Scene → Model → Option Kind → (slot place : ℕ) → t.Steps → List Instruction
-body_code scene model kind slot place body = code_of model (objects_of scene) (functions_of scene) (links_of scene.links.now) kind slot place body
+body_code scene model kind slot place body = code_of model (objects_of scene) (functions_of scene) scene.links.now kind slot place body

@@ -3,6 +3,7 @@ ghost use Rattle.c_typed.specs.Parts.{tree_of};
 ghost use Rattle.c_typed.specs.View as v;
 ghost use Rattle.slot_code.specs.Programs as p;
 ghost use Rattle.slot_code.specs.Slots as s;
+ghost use Rattle.slot_compiler.specs.Growing as growing;
 ghost use Rattle.slot_compiler.specs.Seen as seen;
 
 use crate::bodies::body_code;
@@ -10,7 +11,7 @@ use crate::rooms::{larger, slots_in};
 use c_typed::{Function, Typed};
 use lv_base::Memory;
 use slot_code::Instruction;
-use slot_values::{Link, Scene};
+use slot_values::{Link, Links, Scene};
 use std::alloc::Global;
 
 /// Flat code: the instructions, and for each function whose code stands there its place and its slot.
@@ -20,10 +21,11 @@ pub struct Code {
     pub links: Vec<Link>,
 }
 
-// Code, and how many slots it needs.
+// Code that is not whole yet, and how many slots it needs.
 #[derive(Drop)]
 struct Built {
-    code: Code,
+    instructions: Vec<Instruction>,
+    links: Links,
     slots: usize,
 }
 
@@ -35,12 +37,12 @@ fn with_body(
     number: u32,
     function: &Function,
 ) -> Result<Built, Memory>
-    requires { built.slots ≡ s.slots_in built.code.instructions.items }
-    ensures code { IfOk result (λ b. seen.code_of b.code ≡ p.with_function (tree_of typed.now) (seen.code_of built.code) number (Some (v.function_of function.now))) }
-    ensures slots { IfOk result (λ b. b.slots ≡ s.slots_in b.code.instructions.items) }
+    requires { built.slots ≡ s.slots_in built.instructions.items }
+    ensures code { IfOk result (λ b. growing.built_of b ≡ p.with_function (tree_of typed.now) (growing.built_of built) number (Some (v.function_of function.now))) }
+    ensures slots { IfOk result (λ b. b.slots ≡ s.slots_in b.instructions.items) }
 {
-    let mut instructions = built.code.instructions;
-    let mut links = built.code.links;
+    let mut instructions = built.instructions;
+    let links = built.links;
     let slot = built.slots;
     let entry = instructions.as_slice().len();
     let scene = Scene {
@@ -59,25 +61,23 @@ fn with_body(
     )?;
     let slots = larger(slot, slots_in(&own)?);
     instructions.extend_from_slice(&own)?;
-    links.push(Link {
+    let links = links.with(Link {
         function: number,
         entry,
         slot,
     })?;
     Ok(Built {
-        code: Code {
-            instructions,
-            links,
-        },
+        instructions,
+        links,
         slots,
     })
 }
 
 // The function of this number more, if there is one.
 fn with_function(alloc: Global, typed: &Typed, built: Built, number: u32) -> Result<Built, Memory>
-    requires { built.slots ≡ s.slots_in built.code.instructions.items }
-    ensures code { IfOk result (λ b. seen.code_of b.code ≡ p.with_function (tree_of typed.now) (seen.code_of built.code) number (slice_get (tree_of typed.now).functions number)) }
-    ensures slots { IfOk result (λ b. b.slots ≡ s.slots_in b.code.instructions.items) }
+    requires { built.slots ≡ s.slots_in built.instructions.items }
+    ensures code { IfOk result (λ b. growing.built_of b ≡ p.with_function (tree_of typed.now) (growing.built_of built) number (slice_get (tree_of typed.now).functions number)) }
+    ensures slots { IfOk result (λ b. b.slots ≡ s.slots_in b.instructions.items) }
 {
     match typed.functions().get(number as usize) {
         None => Ok(built),
@@ -93,14 +93,15 @@ pub fn compiled(alloc: Global, typed: &Typed, order: &[u32]) -> Result<Code, Mem
     ensures { IfOk result (λ c. seen.code_of c ≡ p.code_of (tree_of typed.now) order.now) }
 {
     let mut built = Built {
-        code: Code {
-            instructions: Vec::new(alloc),
-            links: Vec::new(alloc),
-        },
+        instructions: Vec::new(alloc),
+        links: Links::new(alloc),
         slots: 0,
     };
     for number in order {
         built = with_function(alloc, typed, built, *number)?;
     }
-    Ok(built.code)
+    Ok(Code {
+        instructions: built.instructions,
+        links: built.links.into_vec(),
+    })
 }

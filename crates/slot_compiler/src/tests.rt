@@ -4,7 +4,7 @@ use c_tree::BinaryOp;
 use c_typed::{Function, Step, Typed, Value};
 use lv_base::{Kind, Memory, Model, Text};
 use slot_code::Instruction;
-use slot_values::{Link, Scene};
+use slot_values::{Link, Links, Scene};
 use std::alloc::Global;
 use std::process::Abort;
 use std::test::Fail;
@@ -16,10 +16,11 @@ fn read(alloc: Global, object: u32) -> Result<Box<Value>, Memory> {
 
 /// The code of a body in a program without functions, whose first slot and place are 0.
 fn code_of(alloc: Global, body: &[Step]) -> Result<Vec<Instruction>, Memory> {
+    let links = Links::new(alloc);
     let scene = Scene {
         objects: &[],
         functions: &[],
-        links: &[],
+        links: &links,
     };
     body_code(alloc, &scene, Model::Lp64, Some(Kind::Int), 0, 0, body)
 }

@@ -5,7 +5,7 @@ use Rattle.c_run.specs.Operators as o
 use Rattle.c_typed.specs.Tree as t
 use Rattle.slot_code.specs.declared.flat.Instruction.{Instruction}
 use Rattle.slot_code.specs.Statements as c
-use Rattle.slot_values.specs.Seen.{objects_of, functions_of, links_of}
+use Rattle.slot_values.specs.Seen.{objects_of, functions_of}
 use Rattle.slot_statements.specs.Measures as me
 use Rattle.slot_statements.specs.declared.frames.Frame.{Frame}
 use Rattle.slot_statements.specs.declared.frames.Exits.{Exits}
@@ -32,16 +32,16 @@ measure_of m = record { size = m.size; marks = marks_of m.marks.items }
 -- ---- Sizes over a frame
 
 abbrev pub value_size : Frame → o.Use → t.Val → ℕ
-value_size f u e = c.value_size f.model (objects_of f.scene) (functions_of f.scene) (links_of f.scene.links.now) f.result f.slot u e
+value_size f u e = c.value_size f.model (objects_of f.scene) (functions_of f.scene) f.scene.links.now f.result f.slot u e
 
 abbrev pub test_size : Frame → Option t.Val → ℕ
-test_size f e = c.test_size f.model (objects_of f.scene) (functions_of f.scene) (links_of f.scene.links.now) f.result f.slot e
+test_size f e = c.test_size f.model (objects_of f.scene) (functions_of f.scene) f.scene.links.now f.result f.slot e
 
 abbrev pub effect_size : Frame → Option t.Val → ℕ
-effect_size f e = c.effect_size f.model (objects_of f.scene) (functions_of f.scene) (links_of f.scene.links.now) f.result f.slot e
+effect_size f e = c.effect_size f.model (objects_of f.scene) (functions_of f.scene) f.scene.links.now f.result f.slot e
 
 abbrev pub return_value : Frame → Option t.Val → List Instruction
-return_value f e = c.return_value f.model (objects_of f.scene) (functions_of f.scene) (links_of f.scene.links.now) f.result f.slot e
+return_value f e = c.return_value f.model (objects_of f.scene) (functions_of f.scene) f.scene.links.now f.result f.slot e
 
 -- what stands before the body of a switch
 abbrev pub switch_head : Frame → Kind → t.Val → me.Measure → ℕ
@@ -49,14 +49,14 @@ switch_head f k e m = value_size f o.used e + length (c.cases_code f.model f.slo
 
 abbrev pub measured : Frame → t.Step → me.Measure
 measured f s = record {
-  size = c.size_of f.model (objects_of f.scene) (functions_of f.scene) (links_of f.scene.links.now) f.result f.slot s;
-  marks = c.marks_of f.model (objects_of f.scene) (functions_of f.scene) (links_of f.scene.links.now) f.result f.slot s;
+  size = c.size_of f.model (objects_of f.scene) (functions_of f.scene) f.scene.links.now f.result f.slot s;
+  marks = c.marks_of f.model (objects_of f.scene) (functions_of f.scene) f.scene.links.now f.result f.slot s;
 }
 
 abbrev pub measured_all : Frame → t.Steps → me.Measure
 measured_all f ss = record {
-  size = c.size_in f.model (objects_of f.scene) (functions_of f.scene) (links_of f.scene.links.now) f.result f.slot ss;
-  marks = c.marks_in f.model (objects_of f.scene) (functions_of f.scene) (links_of f.scene.links.now) f.result f.slot ss;
+  size = c.size_in f.model (objects_of f.scene) (functions_of f.scene) f.scene.links.now f.result f.slot ss;
+  marks = c.marks_in f.model (objects_of f.scene) (functions_of f.scene) f.scene.links.now f.result f.slot ss;
 }
 
 -- ---- Code over a frame
@@ -66,7 +66,7 @@ abbrev pub label_place : Exits → List ℕ → ℕ
 label_place e name = c.or_place e.end (elim (c.label_in name (marks_of e.marks.now)) [ None ↦ None | Some n ↦ Some (e.start + n) ])
 
 abbrev pub step_code : Frame → Exits → Aims → t.Step → List Instruction
-step_code f e a s = c.step_code f.model (objects_of f.scene) (functions_of f.scene) (links_of f.scene.links.now) f.result f.slot e.end (label_place e) a.broke a.continued a.place s
+step_code f e a s = c.step_code f.model (objects_of f.scene) (functions_of f.scene) f.scene.links.now f.result f.slot e.end (label_place e) a.broke a.continued a.place s
 
 abbrev pub steps_code : Frame → Exits → Aims → t.Steps → List Instruction
-steps_code f e a ss = c.steps_code f.model (objects_of f.scene) (functions_of f.scene) (links_of f.scene.links.now) f.result f.slot e.end (label_place e) a.broke a.continued a.place ss
+steps_code f e a ss = c.steps_code f.model (objects_of f.scene) (functions_of f.scene) f.scene.links.now f.result f.slot e.end (label_place e) a.broke a.continued a.place ss

@@ -1,9 +1,10 @@
-ghost use Rattle.std.specs.Prelude.{◌≡◌, ◌+◌, ◌++◌, ◌∷◌, [], suc, IfOk, option_map};
+ghost use Rattle.std.specs.Prelude.{◌≡◌, ◌+◌, ◌<◌, ◌++◌, ◌∷◌, [], suc, length, take, drop, pos, IfOk, option_map};
 ghost use Rattle.slot_code.specs.Values as c;
+ghost use Rattle.slot_code.specs.declared.flat.Instruction.TheVariants as i;
 ghost use Rattle.slot_values.specs.Seen as seen;
 ghost use Rattle.slot_values.specs.Ends as ends;
 
-use crate::scene::{Link, Scene, link_of, parameters_of};
+use crate::scene::{Link, Scene, parameters_of};
 use lv_base::{Kind, Memory};
 use slot_code::Instruction;
 
@@ -108,47 +109,88 @@ pub(crate) fn add_call(
     ensures { IfOk result (λ _. code.new.items ≡ code.old.items ++ ends.call scene.now slot at needed function count) }
 {
     let parameters = parameters_of(scene.functions, function);
-    let link = link_of(scene.links, function);
+    let link = scene.links.find(function);
     add_linked(slot, at, needed, parameters, count, link, code)
 }
 
-// Code behind other code.
-fn join(code: &mut Vec<Instruction>, other: &[Instruction]) -> Result<(), Memory>
-    ensures { IfOk result (λ _. code.new.items ≡ code.old.items ++ other.now) }
+/// A skip or a jump whose length is set later, and its place.
+pub(crate) fn open(code: &mut Vec<Instruction>, skip: Instruction) -> Result<usize, Memory>
+    ensures code { IfOk result (λ _. code.new.items ≡ code.old.items ++ skip ∷ []) }
+    ensures place { IfOk result (λ at. at ≡ length code.old.items) }
 {
-    code.extend_from_slice(other)?;
+    let at = code.len();
+    add(code, skip)?;
+    Ok(at)
+}
+
+// So many instructions stand behind this place.
+fn count_behind(code: &[Instruction], at: usize) -> usize
+    requires { at < length code.now }
+    ensures { result ≡ length (drop (suc at) code.now) }
+{
+    code.len() - at - 1
+}
+
+// Another instruction at this place.
+fn put(code: &mut Vec<Instruction>, at: usize, instruction: Instruction)
+    requires { at < length code.old.items }
+    ensures { code.new.items ≡ take at code.old.items ++ instruction ∷ drop (suc at) code.old.items }
+{
+    code[at] = instruction;
+}
+
+/// The skip at this place is over all that stands behind it, and over so many instructions more.
+pub(crate) fn close_skip(
+    slot: usize,
+    at: usize,
+    more: usize,
+    code: &mut Vec<Instruction>,
+) -> Result<(), Memory>
+    requires { at < length code.old.items }
+    ensures { IfOk result (λ _. code.new.items ≡ ends.skipped slot at more code.old.items) }
+{
+    let skip = distance(after(count_behind(code, at), more)?)?;
+    put(code, at, Instruction::SkipZero(slot, skip));
     Ok(())
 }
 
-/// What stands behind the first operand of `&&`.
-pub(crate) fn add_both(
-    slot: usize,
-    second: &[Instruction],
-    code: &mut Vec<Instruction>,
-) -> Result<(), Memory>
-    ensures { IfOk result (λ _. code.new.items ≡ code.old.items ++ ends.both slot second.now) }
+// The jump at this place is over all that stands behind it, and over so many instructions more.
+fn close_jump(at: usize, more: usize, code: &mut Vec<Instruction>) -> Result<(), Memory>
+    requires { at < length code.old.items }
+    ensures { IfOk result (λ _. code.new.items ≡ ends.jumped at more code.old.items) }
 {
-    let skip = distance(after(second.len(), 2)?)?;
-    add(code, Instruction::SkipZero(slot, skip))?;
-    join(code, second)?;
+    let skip = distance(after(count_behind(code, at), more)?)?;
+    put(code, at, Instruction::Jump(skip));
+    Ok(())
+}
+
+/// What stands behind the second operand of `&&`, and the skip over it at this place.
+pub(crate) fn end_both(slot: usize, at: usize, code: &mut Vec<Instruction>) -> Result<(), Memory>
+    requires { at < length code.old.items }
+    ensures { IfOk result (λ _. code.new.items ≡ ends.skipped slot at 2 code.old.items ++ i.Truth slot ∷ i.Jump 1 ∷ i.Constant slot (pos 0) ∷ []) }
+{
+    close_skip(slot, at, 2, code)?;
     add(code, Instruction::Truth(slot))?;
     add(code, Instruction::Jump(1))?;
     add(code, Instruction::Constant(slot, 0))
 }
 
-/// What stands behind the first operand of `||`.
-pub(crate) fn add_either(
-    slot: usize,
-    second: &[Instruction],
-    code: &mut Vec<Instruction>,
-) -> Result<(), Memory>
-    ensures { IfOk result (λ _. code.new.items ≡ code.old.items ++ ends.either slot second.now) }
+/// What stands between the operands of `||`, and the place of the jump over the second one.
+pub(crate) fn open_either(slot: usize, code: &mut Vec<Instruction>) -> Result<usize, Memory>
+    ensures code { IfOk result (λ _. code.new.items ≡ (code.old.items ++ i.SkipZero slot 2 ∷ i.Constant slot (pos 1) ∷ []) ++ i.Jump 0 ∷ []) }
+    ensures place { IfOk result (λ at. at ≡ length (code.old.items ++ i.SkipZero slot 2 ∷ i.Constant slot (pos 1) ∷ [])) }
 {
-    let skip = distance(after(second.len(), 1)?)?;
     add(code, Instruction::SkipZero(slot, 2))?;
     add(code, Instruction::Constant(slot, 1))?;
-    add(code, Instruction::Jump(skip))?;
-    join(code, second)?;
+    open(code, Instruction::Jump(0))
+}
+
+/// What stands behind the second operand of `||`, and the jump over it at this place.
+pub(crate) fn end_either(slot: usize, at: usize, code: &mut Vec<Instruction>) -> Result<(), Memory>
+    requires { at < length code.old.items }
+    ensures { IfOk result (λ _. code.new.items ≡ ends.jumped at 1 code.old.items ++ i.Truth slot ∷ []) }
+{
+    close_jump(at, 1, code)?;
     add(code, Instruction::Truth(slot))
 }
 
@@ -162,20 +204,16 @@ fn add_kept(slot: usize, kind: Option<Kind>, code: &mut Vec<Instruction>) -> Res
     }
 }
 
-/// What stands behind the first operand of `?:`, whose arms have this kind.
-pub(crate) fn add_choice(
+/// What stands behind the last operand of `?:`, whose arms have this kind, and the jump over it at this place.
+pub(crate) fn end_choice(
     slot: usize,
     kind: Option<Kind>,
-    first: &[Instruction],
-    second: &[Instruction],
+    at: usize,
     code: &mut Vec<Instruction>,
 ) -> Result<(), Memory>
-    ensures { IfOk result (λ _. code.new.items ≡ code.old.items ++ ends.choice slot kind first.now second.now) }
+    requires { at < length code.old.items }
+    ensures { IfOk result (λ _. code.new.items ≡ ends.jumped at 0 code.old.items ++ c.kept_code slot kind) }
 {
-    let skip = distance(after(first.len(), 1)?)?;
-    add(code, Instruction::SkipZero(slot, skip))?;
-    join(code, first)?;
-    add(code, Instruction::Jump(distance(second.len())?))?;
-    join(code, second)?;
+    close_jump(at, 0, code)?;
     add_kept(slot, kind, code)
 }

@@ -4,6 +4,7 @@ ghost use Rattle.c_typed.specs.View as v;
 ghost use Rattle.slot_code.specs.Values as c;
 ghost use Rattle.slot_values.specs.Seen as seen;
 
+use crate::linking::Links;
 use c_typed::{Function, Object};
 use lv_base::Kind;
 
@@ -16,13 +17,12 @@ pub struct Link {
     pub slot: usize,
 }
 
-/// What the code of a value is made over: the program's objects and functions, and the functions whose code stands, the
-/// newest last.
+/// What the code of a value is made over: the program's objects and functions, and the functions whose code stands.
 #[derive(Clone, Copy)]
 pub struct Scene<'a> {
     pub objects: &'a [Object],
     pub functions: &'a [Function],
-    pub links: &'a [Link],
+    pub links: &'a Links,
 }
 
 /// Whether a value is used. That of an expression which is a whole statement, say, is dropped.

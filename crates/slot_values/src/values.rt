@@ -3,7 +3,9 @@ ghost use Rattle.c_typed.specs.Rules as r;
 ghost use Rattle.c_typed.specs.View as v;
 ghost use Rattle.slot_values.specs.Seen as seen;
 
-use crate::pieces::{add, add_both, add_call, add_choice, add_either, next};
+use crate::pieces::{
+    add, add_call, close_skip, end_both, end_choice, end_either, next, open, open_either,
+};
 use crate::scene::{Scene, Usage, count_of, is_needed};
 use c_typed::{Target, Value};
 use lv_base::{ErrorKind, Memory};
@@ -71,19 +73,24 @@ pub fn add_value(
         }
         Value::Both(first, second) => {
             add_value(alloc, scene, Usage::Used, slot, first, code)?;
-            let second = value_code(alloc, scene, Usage::Used, slot, second)?;
-            add_both(slot, &second, code)
+            let at = open(code, Instruction::SkipZero(slot, 0))?;
+            add_value(alloc, scene, Usage::Used, slot, second, code)?;
+            end_both(slot, at, code)
         }
         Value::Either(first, second) => {
             add_value(alloc, scene, Usage::Used, slot, first, code)?;
-            let second = value_code(alloc, scene, Usage::Used, slot, second)?;
-            add_either(slot, &second, code)
+            let at = open_either(slot, code)?;
+            add_value(alloc, scene, Usage::Used, slot, second, code)?;
+            end_either(slot, at, code)
         }
         Value::Cond(kind, test, first, second) => {
             add_value(alloc, scene, Usage::Used, slot, test, code)?;
-            let first = value_code(alloc, scene, Usage::Used, slot, first)?;
-            let second = value_code(alloc, scene, Usage::Used, slot, second)?;
-            add_choice(slot, *kind, &first, &second, code)
+            let skip = open(code, Instruction::SkipZero(slot, 0))?;
+            add_value(alloc, scene, Usage::Used, slot, first, code)?;
+            close_skip(slot, skip, 1, code)?;
+            let jump = open(code, Instruction::Jump(0))?;
+            add_value(alloc, scene, Usage::Used, slot, second, code)?;
+            end_choice(slot, *kind, jump, code)
         }
         Value::Assign(_, _, target, inner) => {
             add_target(alloc, scene, slot, target, code)?;
@@ -127,7 +134,6 @@ pub fn add_value(
 /// The code of a value alone.
 ///
 /// Fails with `Memory` as `add_value` does.
-#[cycle(values)]
 pub fn value_code(
     alloc: Global,
     scene: &Scene<'_>,
