@@ -115,6 +115,7 @@ fn greatest(kind: Kind, model: Model) -> u64
 }
 
 /// Whether a value is one of the kind's.
+#[inline(always)]
 pub fn in_range(kind: Kind, model: Model, value: i128) -> bool
     ensures test { result ≡ is_in_range kind model value }
     ensures range { IsTrue result ↔ InRange kind model value }
