@@ -1,7 +1,8 @@
 -- What fits 128 bits, of values of the kinds.
-use Rattle.std.proofs.Common.{◌≡◌, ◌∙◌, ap, sym, refl, ℕ, zero, suc, if◌then◌else◌, lit<, pow_mono, to_z, of_z, ◌<◌, ◌≤◌, ◌^◌, ◌-◌, ℤ, pos, negsuc, ◌+ℤ◌, ◌-ℤ◌, ◌*ℤ◌, ◌≤ℤ◌, FitsSigned, Bool, true, false, arith}
+use Rattle.std.proofs.Common.{◌≡◌, ◌∙◌, ap, sym, subst, refl, ℕ, zero, suc, ◌/◌, if◌then◌else◌, lit<, pow_mono, to_z, of_z, ◌<◌, ◌≤◌, ◌^◌, ◌-◌, ℤ, pos, negsuc, ◌+ℤ◌, ◌-ℤ◌, ◌*ℤ◌, ◌≤ℤ◌, FitsSigned, Bool, true, false, arith}
 use Rattle.std.specs.Int.{w128}
-use Rattle.std.specs.Prelude.{unsigned_abs, MatchBool, int_lt, int_div, int_rem, Result, Ok, Err, Some, None}
+use Rattle.std.proofs.Math.Nat.{div-le_self}
+use Rattle.std.specs.Prelude.{◌&&◌, unsigned_abs, MatchBool, int_le, int_lt, int_div, int_rem, Result, Ok, Err, Some, None}
 use Rattle.std.proofs.lemmas.Int.{ints, to_z-of_z, to_z_pos, fits_signed_mul}
 use Rattle.lv_base.specs.declared.fault.ErrorKind.{ErrorKind}
 use Rattle.lv_base.specs.declared.fault.ErrorKind.TheVariants.{Overflow, Zero, Shift}
@@ -11,7 +12,7 @@ use Rattle.lv_base.specs.declared.kind.Model.{Model}
 use Rattle.lv_base.specs.declared.kind.Model.TheVariants.{Ilp32, Lp64}
 use Rattle.lv_base.specs.declared.kind.Op.{Op}
 use Rattle.lv_base.specs.declared.kind.Op.TheVariants.{Shl}
-use Rattle.lv_base.specs.Integers.{InRange, InAny, IsRight, is_shift, is_signed, is_zero, is_in_range, held, remainder, amount_of, is_amount, exact, converted, left_shift, arith_of}
+use Rattle.lv_base.specs.Integers.{least_of, greatest_of, InRange, InAny, IsRight, is_shift, is_signed, is_zero, is_in_range, held, remainder, amount_of, is_amount, exact, converted, left_shift, arith_of}
 
 -- a value of a kind is a value of 64 bits
 pub in_any : (kind : Kind) (model : Model) (value : ℤ) → InRange kind model value → InAny value
@@ -122,4 +123,46 @@ rest_is kind model left right q r b fl fr fq fs some hq hr test holds =
     let within : is_in_range kind model (int_div left right) ≡ true = ap (is_in_range kind model) (sym (to_z-of_z w128 q fq ∙ q_is)) ∙ (sym test ∙ holds) in
     let outer = ap (λ (t : Bool). if t then Err Zero else if is_in_range kind model (int_div left right) then Ok (int_rem left right) else Err Overflow) (nonzero right some) in
     let inner = ap (λ (t : Bool). if t then Ok (int_rem left right) else Err Overflow) within in
+    ap Ok (to_z-of_z w128 r fs ∙ r_is) ∙ sym (outer ∙ inner)
+
+least_below : (kind : Kind) (model : Model) → least_of kind model ≤ℤ pos 0
+least_below ABool model = omega (arith, ints)
+least_below Char model = omega (arith, ints)
+least_below UChar model = omega (arith, ints)
+least_below Short model = omega (arith, ints)
+least_below UShort model = omega (arith, ints)
+least_below Int model = omega (arith, ints)
+least_below UInt model = omega (arith, ints)
+least_below Long Ilp32 = omega (arith, ints)
+least_below Long Lp64 = omega (arith, ints)
+least_below ULong Ilp32 = omega (arith, ints)
+least_below ULong Lp64 = omega (arith, ints)
+least_below LongLong model = omega (arith, ints)
+least_below ULongLong model = omega (arith, ints)
+
+-- a quotient of operands that are not negative is no greater than the dividend
+quotient_within : (kind : Kind) (model : Model) (left right : ℤ) → InRange kind model left → pos 0 ≤ℤ left → pos 0 ≤ℤ right → is_in_range kind model (int_div left right) ≡ true
+quotient_within kind model (pos a) (pos d) h above right_above = by_bounds (least_of kind model) (greatest_of kind model) (a / d) (least_below kind model) h.1 (div-le_self a d)
+  where
+    by_bounds : (least greatest : ℤ) (q : ℕ) → least ≤ℤ pos 0 → pos a ≤ℤ greatest → q ≤ a → (int_le least (pos q) && int_le (pos q) greatest) ≡ true
+    by_bounds least greatest q low high less = both (int_le least (pos q)) (int_le (pos q) greatest) refl refl
+      where
+        both : (s t : Bool) → s ≡ int_le least (pos q) → t ≡ int_le (pos q) greatest → (s && t) ≡ true
+        both true true s t = refl
+        both true false s t = grind (arith, ints)
+        both false true s t = grind (arith, ints)
+        both false false s t = grind (arith, ints)
+quotient_within kind model (pos a) (negsuc d) h above right_above = grind (arith, ints)
+quotient_within kind model (negsuc a) (pos d) h above right_above = grind (arith, ints)
+quotient_within kind model (negsuc a) (negsuc d) h above right_above = grind (arith, ints)
+
+-- what a remainder in the code answers whose operands, these, are not negative
+pub positive_rest : (kind : Kind) (model : Model) (left right r : ℤ) → FitsSigned w128 left → FitsSigned w128 right → FitsSigned w128 r → (of_z w128 right ≡ 0 → ⊥) → InRange kind model left →
+    (pos 0 ≤ℤ to_z w128 (of_z w128 left)) × (pos 0 ≤ℤ to_z w128 (of_z w128 right)) → r ≡ int_rem (to_z w128 (of_z w128 left)) (to_z w128 (of_z w128 right)) → Ok (to_z w128 (of_z w128 r)) ≡ remainder kind model left right
+positive_rest kind model left right r fl fr fs some h above hr =
+    let left_above : pos 0 ≤ℤ left = subst (λ (z : ℤ). pos 0 ≤ℤ z) (to_z-of_z w128 left fl) above.0 in
+    let right_above : pos 0 ≤ℤ right = subst (λ (z : ℤ). pos 0 ≤ℤ z) (to_z-of_z w128 right fr) above.1 in
+    let r_is : r ≡ int_rem left right = hr ∙ (ap (λ (z : ℤ). int_rem z (to_z w128 (of_z w128 right))) (to_z-of_z w128 left fl) ∙ ap (int_rem left) (to_z-of_z w128 right fr)) in
+    let outer = ap (λ (t : Bool). if t then Err Zero else if is_in_range kind model (int_div left right) then Ok (int_rem left right) else Err Overflow) (nonzero right some) in
+    let inner = ap (λ (t : Bool). if t then Ok (int_rem left right) else Err Overflow) (quotient_within kind model left right h left_above right_above) in
     ap Ok (to_z-of_z w128 r fs ∙ r_is) ∙ sym (outer ∙ inner)

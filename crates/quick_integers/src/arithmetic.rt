@@ -1,17 +1,17 @@
-ghost use Rattle.std.specs.Prelude.{◌≡◌, ◌<◌, ◌≤◌, ◌^◌, ◌*ℤ◌, IsTrue, IfSome};
-ghost use Rattle.lv_base.specs.Integers.{width_of, is_promoted, InRange, residue, wrapped, converted, held, exact, quotient, remainder, arith_of, IsRight, amount_of as amount_at};
+ghost use Rattle.std.specs.Prelude.{◌≡◌, ◌<◌, ◌≤◌, ◌^◌, ◌*ℤ◌, ◌≤ℤ◌, pos, true, IsTrue, IfSome};
+ghost use Rattle.lv_base.specs.Integers.{width_of, is_promoted, InRange, residue, wrapped, converted, held, exact, quotient, remainder, truth, arith_of, IsRight, amount_of as amount_at};
 
 use crate::bounds::{highest, in_range, ones, signed};
 use crate::quotients::{cut_quotient, cut_remainder};
 use lv_base::{ErrorKind, Kind, Model, Op};
 
-// What is left of a value modulo 2 to the power of the kind's bits: its lowest bits, and of a negative one the turned bits of
-// the number that its own turned bits make.
+// What is left of a value modulo 2 to the power of the kind's bits: its lowest bits. Those of a negative one are those of
+// -1 less it, each turned.
 fn low_bits(value: i128, kind: Kind, model: Model) -> u128
     ensures value { result ≡ residue (width_of kind model) value }
     ensures small { result < 2 ^ width_of kind model }
 {
-    let mask = ones(kind, model);
+    let mask = ones(kind, model) as u128;
     if 0 <= value {
         value as u128 & mask
     } else {
@@ -24,8 +24,8 @@ fn with_bits(kind: Kind, model: Model, low: u128) -> i128
     requires { low < 2 ^ width_of kind model }
     ensures value { result ≡ wrapped kind model low }
 {
-    if signed(kind) && low >= highest(kind, model) {
-        -((ones(kind, model) - low) as i128) - 1
+    if signed(kind) && low >= highest(kind, model) as u128 {
+        -((ones(kind, model) as u128 - low) as i128) - 1
     } else {
         low as i128
     }
@@ -72,10 +72,17 @@ pub fn arith(op: Op, kind: Kind, model: Model, left: i128, right: i128) -> Resul
             low_bits(left, kind, model) ^ low_bits(right, kind, model),
         )),
         Op::Shl => shift_left(kind, model, left, right),
-        Op::Shr | Op::Less | Op::LessEqual | Op::Equal => {
-            lv_base::arith(op, kind, model, left, right)
-        }
+        Op::Shr => shift_right(kind, model, left, right),
+        Op::Less => Ok(truth_value(left < right)),
+        Op::LessEqual => Ok(truth_value(left <= right)),
+        Op::Equal => Ok(truth_value(left == right)),
     }
+}
+
+fn truth_value(holds: bool) -> i128
+    ensures { result ≡ truth holds }
+{
+    if holds { 1 } else { 0 }
 }
 
 fn fitting(kind: Kind, model: Model, error: ErrorKind, value: i128) -> Result<i128, ErrorKind>
@@ -107,7 +114,7 @@ fn product(kind: Kind, model: Model, left: i128, right: i128) -> Result<i128, Er
     if signed(kind) {
         return fitting(kind, model, ErrorKind::Overflow, left * right);
     }
-    let low = (left as u128 * right as u128) & ones(kind, model);
+    let low = (left as u128 * right as u128) & ones(kind, model) as u128;
     Ok(with_bits(kind, model, low))
 }
 
@@ -121,12 +128,22 @@ fn divide(kind: Kind, model: Model, left: i128, right: i128) -> Result<i128, Err
     fitting(kind, model, ErrorKind::Overflow, cut_quotient(left, right))
 }
 
+fn neither_negative(left: i128, right: i128) -> bool
+    ensures { result ≡ true → (pos 0 ≤ℤ left) × (pos 0 ≤ℤ right) }
+{
+    0 <= left && 0 <= right
+}
+
+// Of operands that are not negative the quotient is one of the kind's as the left operand is.
 fn rest(kind: Kind, model: Model, left: i128, right: i128) -> Result<i128, ErrorKind>
     requires { InRange kind model left }
     ensures value { result ≡ remainder kind model left right }
 {
     if right == 0 {
         return Err(ErrorKind::Zero);
+    }
+    if neither_negative(left, right) {
+        return Ok(cut_remainder(left, right));
     }
     if in_range(kind, model, cut_quotient(left, right)) {
         Ok(cut_remainder(left, right))
@@ -169,4 +186,14 @@ fn shift_left(kind: Kind, model: Model, left: i128, right: i128) -> Result<i128,
     };
     let shifted = left * power(amount) as i128;
     Ok(convert(shifted, kind, model))
+}
+
+fn shift_right(kind: Kind, model: Model, left: i128, right: i128) -> Result<i128, ErrorKind>
+    requires { InRange kind model left }
+    ensures value { result ≡ arith_of Op.Shr kind model left right }
+{
+    let Some(amount) = amount_of(kind, model, right) else {
+        return Err(ErrorKind::Shift);
+    };
+    Ok(left >> amount)
 }

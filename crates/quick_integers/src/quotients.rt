@@ -4,7 +4,7 @@ ghost use Rattle.lv_base.specs.Integers.{InAny};
 // The greatest number that a division of 64 bits takes.
 const MOST: i128 = 18_446_744_073_709_551_615;
 
-/// The quotient, cut towards zero: of 64 bits where both operands are not negative, which is many times as fast.
+/// The quotient, cut towards zero: of 64 bits where neither operand is negative, since one of 128 bits calls a library.
 pub fn cut_quotient(left: i128, right: i128) -> i128
     requires left { InAny left }
     requires right { right ≢ pos 0 }
