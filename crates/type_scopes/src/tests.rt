@@ -111,8 +111,7 @@ fn many_declare_one_name(rt: HostRuntime) -> Result<(), Fail> {
     entries.push(entry(8, Scope::File, second, Entity::Object(0)))?;
     for k in 1..31u32 {
         let scope = Scope::Block(k * 100, k * 100 + 90);
-        let what = What::Object(&words, &form, &nothing);
-        entries.push(entry(k * 100 + 20, scope, what, Entity::Object(k)))?;
+        entries.push(entry(k * 100 + 20, scope, first, Entity::Object(k)))?;
     }
     for k in 1..31u32 {
         assert!(rt; is_at(entries.visible(false, b"x", k * 100 + 10), 8));
