@@ -74,8 +74,8 @@ last_constant env no_enumerators = None
 last_constant env (plain_and es c n at) = Some (constant_value (declared_at env at))
 last_constant env (valued_and es c n at a e) = Some (constant_value (declared_at env at))
 
--- No constant is greater than 2^127 - 1. A program that breaks no rule has none above 2^31 - 1: only behind one that is refused
--- may a greater one stand.
+-- A constant that follows another ends at 2^127 - 1. A program that breaks no rule has none above 2^31 - 1: a greater one is
+-- refused, or stands behind one that is. No source of 200,000 tokens reaches the end.
 abbrev pub next_constant : Option ℤ → ℤ
 next_constant None = pos 0
 next_constant (Some v) = if int_lt v (pos 170141183460469231731687303715884105727) then v +ℤ pos 1 else v
@@ -92,8 +92,8 @@ abbrev pub listed : Initial → ℕ
 listed (iList at a es c b) = count_parts es
 listed _ = 0
 
--- A length below 1, or that is no constant, is broken, and stands as 0. One above 2^64 - 1, the greatest value of all kinds, is
--- that of a constant that is refused, and stands as 2^64 - 1.
+-- A length below 1, or that is no constant, is broken, and stands as 0. One above 2^64 - 1, the greatest value of all kinds,
+-- stands as that: it is an enumeration's constant that is refused, or `sizeof` of an array that passes the limit on cells.
 abbrev pub length_from : Option ℤ → ℕ
 length_from None = 0
 length_from (Some v) = if int_le (pos 1) v then min (unsigned_abs v) 18446744073709551615 else 0

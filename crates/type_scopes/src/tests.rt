@@ -96,7 +96,64 @@ fn is_at(found: Option<&Entry<'_>>, at: u32) -> bool {
     }
 }
 
+// Whether `x` at this token is the one that is declared there.
+fn finds(entries: &Declarations<'_>, token: u32, at: u32) -> bool {
+    is_at(entries.visible(false, b"x", token), at)
+}
+
+fn finds_no_tag(entries: &Declarations<'_>, token: u32) -> bool {
+    entries.visible(true, b"x", token).is_none()
+}
+
+// Whether the first object has a value behind the `=` there.
+fn begins_at(entries: &Declarations<'_>, at: u32) -> bool {
+    match entries.initial_of(0) {
+        Some(Initial::Value(sign, _)) => *sign == at,
+        _ => false,
+    }
+}
+
+fn is_placed(entries: &Declarations<'_>, at: u32) -> bool {
+    is_at(entries.placed(at), at)
+}
+
+// Whether no declaration before this one is of its scope, and an object of its number has no value.
+fn has_no_twin(entries: &Declarations<'_>, place: usize) -> bool {
+    entries.initial_of(place).is_none() && entries.twin_before(place) == 0
+}
+
 // `long x; long x = 7;` in the file, and `x` in 30 blocks behind it, of which each begins at a multiple of 100
+fn many<'a>(
+    alloc: Global,
+    words: &'a Specs,
+    form: &'a Form,
+    nothing: &'a Initial,
+    value: &'a Initial,
+) -> Result<Declarations<'a>, Fail> {
+    let mut entries = Declarations::new(alloc);
+    let first = What::Object(words, form, nothing);
+    let second = What::Object(words, form, value);
+    entries.push(entry(5, Scope::File, first, Entity::Object(0)))?;
+    entries.push(entry(8, Scope::File, second, Entity::Object(0)))?;
+    for k in 1..31u32 {
+        let scope = Scope::Block(k * 100, k * 100 + 90);
+        entries.push(entry(k * 100 + 20, scope, first, Entity::Object(k)))?;
+    }
+    Ok(entries)
+}
+
+fn are_found(entries: &Declarations<'_>) -> bool {
+    for k in 1..31u32 {
+        let is_own = finds(entries, k * 100 + 50, k * 100 + 20);
+        let is_outer = finds(entries, k * 100 + 10, 8) && finds(entries, k * 100 + 95, 8);
+        let is_alone = has_no_twin(entries, k as usize + 1);
+        if !(is_own && is_outer && is_alone && is_placed(entries, k * 100 + 20)) {
+            return false;
+        }
+    }
+    true
+}
+
 #[test]
 fn many_declare_one_name(rt: HostRuntime) -> Result<(), Fail> {
     let alloc = rt.alloc();
@@ -104,32 +161,13 @@ fn many_declare_one_name(rt: HostRuntime) -> Result<(), Fail> {
     let form = Form::Plain;
     let nothing = Initial::Nothing;
     let value = Initial::Value(10, Box::new(alloc, Expr::Letter(7, 12))?);
-    let mut entries = Declarations::new(alloc);
-    let first = What::Object(&words, &form, &nothing);
-    let second = What::Object(&words, &form, &value);
-    entries.push(entry(5, Scope::File, first, Entity::Object(0)))?;
-    entries.push(entry(8, Scope::File, second, Entity::Object(0)))?;
-    for k in 1..31u32 {
-        let scope = Scope::Block(k * 100, k * 100 + 90);
-        entries.push(entry(k * 100 + 20, scope, first, Entity::Object(k)))?;
-    }
-    for k in 1..31u32 {
-        assert!(rt; is_at(entries.visible(false, b"x", k * 100 + 10), 8));
-        assert!(rt; is_at(entries.visible(false, b"x", k * 100 + 50), k * 100 + 20));
-        assert!(rt; is_at(entries.visible(false, b"x", k * 100 + 95), 8));
-        assert!(rt; is_at(entries.placed(k * 100 + 20), k * 100 + 20));
-        assert!(rt;
-            entries.initial_of(k as usize).is_none() && entries.twin_before(k as usize + 1) == 0
-        );
-    }
-    assert!(rt; is_at(entries.visible(false, b"x", 7), 5));
-    assert!(rt; entries.visible(true, b"x", 700).is_none());
+    let entries = many(alloc, &words, &form, &nothing, &value)?;
+    assert!(rt; are_found(&entries));
+    assert!(rt; finds(&entries, 7, 5));
+    assert!(rt; finds_no_tag(&entries, 700));
     assert!(rt; entries.twin_before(1) == 1);
+    assert!(rt; begins_at(&entries, 10));
     assert!(rt; is_same(Scope::Behind(5, 9), Scope::Block(6, 9)) && !is_file(Scope::Block(6, 9)));
-    match entries.initial_of(0) {
-        Some(Initial::Value(at, _)) => assert_eq!(rt; *at, 10),
-        _ => assert!(rt; false),
-    }
     Ok(())
 }
 
