@@ -88,7 +88,9 @@ fn a_jump_into_a_scope_is_found(rt: HostRuntime) -> Result<(), Fail> {
     let typed = typed_of(alloc, source.as_bytes(), Model::Ilp32)?;
     let walk = walk_body(alloc, Some(Kind::Int), body_of(&typed))?;
     assert!(rt; walk.found == broken(SourceFault::BadJump, 33));
-    assert!(rt; jumps_found(alloc, &walk.labels, &walk.gotos)? == broken(SourceFault::JumpIntoScope, 13));
+    assert!(rt;
+        jumps_found(alloc, &walk.labels, &walk.gotos)? == broken(SourceFault::JumpIntoScope, 13)
+    );
     Ok(())
 }
 
