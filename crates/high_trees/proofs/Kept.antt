@@ -77,6 +77,54 @@ abbrev pub counted_declarators : Decs → ℕ
 counted_declarators no_declarators = 0
 counted_declarators (declarators_and ds c n f ats i) = max (counted_declarators ds) (above (max (max (counted_form f) (height_attributes ats)) (counted_initial i)))
 
+-- the declared names and the words of a declaration, which stand in a block
+abbrev pub counted_declares : Declaration → ℕ
+counted_declares (declares ws ds x) = suc (max (above (counted_words ws)) (counted_declarators ds))
+
+abbrev pub counted_head : Head → ℕ
+counted_head (head at a e c) = counted e
+
+abbrev pub counted_for_start : ForStart → ℕ
+counted_for_start (forDeclares d) = counted_declares d
+counted_for_start (forExpr e at) = counted_option e
+
+abbrev pub counted_for_head : ForHead → ℕ
+counted_for_head (for_head at a s e x i c) = max (max (counted_for_start s) (counted_option e)) (counted_option i)
+
+abbrev mutual
+  pub counted_statement : St → ℕ
+  counted_statement (sDeclaration d) = counted_declares d
+  counted_statement (sBlock a ss c) = suc (counted_statements ss)
+  counted_statement (sEmpty at) = 1
+  counted_statement (sExpr e at) = suc (counted e)
+  counted_statement (sIf h s) = suc (max (counted_head h) (counted_statement s))
+  counted_statement (sIfElse h a at s) = suc (max (max (counted_head h) (counted_statement a)) (counted_statement s))
+  counted_statement (sWhile h s) = suc (max (counted_head h) (counted_statement s))
+  counted_statement (sSwitch h s) = suc (max (counted_head h) (counted_statement s))
+  counted_statement (sDo at s h c) = suc (max (counted_statement s) (counted_head h))
+  counted_statement (sFor h s) = suc (max (counted_for_head h) (counted_statement s))
+  counted_statement (sCase at e c s) = suc (max (counted e) (counted_statement s))
+  counted_statement (sDefault at c s) = suc (counted_statement s)
+  counted_statement (sLabel n at c ats s) = suc (counted_statement s)
+  counted_statement (sGoto at n x c) = 1
+  counted_statement (sBreak at c) = 1
+  counted_statement (sContinue at c) = 1
+  counted_statement (sReturn at e c) = suc (counted_option e)
+
+  pub counted_statements : Sts → ℕ
+  counted_statements no_statements = 0
+  counted_statements (statements_and ss s) = max (counted_statements ss) (counted_statement s)
+
+abbrev pub counted_body : Body → ℕ
+counted_body (bBlock a ss c) = suc (counted_statements ss)
+counted_body (bSkipped a r c) = 0
+
+abbrev pub counted_item : Item → ℕ
+counted_item (tSkipped x at r c) = 0
+counted_item (tFunction ws n ps ats x) = suc (max (max (above (counted_words ws)) (counted_parameters ps)) (counted_body x))
+counted_item (tDeclaration (declares ws ds x)) = above (max (above (counted_words ws)) (counted_declarators ds))
+counted_item (tEmpty at) = 0
+
 -- What is kept.
 
 -- an expression of this height

@@ -1,2 +1,10 @@
 pub mod Kept
 pub mod Leads
+pub mod Opened
+pub mod First
+pub mod ReadEx
+pub mod WholeEx
+pub mod ReadDecl
+pub mod ReadDecs
+pub mod ReadDeclaration
+pub mod ReadItem
