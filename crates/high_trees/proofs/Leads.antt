@@ -49,13 +49,3 @@ same t ts o p e = record { goes = ap (walk ts) e; high = subst (λ z. max 0 (max
 -- less is found too
 pub atleast : {a c : List Sign} {o p : Option Turn} {h : ℕ} (g : ℕ) → g ≤ h → Leads a o c p h → Leads a o c p g
 atleast g l x = record { goes = x.goes; high = omega (arith, l, x.high) }
-
-peak_to : (c : List Sign) (p q : Option Turn) → p ≡ q → (h n : ℕ) → max h (peak c p) ≤ n → max h (peak c q) ≤ n
-peak_to c p q e h n l = subst (λ z. max h (peak c z) ≤ n) e l
-
-walk_to : (c : List Sign) (p q : Option Turn) → p ≡ q → walk c p ≡ walk c q
-walk_to c p q e = ap (walk c) e
-
--- where it leads to, by another name
-pub to : {a c : List Sign} {o : Option Turn} {h : ℕ} (p q : Option Turn) → p ≡ q → Leads a o c p h → Leads a o c q h
-to p q e x = record { goes = x.goes ∙ walk_to _ p q e; high = peak_to _ p q e _ _ x.high }
