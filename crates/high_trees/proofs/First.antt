@@ -1,5 +1,5 @@
 -- The first token of an expression or of a word does the same in two modes, whatever the height.
-use Rattle.std.proofs.Common.{◌≡◌, ℕ, suc, ◌≤◌, max, List, [], ◌∷◌, ◌++◌, None, Some, Bool, true, false, not, if◌then◌else◌, leb, refl, subst, sym, ap, ◌∙◌, arith}
+use Rattle.std.proofs.Common.{◌≡◌, ℕ, ◌≤◌, max, List, [], ◌∷◌, ◌++◌, None, Some, Bool, true, false, not, if◌then◌else◌, leb, refl, subst, sym, ap, arith}
 use Rattle.c_tree.specs.declared.symbol.BinaryOp.TheVariants as op
 use Rattle.c_tree.specs.declared.symbol.Crement.TheVariants as cr
 use Rattle.c_tree.specs.declared.symbol.Bracket.TheVariants as br
@@ -12,15 +12,13 @@ use Rattle.c_tree.specs.Symbols.{sign}
 use Rattle.c_tree.specs.Spelling.{opening, closing, prefix_symbol, spell, spell_parts, spell_words}
 use Rattle.c_tree.specs.Shape as sh
 use Rattle.c_tree.specs.Tree.{Ex, eName, eNumber, eLetter, eParen, eCall, eIndex, ePostfix, ePrefix, eSizeof, eCast, eBinary, eCond, eAssign, eComma, Parts, no_parts, parts_and}
-use Rattle.parse_machine.specs.Tokens.{spTypedef, spOther, prefix_of}
+use Rattle.parse_machine.specs.Tokens.{spTypedef, spOther}
 use Rattle.parse_machine.specs.Contexts.{bPrefix, oParen, Inner, inBind, inOpen, Fork, forkCast, Mode, Either, Operand, Maybe}
-use Rattle.parse_machine.specs.Making.{above}
 use Rattle.parse_machine.specs.Heights.{least, high, low}
 use Rattle.parse_machine.specs.Declarations.{kept}
 use Rattle.parse_machine.specs.Expressions as ex
 use Rattle.parse_machine.specs.Steps as steps
 use Rattle.parse_machine.specs.Statements as stt
-use Rattle.parse_laws.proofs.Parts.{above_ge}
 use Rattle.parse_laws.proofs.Walk.{high_mono}
 use Rattle.parse_laws.proofs.First.{Begins', Alike, binds_more}
 use Rattle.high_trees.proofs.Leads.{Leads, move, walk, low_of, peak, stand, ◌then◌, stays, go, same, atleast}
