@@ -8,3 +8,8 @@ pub mod ReadDecl
 pub mod ReadDecs
 pub mod ReadDeclaration
 pub mod ReadItem
+pub mod Appended
+pub mod FileRun
+pub mod HighRun
+pub mod Heights
+pub mod HighFile
