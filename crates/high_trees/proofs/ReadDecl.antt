@@ -1,5 +1,5 @@
 -- The machine goes through the words and the parameters of each shaped declaration.
-use Rattle.std.proofs.Common.{◌≡◌, ℕ, suc, ◌≤◌, max, List, ◌∷◌, Option, None, Some, Bool, true, false, if◌then◌else◌, refl, sym, ap, ◌∙◌, arith, le_trans}
+use Rattle.std.proofs.Common.{◌≡◌, ℕ, List, ◌∷◌, Option, None, Some, Bool, true, false, if◌then◌else◌, refl, sym, ap, ◌∙◌, arith}
 use Rattle.c_tree.specs.declared.symbol.Bracket.TheVariants as br
 use Rattle.c_tree.specs.declared.symbol.TypeWord.TheVariants as type
 use Rattle.c_tree.specs.declared.symbol.Symbol.TheVariants as sy
@@ -15,15 +15,10 @@ use Rattle.c_tree.specs.Tree.{attribute, Words, no_words, words_and, Word, wType
 use Rattle.parse_machine.specs.Tokens.{spTypedef, spOther}
 use Rattle.parse_machine.specs.Contexts.{Spoken, Declared, Around, aroundParameter, waitVoid, Mode, Specifiers, Behind, Parameters', Parameter, Wait}
 use Rattle.parse_machine.specs.Making as mk
-use Rattle.parse_machine.specs.Making.{above, tall, part, bound, bind_level}
-use Rattle.parse_machine.specs.Heights as ht
-use Rattle.parse_machine.specs.Heights.{least, high, around_high, low, depth, is_list}
-use Rattle.c_tree.specs.Height as hg
-use Rattle.c_tree.specs.Height.{height, height_parts, height_words}
+use Rattle.parse_machine.specs.Heights.{around_high, low}
 use Rattle.parse_machine.specs.Declarations as decl
-use Rattle.parse_machine.specs.Declarations.{Turn, turn, kept}
+use Rattle.parse_machine.specs.Declarations.{kept}
 use Rattle.parse_machine.specs.Specifiers as sp
-use Rattle.c_tree.specs.Height.{height_word, height_enumerators}
 use Rattle.parse_laws.proofs.Walk.{if_true, when_true}
 use Rattle.parse_laws.proofs.ReadEx.{NoOpen, some_same, known_before}
 use Rattle.parse_laws.proofs.WholeEx.{word_no_open}

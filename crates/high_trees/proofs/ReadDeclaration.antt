@@ -8,27 +8,24 @@ use Rattle.c_tree.specs.Symbols.{sign}
 use Rattle.c_tree.specs.Spelling.{level_of, spell_attributes, spell_form, spell_initial, spell_declarators}
 use Rattle.c_tree.specs.Shape as sh
 use Rattle.c_tree.specs.Words.{is_typed, is_typedef, is_void}
-use Rattle.c_tree.specs.Tree.{Ats, Ex, Parts, no_parts, parts_and, Words, Name, named, Form, fPlain, fArray, fFunction, Initial, iNothing, iValue, iList, Decs, no_declarators, declarators_and}
-use Rattle.parse_machine.specs.Tokens.{Prefix, prefix_of, Suffix, suffix_of, spec_of, SpecKind, spTypedef, spOther, start_of, is_else, Skip, skipOn, skipClose, skipEnd, skip_of, is_awaited}
-use Rattle.parse_machine.specs.Contexts.{Spoken, Place, placeFile, placeBlock, placeFor, Declared, baseInitial, inBase, aroundPlace, Mode, Specifiers, Next, Behind, Listed}
+use Rattle.c_tree.specs.Tree.{Ats, Ex, Parts, Words, Name, named, Form, fPlain, fArray, fFunction, Initial, iNothing, iValue, iList, Decs, no_declarators, declarators_and}
+use Rattle.parse_machine.specs.Tokens.{spTypedef, spOther}
+use Rattle.parse_machine.specs.Contexts.{Spoken, Place, placeFile, placeBlock, placeFor, Declared, baseInitial, inBase, aroundPlace, Mode, Specifiers, Next, Behind}
 use Rattle.parse_machine.specs.Making as mk
-use Rattle.parse_machine.specs.Making.{above, tall, part, bound, bind_level}
+use Rattle.parse_machine.specs.Making.{above}
 use Rattle.parse_machine.specs.Heights as ht
-use Rattle.parse_machine.specs.Heights.{least, high, around_high, low, depth, is_list}
+use Rattle.parse_machine.specs.Heights.{low}
 use Rattle.parse_machine.specs.Expressions as ex
 use Rattle.c_tree.specs.Height as hg
-use Rattle.c_tree.specs.Height.{height, height_parts, height_words}
 use Rattle.parse_machine.specs.Declarations as decl
 use Rattle.parse_machine.specs.Declarations.{Turn, turn, kept}
 use Rattle.parse_machine.specs.Specifiers as sp
-use Rattle.c_tree.specs.Height.{height_word, height_enumerators}
 use Rattle.parse_machine.specs.Tokens as tok
 use Rattle.parse_laws.proofs.Before as b
-use Rattle.parse_laws.proofs.Parts.{above_ge}
 use Rattle.parse_laws.proofs.Walk.{if_true, if_false, when_true, pull_one, above_mono}
 use Rattle.parse_laws.proofs.WholeEx.{some_not}
 use Rattle.parse_laws.proofs.ReadDecs.{may_attribute, and_right}
-use Rattle.high_trees.proofs.Kept.{counted, counted_words, counted_form, counted_initial, counted_declarators, kept_form, whole}
+use Rattle.high_trees.proofs.Kept.{counted, counted_form, counted_initial, counted_declarators, kept_form, whole}
 use Rattle.high_trees.proofs.Leads.{Leads, stand, ◌then◌, go, stays, atleast}
 use Rattle.high_trees.proofs.Opened.{opened, valued, refold, folded}
 use Rattle.high_trees.proofs.ReadEx.{worded}

@@ -1,5 +1,5 @@
 -- The machine goes through what stands behind each declared name.
-use Rattle.std.proofs.Common.{◌≡◌, ℕ, suc, ◌≤◌, ◌+◌, max, List, ◌∷◌, Option, None, Some, Bool, true, false, ◌&&◌, ◌||◌, not, if◌then◌else◌, leb, refl, subst, sym, ap, ◌∙◌, arith, le-leb}
+use Rattle.std.proofs.Common.{◌≡◌, ℕ, ◌≤◌, List, ◌∷◌, Option, None, Some, true, ◌&&◌, ◌||◌, not, leb, refl, ap, ◌∙◌, arith, le-leb}
 use Rattle.c_tree.specs.declared.symbol.AssignOp.TheVariants as to
 use Rattle.c_tree.specs.declared.symbol.Bracket.TheVariants as br
 use Rattle.c_tree.specs.declared.symbol.Symbol.TheVariants as sy
@@ -10,19 +10,14 @@ use Rattle.c_tree.specs.Symbols.{sign}
 use Rattle.c_tree.specs.Spelling.{level_of, opening, closing, comma, spell, spell_parts, spell_attribute, spell_attributes, spell_form, spell_initial}
 use Rattle.c_tree.specs.Shape as sh
 use Rattle.c_tree.specs.Words.{is_typedef, is_void}
-use Rattle.c_tree.specs.Tree.{Ats, no_attributes, attributes_and, Ex, Parts, no_parts, parts_and, named, Parameters, Form, fPlain, fArray, fFunction, Initial, iNothing, iValue, iList, Decs, declarators_and}
-use Rattle.parse_machine.specs.Tokens.{Prefix, prefix_of, Suffix, suffix_of, spec_of, SpecKind, spTypedef, spOther, start_of, is_else, Skip, skipOn, skipClose, skipEnd, skip_of, is_awaited}
+use Rattle.c_tree.specs.Tree.{Ats, no_attributes, attributes_and, Ex, Parts, no_parts, parts_and, Parameters, Form, fPlain, fArray, fFunction, Initial, iNothing, iValue, iList, Decs}
 use Rattle.parse_machine.specs.Contexts.{Spoken, Place, placeFile, placeBlock, placeFor, Declaring, Declared, baseLength, baseInitial, basePart, Inner, inBase, onDeclared, waitList, waitAttribute, Mode, Behind, Listed, Wait, Operand, Maybe}
 use Rattle.parse_machine.specs.Making as mk
-use Rattle.parse_machine.specs.Making.{above, tall, part, bound, bind_level}
 use Rattle.parse_machine.specs.Heights as ht
-use Rattle.parse_machine.specs.Heights.{least, high, around_high, low, depth, is_list}
+use Rattle.parse_machine.specs.Heights.{high, low}
 use Rattle.parse_machine.specs.Expressions as ex
-use Rattle.c_tree.specs.Height as hg
-use Rattle.c_tree.specs.Height.{height, height_parts, height_words}
 use Rattle.parse_machine.specs.Declarations as decl
-use Rattle.parse_machine.specs.Declarations.{Turn, turn, kept}
-use Rattle.c_tree.specs.Height.{height_word, height_enumerators}
+use Rattle.parse_machine.specs.Declarations.{Turn, kept}
 use Rattle.parse_machine.specs.Tokens as tok
 use Rattle.parse_laws.proofs.Walk.{if_true, when_true, pull_one}
 use Rattle.parse_laws.proofs.ReadDecs.{array_object}
