@@ -8,3 +8,4 @@ pub mod ReadDecl
 pub mod ReadDecs
 pub mod ReadDeclaration
 pub mod ReadItem
+pub mod Heights
