@@ -7,5 +7,6 @@ pub mod WholeEx
 pub mod ReadDecl
 pub mod ReadDecs
 pub mod ReadDeclaration
+pub mod ReadSt
 pub mod ReadItem
 pub mod Heights
