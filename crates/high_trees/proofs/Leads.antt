@@ -31,6 +31,8 @@ pub record Leads (ts : List Sign) (o : Option Turn) (rest : List Sign) (p : Opti
   pub goes : walk ts o ≡ walk rest p
   pub high : max h (peak rest p) ≤ peak ts o
 
+infixr 30 ◌then◌
+
 pub ◌then◌ : {a c d : List Sign} {o p q : Option Turn} {h g : ℕ} → Leads a o c p h → Leads c p d q g → Leads a o d q (max h g)
 ◌then◌ x y = record { goes = x.goes ∙ y.goes; high = omega (arith, x.high, y.high) }
 
