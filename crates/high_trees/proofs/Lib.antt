@@ -8,5 +8,6 @@ pub mod ReadDecl
 pub mod ReadDecs
 pub mod ReadDeclaration
 pub mod ReadSt
+pub mod WholeSt
 pub mod ReadItem
 pub mod Heights
