@@ -1,6 +1,5 @@
 -- Where the machine counts at most 200, the tree is no higher than it counts.
-use Rattle.std.proofs.Common.{◌≡◌, ℕ, suc, ◌≤◌, ◌<◌, max, Option, None, Some, arith}
-use Rattle.std.proofs.Common.{◌⊎◌, inl, inr, Bool, true, false, if◌then◌else◌, leb, refl, leb-true, leb-false}
+use Rattle.std.proofs.Common.{◌≡◌, ℕ, suc, ◌≤◌, ◌<◌, max, Option, None, Some, Bool, true, false, if◌then◌else◌, leb, refl, arith, ◌⊎◌, inl, inr, leb-true, leb-false}
 use Rattle.c_tree.specs.Height.{height, height_parts, height_words, height_word, height_enumerators, height_option, height_attributes, height_params, height_parameters, height_form, height_initial, height_declarators, height_declaration, height_head, height_for_start, height_for_head, height_statement, height_statements, height_item}
 use Rattle.c_tree.specs.Tree.{Ats, no_attributes, attributes_and, Ex, eName, eNumber, eLetter, eParen, eCall, eIndex, ePostfix, ePrefix, eSizeof, eCast, eBinary, eCond, eAssign, eComma, Parts, no_parts, parts_and, Words, no_words, words_and, Word, wType, wStorage, wConst, wExtension, wAttribute, wTypedef, wTag, wEnum, wTagEnum, Ens, no_enumerators, plain_and, valued_and, Params, no_params, params_and, Parameters, pUnknown, pVoid, pSome, Form, fPlain, fArray, fFunction, Initial, iNothing, iValue, iList, Decs, no_declarators, declarators_and, Declaration, declares, Head, head, ForStart, forDeclares, forExpr, ForHead, for_head, St, sDeclaration, sBlock, sEmpty, sExpr, sIf, sIfElse, sWhile, sSwitch, sDo, sFor, sCase, sDefault, sLabel, sGoto, sBreak, sContinue, sReturn, Sts, no_statements, statements_and, bBlock, bSkipped, Item, tSkipped, tFunction, tDeclaration, tEmpty}
 use Rattle.parse_machine.specs.Making.{above}

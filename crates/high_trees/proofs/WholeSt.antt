@@ -1,5 +1,5 @@
 -- The machine goes through each shaped statement, and through the statements of a block, whatever their height.
-use Rattle.std.proofs.Common.{◌≡◌, ℕ, suc, ◌≤◌, ◌+◌, max, List, ◌∷◌, length, None, Some, true, not, leb, refl, subst, sym, ap, ◌∙◌, arith, le-leb}
+use Rattle.std.proofs.Common.{ℕ, suc, ◌≤◌, ◌+◌, max, List, ◌∷◌, length, None, Some, not, leb, refl, sym, ap, ◌∙◌, arith, le-leb}
 use Rattle.c_tree.specs.declared.symbol.Bracket.TheVariants as br
 use Rattle.c_tree.specs.declared.symbol.StatementWord.TheVariants as key
 use Rattle.c_tree.specs.declared.symbol.Symbol.TheVariants as sy
@@ -70,7 +70,7 @@ abbrev pub statements_height : ℕ → Sts → ℕ
 statements_height d no_statements = 0
 statements_height d (statements_and ss s) = d + counted_statements (statements_and ss s)
 
-block_height : (d : ℕ) (ss : Sts) → d + counted_statements ss ≤ max d (statements_height d ss)
+pub block_height : (d : ℕ) (ss : Sts) → d + counted_statements ss ≤ max d (statements_height d ss)
 block_height d no_statements = omega arith
 block_height d (statements_and ss s) = omega arith
 
