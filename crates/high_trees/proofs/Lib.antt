@@ -7,4 +7,11 @@ pub mod WholeEx
 pub mod ReadDecl
 pub mod ReadDecs
 pub mod ReadDeclaration
+pub mod ReadSt
+pub mod WholeSt
 pub mod ReadItem
+pub mod Heights
+pub mod Appended
+pub mod FileRun
+pub mod HighRun
+pub mod HighFile
