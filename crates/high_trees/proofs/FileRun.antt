@@ -1,5 +1,5 @@
 -- Items that are skipped, and files of items that are not too high.
-use Rattle.std.proofs.Common.{◌≡◌, ℕ, ◌≤◌, List, [], ◌∷◌, Option, None, Some, Bool, true, false, ◌||◌, not, if◌then◌else◌, leb, refl, subst, sym, ap, ◌∙◌, arith}
+use Rattle.std.proofs.Common.{◌≡◌, ℕ, ◌≤◌, List, [], ◌∷◌, Option, None, Some, Bool, true, false, ◌||◌, not, if◌then◌else◌, leb, refl, subst, ap, ◌∙◌, arith}
 use Rattle.c_tree.specs.declared.symbol.StorageWord.TheVariants as storage
 use Rattle.c_tree.specs.declared.symbol.Symbol.{Symbol}
 use Rattle.c_tree.specs.declared.symbol.Symbol.TheVariants as sy
@@ -10,7 +10,7 @@ use Rattle.c_tree.specs.Spelling.{spell_raw, spell_item, spell_items}
 use Rattle.c_tree.specs.Shape as sh
 use Rattle.c_tree.specs.Words.{nothing_known}
 use Rattle.c_tree.specs.Tree.{Raw, no_raw, raw_and, wExtension, declares, Item, tSkipped, tFunction, tDeclaration, tEmpty, Items, no_items, items_and}
-use Rattle.parse_machine.specs.Contexts.{placeFile, aroundPlace, Mode, File, Ended, Specifiers, Finished}
+use Rattle.parse_machine.specs.Contexts.{placeFile, aroundPlace, Mode, File, Ended, Specifiers}
 use Rattle.parse_machine.specs.Making as mk
 use Rattle.parse_machine.specs.Heights.{high, low}
 use Rattle.c_tree.specs.Height as hg
@@ -18,7 +18,6 @@ use Rattle.parse_machine.specs.Declarations.{Turn}
 use Rattle.parse_machine.specs.Steps as steps
 use Rattle.parse_machine.specs.Machine as ma
 use Rattle.parse_machine.specs.Machine.{Phase, Plain, Both, Skipping, Above, State, Extern, Answer, Goes, Refused, High, Result, Tree, Syntax, Unsupported, TooHigh, Course, Going, Over, Role, listedRole, semicolonRole, stopRole, otherRole}
-use Rattle.c_tree.specs.Denotes.{IsSpelled, spelling, BeginsWithin}
 use Rattle.parse_laws.proofs.ReadSt.{NoElse, typed_no_else}
 use Rattle.parse_laws.proofs.Externs.{Out, OutTurn, extern_out, next_out}
 use Rattle.parse_laws.proofs.Walk.{above_is}
@@ -147,4 +146,3 @@ file_run (items_and is i) t l =
     let w = file_run is t.0 (omega (arith, l)) in
     let z = any_run i is (sh.file_names is) t.1 (omega (arith, l)) in
     record { height = z.height; runs = λ rest. w.runs (spell_item i rest) ∙ refile is w.height (spell_item i rest) (item_some i (sh.file_names is) t.1 rest) ∙ z.runs rest }
-

@@ -1,14 +1,14 @@
 -- The whole machine stops at the limit on the height where an item is too high.
-use Rattle.std.proofs.Common.{◌≡◌, ℕ, ◌≤◌, ◌<◌, max, List, [], ◌∷◌, ◌++◌, Option, None, Some, Bool, true, false, ◌&&◌, not, if◌then◌else◌, leb, refl, subst, sym, ap, ◌∙◌, arith, le-leb, leb-true, leb-false}
+use Rattle.std.proofs.Common.{◌≡◌, ℕ, ◌≤◌, ◌<◌, max, List, [], ◌∷◌, ◌++◌, Option, None, Some, Bool, true, false, ◌&&◌, not, if◌then◌else◌, leb, refl, subst, sym, ap, ◌∙◌, arith, le-leb, leb-true}
 use Rattle.c_tree.specs.declared.symbol.StorageWord.TheVariants as storage
 use Rattle.c_tree.specs.declared.symbol.Symbol.{Symbol}
 use Rattle.c_tree.specs.declared.symbol.Symbol.TheVariants as sy
 use Rattle.c_tree.specs.declared.symbol.Sign.{Sign}
 use Rattle.c_tree.specs.Symbols.{sign}
-use Rattle.c_tree.specs.Spelling.{spell_words, spell_item}
+use Rattle.c_tree.specs.Spelling.{spell_words}
 use Rattle.c_tree.specs.Shape as sh
 use Rattle.c_tree.specs.Words.{nothing_known}
-use Rattle.c_tree.specs.Tree.{no_raw, Words, no_words, words_and, wType, wStorage, wConst, wExtension, wAttribute, wTypedef, wTag, wEnum, wTagEnum, Item, tSkipped, tFunction, tDeclaration, tEmpty, Items}
+use Rattle.c_tree.specs.Tree.{no_raw, Words, no_words, words_and, wType, wStorage, wConst, wExtension, wAttribute, wTypedef, wTag, wEnum, wTagEnum, Items}
 use Rattle.parse_machine.specs.Contexts.{placeFile, aroundPlace, Mode, File, Ended, Specifiers}
 use Rattle.parse_machine.specs.Making as mk
 use Rattle.parse_machine.specs.Heights.{low}
@@ -21,7 +21,7 @@ use Rattle.parse_laws.proofs.Walk.{if_true, if_false, above_is}
 use Rattle.parse_laws.proofs.Good.{Reads, reads_on, GoodTurn}
 use Rattle.parse_laws.proofs.SoundRun.{next_reads}
 use Rattle.parse_laws.proofs.Externs.{Out, OutTurn, extern_out, next_out}
-use Rattle.parse_laws.proofs.CompleteRun.{Behind', run_append}
+use Rattle.parse_laws.proofs.CompleteRun.{Behind'}
 use Rattle.high_trees.proofs.Leads.{walk, low_of, peak, stand}
 
 -- Behind the first tokens of an item.

@@ -1,5 +1,5 @@
 -- The modes that the machine goes through, with no limit on the height, and the greatest height among them.
-use Rattle.std.proofs.Common.{◌≡◌, ℕ, ◌≤◌, max, List, [], ◌∷◌, Option, None, Some, refl, subst, sym, ap, ◌∙◌, arith, le_refl}
+use Rattle.std.proofs.Common.{◌≡◌, ℕ, ◌≤◌, max, List, [], ◌∷◌, Option, None, Some, subst, sym, ap, ◌∙◌, arith, le_refl}
 use Rattle.c_tree.specs.declared.symbol.Sign.{Sign}
 use Rattle.parse_machine.specs.Contexts.{Mode}
 use Rattle.parse_machine.specs.Heights.{low}

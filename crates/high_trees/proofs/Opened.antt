@@ -1,6 +1,5 @@
 -- What is open once an expression's tokens are read, and what makes it whole.
-use Rattle.std.proofs.Common.{◌≡◌, ℕ, suc, ◌≤◌, List, None, Some, Option, true, refl, ap, ◌∙◌, arith, le-leb, if◌then◌else◌, leb}
-use Rattle.c_tree.specs.Spelling.{level, level_of}
+use Rattle.std.proofs.Common.{◌≡◌, ℕ, ◌≤◌, List, None, Some, true, refl, ◌∙◌, arith, le-leb, leb}
 use Rattle.c_tree.specs.Shape as sh
 use Rattle.c_tree.specs.Tree.{Ex, eName, eNumber, eLetter, eParen, eCall, eIndex, ePostfix, ePrefix, eSizeof, eCast, eBinary, eCond, eAssign, eComma, Parts, no_parts, parts_and}
 use Rattle.parse_machine.specs.Contexts.{Part, Bind, bBinary, bPrefix, bCast, bAssign, bElse, bComma, Inner, inBind, Mode, Value}

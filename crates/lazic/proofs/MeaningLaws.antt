@@ -15,6 +15,8 @@ use Rattle.c_tree.specs.Symbols.{sign_of, signs_of}
 use Rattle.c_tree.specs.Tree.{Items}
 use Rattle.parse_machine.specs.Tokens.{is_unsupported}
 use Rattle.parse_machine.specs.Machine as ma
+use Rattle.c_tree.specs.Denotes.{IsSpelled}
+use Rattle.high_trees.proofs.HighFile.{the_only}
 use Rattle.c_parser.specs.Reading.{IsEnded, IsReading, IsStopped}
 use Rattle.c_parser.proofs.ReadingLaws.{reading}
 use Rattle.source_checks.specs.Refusals.{source_refusal}
@@ -24,7 +26,7 @@ use Rattle.stored_text.proofs.Whole.{run_text_read}
 use Rattle.lazic.specs.Words.{Wanted, request_of}
 use Rattle.lazic.specs.Reading.{parsed_of, tokens_read, unless, checked, source_read}
 use Rattle.lazic.specs.Answer.{values_outcome, tree_outcome, source_outcome, wanted_outcome, outcome_of, IsCaused}
-use Rattle.lazic.specs.Meaning.{HasTokens, HasTree, IsAccepted, IsUnread, IsAnswer, Means}
+use Rattle.lazic.specs.Meaning.{HasTokens, HasTree, IsTreeOf, IsAccepted, IsUnread, IsAnswer, Means}
 use Rattle.lazic.specs.Meaning.IsUnread.{stopped, too_high}
 use Rattle.lazic.specs.Meaning.IsAnswer.{too_long, no_tokens, no_tree, no_program, no_values, run_ends}
 use Rattle.lazic.specs.Meaning.Means.{no_request, request}
@@ -54,6 +56,11 @@ stopped_at source tokens at unsupported read stop =
     (read ∙ ap (λ (b : Bool). if b then ma.Unsupported at else ma.Syntax at) (sym stop.3) ∙ ap (λ (n : ℕ). if is_unsupported token.symbol then ma.Unsupported n else ma.Syntax n) stop.2)
     (ap (λ (b : Bool). Faulty (if b then Unsupported else Syntax) (place_at source at)) (sym stop.3) ∙ ap (λ (n : ℕ). Faulty (if is_unsupported token.symbol then Unsupported else Syntax) (place_at source n)) stop.2)
 
+-- ---- tokens that are a tree
+
+pub tree_is : (tokens : List Sign) (tree : Items) → ma.parse_of tokens ≡ ma.Tree tree → IsSpelled tokens tree → IsTreeOf tokens tree
+tree_is tokens tree read spelled = let w = the_only tokens tree read in record { spelled = spelled; low = w.0; only = w.1; read = read }
+
 -- ---- what is computed is meant
 
 module _ (model : Model) (turns : ℕ) (source file : List ℕ) where
@@ -69,7 +76,7 @@ module _ (model : Model) (turns : ℕ) (source file : List ℕ) where
 
   by_reading : (tokens : List Token) → HasTokens source tokens → (r : ma.Result) → ma.parse_of (signs_of tokens) ≡ r → IsReading (signs_of tokens) r → IsAnswer model turns source file (tree_outcome model turns source (checked model (parsed_of r)) file)
   by_reading tokens has (ma.Tree tree) is reads =
-      by_refusal tree (record { tokens = tokens; has = has; tree_of = record { spelled = reads.0; only = reads.1; read = is } }) (source_refusal tree model) refl
+      by_refusal tree (record { tokens = tokens; has = has; tree_of = tree_is (signs_of tokens) tree is reads.0 }) (source_refusal tree model) refl
   by_reading tokens has (ma.Syntax at) is reads = no_tree tokens has (stopped_at source (signs_of tokens) at false is (reads (ended source tokens has)))
   by_reading tokens has (ma.Unsupported at) is reads = no_tree tokens has (stopped_at source (signs_of tokens) at true is reads)
   by_reading tokens has ma.TooHigh is reads = no_tree tokens has (too_high reads.0 reads.1 is refl)
@@ -113,7 +120,7 @@ module _ (model : Model) (turns : ℕ) (source file : List ℕ) where
   pub lexed_source : (r : Result (List Token) SourceFail) → length source ≤ 1048576 → Fits source r → source_outcome model turns source file ≡ read_to (checked model (tokens_read r))
   lexed_source r short fits = short_source short ∙ ap (λ (x : Result (List Token) SourceFail). read_to (checked model (tokens_read x))) ((is_lexed_of source r).1 fits)
 
-  parsed_source : (tokens : List Token) (r : ma.Result) → HasTokens source tokens → ma.parse_of (signs_of tokens) ≡ r → source_outcome model turns source file ≡ read_to (checked model (parsed_of r))
+  pub parsed_source : (tokens : List Token) (r : ma.Result) → HasTokens source tokens → ma.parse_of (signs_of tokens) ≡ r → source_outcome model turns source file ≡ read_to (checked model (parsed_of r))
   parsed_source tokens r has read = lexed_source (Ok tokens) has.0 has ∙ ap (λ (x : ma.Result). read_to (checked model (parsed_of x))) read
 
   refusal_is : (at : ℕ) (b : Bool) → read_to (checked model (parsed_of (if b then ma.Unsupported at else ma.Syntax at))) ≡ Faulty (if b then Unsupported else Syntax) (place_at source at)

@@ -18,7 +18,7 @@ use Rattle.c_tree.specs.Height.{height_items}
 use Rattle.c_tree.specs.Denotes.{IsSpelled}
 use Rattle.parse_machine.specs.Machine as ma
 use Rattle.parse_laws.proofs.CompleteFile.{complete}
-use Rattle.c_parser.proofs.ReadingLaws.{reading}
+use Rattle.high_trees.proofs.HighFile.{too_high}
 use Rattle.c_run.specs.Run as run
 use Rattle.c_meaning.specs.Laws.{IsSpent}
 use Rattle.c_meaning.specs.Program as program
@@ -38,7 +38,7 @@ use Rattle.lazic.specs.Outcome.{status_of}
 use Rattle.lazic.specs.Report.{kept_of}
 use Rattle.lazic.proofs.AcceptedLaws.{IsOverOrNone, over_or_none}
 use Rattle.lazic.proofs.CauseLaws.{caused_is_right}
-use Rattle.lazic.proofs.MeaningLaws.{long_source, lexed_source, tree_source, values_source}
+use Rattle.lazic.proofs.MeaningLaws.{tree_is, long_source, lexed_source, parsed_source, tree_source, values_source}
 
 -- ---- runs with other turns
 
@@ -66,8 +66,10 @@ same_error turns more tree model values kind at drawn ends = by_order (cases_lt 
 -- the tree of tokens that spell it, where it is low
 low_tree : (tokens : List Token) (tree : Items) → IsSpelled (signs_of tokens) tree → height_items tree ≤ 200 → IsTreeOf (signs_of tokens) tree
 low_tree tokens tree spelled low =
-    let read : ma.parse_of (signs_of tokens) ≡ ma.Tree tree = sym (ap ma.parse_of spelled.spelled) ∙ complete tree spelled.shaped low spelled.end in
-    record { spelled = spelled; only = (reading (signs_of tokens) (ma.Tree tree) read).1; read = read }
+    tree_is (signs_of tokens) tree (sym (ap ma.parse_of spelled.spelled) ∙ complete tree spelled.shaped low spelled.end) spelled
+
+high_tree : (tokens : List Token) (tree : Items) → IsSpelled (signs_of tokens) tree → 200 < height_items tree → ma.parse_of (signs_of tokens) ≡ ma.TooHigh
+high_tree tokens tree spelled high = sym (ap ma.parse_of spelled.spelled) ∙ too_high tree spelled.shaped high spelled.end
 
 -- what the answer may be
 abbrev pub IsReachAnswer : Wanted → List ℕ → Items → List ℤ → ErrorKind → ℕ → Outcome → Type 0
@@ -105,13 +107,17 @@ module _ (words : List (List ℕ)) (file : List ℕ → List ℕ) (wanted : Want
   by_refusal has (inl none) =
       by_run (values_source wanted.model wanted.turns source (file wanted.run) tree (Ok values) has none ((run_text_read (file wanted.run) values).1 (asks.text, asks.few)))
       (same_error wanted.turns asks.reaches.turns tree wanted.model values kind at (length values) asks.reaches.ends)
-  by_refusal has (inr over) = inr (inr (4, over.0, tree_source wanted.model wanted.turns source (file wanted.run) tree (Some (fail.Over 4 over.0)) has over.1, inr (inr refl)))
+  by_refusal has (inr over) = inr (inr (4, over.0, tree_source wanted.model wanted.turns source (file wanted.run) tree (Some (fail.Over 4 over.0)) has over.1, inr (inr (inr refl))))
+
+  by_height : Fits source (Ok asks.tokens) → (200 < height_items tree) ⊎ (height_items tree ≤ 200) → Answers right
+  by_height has (inl high) = inr (inr (3, 201, parsed_source wanted.model wanted.turns source (file wanted.run) asks.tokens ma.TooHigh has (high_tree asks.tokens tree asks.spelled high), inr (inr (inl refl))))
+  by_height has (inr low) = by_refusal (record { tokens = asks.tokens; has = has; tree_of = low_tree asks.tokens tree asks.spelled low }) (over_or_none tree wanted.model asks.good)
 
   by_tokens : (list : List Token) → Fits source (Ok list) → Answers right
   by_tokens list fits =
       let same : list ≡ asks.tokens = one_list source list asks.tokens fits.1 asks.divided in
       let has : Fits source (Ok asks.tokens) = subst (λ (l : List Token). Fits source (Ok l)) same fits in
-      by_refusal (record { tokens = asks.tokens; has = has; tree_of = low_tree asks.tokens tree asks.spelled asks.low }) (over_or_none tree wanted.model asks.good)
+      by_height has (cases_lt 200 (height_items tree))
 
   by_limit : (number count : ℕ) → ((1048576 < length source) × (number ≡ 1) × (count ≡ length source)) ⊎ ((length source ≤ 1048576) × MoreTokens source 200000 × (number ≡ 2) × (count ≡ 200001)) → Answers right
   by_limit number count (inl long) = inr (inr (1, 1048577, long_source wanted.model wanted.turns source (file wanted.run) long.0, inl refl))

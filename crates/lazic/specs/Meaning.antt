@@ -1,6 +1,5 @@
 -- What each answer means, on the bytes of the source and of the run file. None of it speaks of how the answer is found, save
--- that the machine of the grammar says which token is named where several stop the tokens, and which tree it is where trees
--- are higher than 200.
+-- that the machine of the grammar says which token is named where several stop the tokens.
 use Rattle.std.specs.Prelude.{ℕ, ◌≡◌, ◌<◌, ◌≤◌, ◌↔◌, List, length, ℤ, Ok, Err, Some, None, if◌then◌else◌}
 use Rattle.lv_base.specs.Place.{place_at}
 use Rattle.lv_base.specs.declared.kind.Model.{Model}
@@ -11,10 +10,11 @@ use Rattle.c_tokens.specs.Divisions.{Fits}
 use Rattle.c_tree.specs.declared.symbol.Sign.{Sign}
 use Rattle.c_tree.specs.Symbols.{signs_of}
 use Rattle.c_tree.specs.Tree.{Items}
+use Rattle.c_tree.specs.Height.{height_items}
 use Rattle.c_tree.specs.Denotes.{IsSpelled}
 use Rattle.parse_machine.specs.Tokens.{is_unsupported}
 use Rattle.parse_machine.specs.Machine.{Tree, TooHigh, refusal, parse_of}
-use Rattle.c_parser.specs.Reading.{StopsAt, IsOnly}
+use Rattle.c_parser.specs.Reading.{StopsAt}
 use Rattle.c_meaning.specs.Good.{Good}
 use Rattle.c_meaning.specs.Program.{run}
 use Rattle.source_checks.specs.Refusals.{source_refusal}
@@ -37,10 +37,11 @@ pub data IsUnread (source : List ℕ) (tokens : List Sign) (answer : Outcome) : 
   stopped : (token : Sign) → StopsAt tokens token → parse_of tokens ≡ refusal token → answer ≡ Faulty (if is_unsupported token.symbol then Unsupported else Syntax) (place_at source token.at) → IsUnread source tokens answer
   too_high : (token : Sign) → StopsAt tokens token → parse_of tokens ≡ TooHigh → answer ≡ Over 3 201 → IsUnread source tokens answer
 
--- the tree of some tokens, and the only one of height at most 200
+-- the tree of some tokens, which is not too high, and the only one, of whatever height
 pub record IsTreeOf (tokens : List Sign) (tree : Items) : Type 0 where
   pub spelled : IsSpelled tokens tree
-  pub only : IsOnly tokens tree
+  pub low : height_items tree ≤ 200
+  pub only : (other : Items) → IsSpelled tokens other → other ≡ tree
   pub read : parse_of tokens ≡ Tree tree
 
 -- it breaks no rule and passes no limit

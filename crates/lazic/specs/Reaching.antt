@@ -6,7 +6,6 @@ use Rattle.c_lexer.specs.declared.token.Token.{Token}
 use Rattle.c_tokens.specs.Divisions.{Tokens}
 use Rattle.c_tree.specs.Symbols.{signs_of}
 use Rattle.c_tree.specs.Tree.{Items}
-use Rattle.c_tree.specs.Height.{height_items}
 use Rattle.c_tree.specs.Denotes.{IsSpelled}
 use Rattle.c_meaning.specs.Good.{Good}
 use Rattle.c_meaning.specs.Laws.{IsSpent}
@@ -25,15 +24,14 @@ pub record IsReaching (words : List (List ℕ)) (file : List ℕ → List ℕ) (
   pub tokens : List Token
   pub divided : Tokens (file wanted.source) tokens
   pub spelled : IsSpelled (signs_of tokens) tree
-  pub low : height_items tree ≤ 200
   pub good : Good tree wanted.model
   pub text : Spells values (file wanted.run)
   pub few : length values ≤ 1000000
   pub reaches : Reaches tree wanted.model values kind at
 
--- a limit of the source: bytes, tokens, cells
+-- a limit of the source: bytes, tokens, height, cells
 abbrev pub IsSourceLimit : ℕ → Type 0
-IsSourceLimit number = (number ≡ 1) ⊎ ((number ≡ 2) ⊎ (number ≡ 4))
+IsSourceLimit number = (number ≡ 1) ⊎ ((number ≡ 2) ⊎ ((number ≡ 3) ⊎ (number ≡ 4)))
 
 -- What is reported of it: the error at its place with these values, or that the turns were not enough for it, or a limit of the
 -- source, or want of memory; or a failure of the outside, where its count rose.
