@@ -1,8 +1,8 @@
 -- What an operation gives where the value is one of the kind's own.
-use Rattle.std.proofs.Common.{◌≡◌, ◌∙◌, ap, sym, refl, ℕ, zero, suc, ◌%◌, ◌<◌, ◌≤◌, ◌^◌, ◌-◌, ◌+◌, if◌then◌else◌, ℤ, pos, negsuc, ◌+ℤ◌, ◌-ℤ◌, ◌*ℤ◌, ◌≤ℤ◌, FitsSigned, Bool, true, false, Result, Ok, Err, arith, lit<, to_z, of_z}
+use Rattle.std.proofs.Common.{◌≡◌, ◌∙◌, ap, sym, subst, refl, ℕ, zero, suc, ◌%◌, ◌<◌, ◌≤◌, ◌^◌, ◌-◌, ◌+◌, if◌then◌else◌, ℤ, pos, negsuc, ◌*ℤ◌, ◌≤ℤ◌, ◌<ℤ◌, FitsSigned, Bool, true, false, Result, Ok, Err, arith, lit<, to_z, of_z}
 use Rattle.std.specs.Int.{w128}
-use Rattle.std.specs.Prelude.{unsigned_abs, nat_lt, MatchBool}
-use Rattle.std.proofs.lemmas.Int.{ints, fits_signed_mul, to_z-of_z}
+use Rattle.std.specs.Prelude.{nat_lt, MatchBool, int_div, int_rem}
+use Rattle.std.proofs.lemmas.Int.{ints}
 use Rattle.std.proofs.lemmas.Bool.{lt-ltb, le-ltb}
 use Rattle.std.proofs.Math.Nat.{mod-eq_of_lt}
 use Rattle.lv_base.specs.declared.kind.Kind.{Kind}
@@ -11,10 +11,13 @@ use Rattle.lv_base.specs.declared.kind.Model.{Model}
 use Rattle.lv_base.specs.declared.kind.Model.TheVariants.{Ilp32, Lp64}
 use Rattle.lv_base.specs.declared.kind.Op.{Op}
 use Rattle.lv_base.specs.declared.fault.ErrorKind.{ErrorKind}
-use Rattle.lv_base.specs.declared.fault.ErrorKind.TheVariants.{Overflow}
-use Rattle.lv_base.specs.Integers.{InRange, InAny, IsRight, is_in_range, is_shift, is_signed, residue, signed_of, converted, held, exact}
-use Rattle.typed_ranges.proofs.Ranging.{in_range_test}
-use Rattle.slot_board.specs.Seen.{finished}
+use Rattle.lv_base.specs.declared.fault.ErrorKind.TheVariants.{Overflow, Zero}
+use Rattle.lv_base.specs.Integers.{InRange, InAny, IsRight, is_in_range, is_shift, is_signed, is_promoted, is_zero, least_of, greatest_of, residue, signed_of, converted, held, exact, quotient, remainder}
+use Rattle.typed_ranges.proofs.Ranging.{in_range_test, guard_open}
+use Rattle.quick_integers.proofs.Fits.{in_any, signed_in_any, product_fits, product_is, quotient_within}
+use Rattle.c_tree.specs.declared.symbol.BinaryOp.{BinaryOp}
+use Rattle.c_run.specs.Operators.{op_of, is_turned, is_negated}
+use Rattle.slot_board.specs.Seen.{finished, applied_value, plain_value}
 
 pub finished_plain : (r : Result ℤ ErrorKind) → finished false r ≡ r
 finished_plain (Ok v) = refl
@@ -77,67 +80,56 @@ exact_by false kind model v h = ap Ok (converted_same kind model v h)
 pub exact_same : (kind : Kind) (model : Model) (v : ℤ) → InRange kind model v → Ok v ≡ exact kind model v
 exact_same kind model v h = exact_by (is_signed kind) kind model v h
 
+-- a value between the ends of a kind is one of the kind
+pub in_kind : (low : ℤ) (high : ℕ) (kind : Kind) (model : Model) (v : ℤ) → low ≡ least_of kind model → pos high ≡ greatest_of kind model → (low ≤ℤ v) × (v ≤ℤ pos high) → InRange kind model v
+in_kind low high kind model v l h b = (subst (λ (z : ℤ). z ≤ℤ v) l b.0, subst (λ (z : ℤ). v ≤ℤ z) h b.1)
+
+pub exact_between : (low : ℤ) (high : ℕ) (kind : Kind) (model : Model) (v : ℤ) → low ≡ least_of kind model → pos high ≡ greatest_of kind model → (low ≤ℤ v) × (v ≤ℤ pos high) → Ok v ≡ exact kind model v
+exact_between low high kind model v l h b = exact_same kind model v (in_kind low high kind model v l h b)
+
 -- ---- Operands of a kind
 
--- a value of a kind is a value of 64 bits
-in_any : (kind : Kind) (model : Model) (v : ℤ) → InRange kind model v → InAny v
-in_any ABool model v h = (omega (arith, ints), omega (arith, ints))
-in_any Char model v h = (omega (arith, ints), omega (arith, ints))
-in_any UChar model v h = (omega (arith, ints), omega (arith, ints))
-in_any Short model v h = (omega (arith, ints), omega (arith, ints))
-in_any UShort model v h = (omega (arith, ints), omega (arith, ints))
-in_any Int model v h = (omega (arith, ints), omega (arith, ints))
-in_any UInt model v h = (omega (arith, ints), omega (arith, ints))
-in_any Long Ilp32 v h = (omega (arith, ints), omega (arith, ints))
-in_any Long Lp64 v h = (omega (arith, ints), omega (arith, ints))
-in_any ULong Ilp32 v h = (omega (arith, ints), omega (arith, ints))
-in_any ULong Lp64 v h = (omega (arith, ints), omega (arith, ints))
-in_any LongLong model v h = (omega (arith, ints), omega (arith, ints))
-in_any ULongLong model v h = (omega (arith, ints), omega (arith, ints))
-
-right_in_any : (op : Op) (kind : Kind) (model : Model) (v : ℤ) → IsRight op kind model v → InAny v
-right_in_any op kind model v h = by_shift (is_shift op) h
+-- a value of the kind may be the right operand of any operation
+pub right_of : (op : Op) (kind : Kind) (model : Model) (v : ℤ) → InRange kind model v → IsRight op kind model v
+right_of op kind model v h = by_shift (is_shift op)
   where
-    by_shift : (b : Bool) → MatchBool b (InAny v) (InRange kind model v) → InAny v
-    by_shift true h = h
-    by_shift false h = in_any kind model v h
+    by_shift : (b : Bool) → MatchBool b (InAny v) (InRange kind model v)
+    by_shift true = in_any kind model v h
+    by_shift false = h
 
-sum_within : (a b : ℤ) → InAny a → InAny b → FitsSigned w128 (a +ℤ b)
-sum_within a b ha hb = omega (arith, ints)
+pub opened : (o : BinaryOp) (kind : Kind) (model : Model) (x y : ℤ) → is_promoted kind ≡ true → InRange kind model x → InRange kind model y → plain_value model o kind x y ≡ applied_value model o kind x y
+opened o kind model x y p hx hy =
+    let straight = guard_open (op_of o) kind model x y p hx (right_of (op_of o) kind model y hy) in
+    let turned = guard_open (op_of o) kind model y x p hy (right_of (op_of o) kind model x hx) in
+    ap (finished (is_negated o)) (by_turn (is_turned o) (sym turned) (sym straight))
+  where
+    by_turn : {A : Type 0} {a b c d : A} (t : Bool) → a ≡ b → c ≡ d → (if t then a else c) ≡ (if t then b else d)
+    by_turn true e f = e
+    by_turn false e f = f
 
-difference_within : (a b : ℤ) → InAny a → InAny b → FitsSigned w128 (a -ℤ b)
-difference_within a b ha hb = omega (arith, ints)
+pub product_is_exact : (kind : Kind) (model : Model) (r : Result ℤ ErrorKind) (a b : ℤ) → is_signed kind ≡ true → InRange kind model a → InRange kind model b → FitsSigned w128 a → FitsSigned w128 b →
+    r ≡ exact kind model (to_z w128 (of_z w128 (to_z w128 (of_z w128 a) *ℤ to_z w128 (of_z w128 b)))) → r ≡ exact kind model (a *ℤ b)
+product_is_exact kind model r a b is ha hb fa fb e =
+    let fits : FitsSigned w128 (a *ℤ b) = product_fits a b (signed_in_any kind model a is ha) (signed_in_any kind model b is hb) in
+    e ∙ ap (exact kind model) (product_is a b fa fb fits)
 
-pub sum_fits : (op : Op) (kind : Kind) (model : Model) (a b : ℤ) → InRange kind model a → IsRight op kind model b → FitsSigned w128 (a +ℤ b)
-sum_fits op kind model a b ha hb = sum_within a b (in_any kind model a ha) (right_in_any op kind model b hb)
+-- ---- Quotients with no sign
 
-pub difference_fits : (op : Op) (kind : Kind) (model : Model) (a b : ℤ) → InRange kind model a → IsRight op kind model b → FitsSigned w128 (a -ℤ b)
-difference_fits op kind model a b ha hb = difference_within a b (in_any kind model a ha) (right_in_any op kind model b hb)
+nonzero : (d : ℤ) → pos 0 <ℤ d → is_zero d ≡ false
+nonzero (pos zero) h = absurd (omega (arith, ints))
+nonzero (pos (suc d)) h = grind arith
+nonzero (negsuc d) h = refl
 
--- a value of a signed kind is one of 64 signed bits
-signed_within : (kind : Kind) (model : Model) (v : ℤ) → is_signed kind ≡ true → InRange kind model v → (negsuc (2 ^ 63 - 1) ≤ℤ v) × (v ≤ℤ pos (2 ^ 63 - 1))
-signed_within ABool model v is h = cc
-signed_within Char model v is h = (omega (arith, ints), omega (arith, ints))
-signed_within UChar model v is h = cc
-signed_within Short model v is h = (omega (arith, ints), omega (arith, ints))
-signed_within UShort model v is h = cc
-signed_within Int model v is h = (omega (arith, ints), omega (arith, ints))
-signed_within UInt model v is h = cc
-signed_within Long Ilp32 v is h = (omega (arith, ints), omega (arith, ints))
-signed_within Long Lp64 v is h = (omega (arith, ints), omega (arith, ints))
-signed_within ULong model v is h = cc
-signed_within LongLong model v is h = (omega (arith, ints), omega (arith, ints))
-signed_within ULongLong model v is h = cc
+above : (d : ℤ) → pos 0 <ℤ d → pos 0 ≤ℤ d
+above d h = omega (arith, ints)
 
-size_within : (v : ℤ) → negsuc (2 ^ 63 - 1) ≤ℤ v → v ≤ℤ pos (2 ^ 63 - 1) → unsigned_abs v ≤ 2 ^ 63
-size_within (pos n) low high = omega (arith, ints)
-size_within (negsuc n) low high = omega (arith, ints)
+pub plain_quotient : (kind : Kind) (model : Model) (left right : ℤ) → InRange kind model left → (pos 0 ≤ℤ left) × (pos 0 <ℤ right) → Ok (int_div left right) ≡ quotient kind model left right
+plain_quotient kind model left right h plain =
+    let within = quotient_within kind model left right h plain.0 (above right plain.1) in
+    sym (ap (λ b. if b then Err Zero else held kind model Overflow (int_div left right)) (nonzero right plain.1) ∙ ap (λ b. if b then Ok (int_div left right) else Err Overflow) within)
 
-signed_size : (kind : Kind) (model : Model) (v : ℤ) → is_signed kind ≡ true → InRange kind model v → unsigned_abs v ≤ 2 ^ 63
-signed_size kind model v is h = let w = signed_within kind model v is h in size_within v w.0 w.1
-
-pub product_fits : (kind : Kind) (model : Model) (a b : ℤ) → is_signed kind ≡ true → InRange kind model a → InRange kind model b → FitsSigned w128 (a *ℤ b)
-product_fits kind model a b is ha hb = fits_signed_mul w128 a b (2 ^ 63) (2 ^ 63) (signed_size kind model a is ha) (signed_size kind model b is hb) (lit< tt)
-
-pub product_is : (a b : ℤ) → FitsSigned w128 a → FitsSigned w128 b → FitsSigned w128 (a *ℤ b) → to_z w128 (of_z w128 (to_z w128 (of_z w128 a) *ℤ to_z w128 (of_z w128 b))) ≡ a *ℤ b
-product_is a b fa fb fab = rw (to_z-of_z w128 a fa, to_z-of_z w128 b fb, to_z-of_z w128 (a *ℤ b) fab) refl
+pub plain_rest : (kind : Kind) (model : Model) (left right : ℤ) → InRange kind model left → (pos 0 ≤ℤ left) × (pos 0 <ℤ right) → Ok (int_rem left right) ≡ remainder kind model left right
+plain_rest kind model left right h plain =
+    let within = quotient_within kind model left right h plain.0 (above right plain.1) in
+    sym (ap (λ b. if b then Err Zero else if is_in_range kind model (int_div left right) then Ok (int_rem left right) else Err Overflow) (nonzero right plain.1)
+    ∙ ap (λ b. if b then Ok (int_rem left right) else Err Overflow) within)

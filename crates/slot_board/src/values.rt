@@ -1,14 +1,14 @@
-ghost use Rattle.std.specs.Prelude.{◌≡◌, ◌*ℤ◌, true, IsTrue};
+ghost use Rattle.std.specs.Prelude.{◌≡◌, ◌*ℤ◌, ◌≤ℤ◌, ◌<ℤ◌, pos, true, IsTrue};
 ghost use Rattle.lv_base.specs.Integers as int;
 ghost use Rattle.c_run.specs.Run as run;
 ghost use Rattle.c_run.specs.Operators as operators;
 ghost use Rattle.c_typed.specs.Run as typed;
 ghost use Rattle.typed_ranges.specs.Guards as guards;
-ghost use Rattle.slot_board.specs.Seen.{applied_value, finished, is_index_of};
+ghost use Rattle.slot_board.specs.Seen.{applied_value, plain_value, finished, is_index_of};
 
 use c_tree::{BinaryOp, Crement};
 use lv_base::{ErrorKind, Kind, Model, Op};
-use quick_integers::{arith, in_range};
+use quick_integers::{arith, cut_quotient, cut_remainder, greatest, in_range, least};
 
 /// The value that a conversion to a kind gives. One of the kind's own stays as it is.
 #[inline(always)]
@@ -118,7 +118,7 @@ fn is_right(op: Op, kind: Kind, model: Model, value: i128) -> bool
     in_range(kind, model, value)
 }
 
-// What a sum, a difference or a product gives where the kind doesn't hold it: an error, or what is left of it.
+// What a sum, a difference or a product gives: an error, or what is left of it, where the kind doesn't hold it.
 #[inline(never)]
 fn beyond(kind: Kind, model: Model, value: i128) -> Result<i128, ErrorKind>
     ensures { result ≡ int.exact kind model value }
@@ -132,13 +132,40 @@ fn beyond(kind: Kind, model: Model, value: i128) -> Result<i128, ErrorKind>
     Err(ErrorKind::Overflow)
 }
 
-// A sum or a difference. One of the kind's own stays as it is; what else there is to do is seldom done.
+// Whether a value lies between these.
 #[inline(always)]
-#[tactic(auto, using(crate::proofs::Quick::exact_same))]
-fn summed(kind: Kind, model: Model, value: i128) -> Result<i128, ErrorKind>
+fn between(low: i64, high: u64, value: i128) -> bool
+    ensures { IsTrue result → (low ≤ℤ value) × (value ≤ℤ pos high) }
+{
+    low as i128 <= value && value <= high as i128
+}
+
+// Whether a kind is promoted, and both operands lie between these.
+#[inline(always)]
+fn are_given(low: i64, high: u64, kind: Kind, left: i128, right: i128) -> bool
+    ensures promoted { IsTrue result → IsTrue (int.is_promoted kind) }
+    ensures left { IsTrue result → (low ≤ℤ left) × (left ≤ℤ pos high) }
+    ensures right { IsTrue result → (low ≤ℤ right) × (right ≤ℤ pos high) }
+{
+    is_promoted(kind) && between(low, high, left) && between(low, high, right)
+}
+
+// A sum, a difference or a product in a kind whose ends these are. One of the kind's own stays as it is; what else there
+// is to do is seldom done.
+#[inline(always)]
+#[tactic(auto, using(crate::proofs::Quick::exact_between))]
+fn summed(
+    low: i64,
+    high: u64,
+    kind: Kind,
+    model: Model,
+    value: i128,
+) -> Result<i128, ErrorKind>
+    requires low { low ≡ int.least_of kind model }
+    requires high { pos high ≡ int.greatest_of kind model }
     ensures { result ≡ int.exact kind model value }
 {
-    if in_range(kind, model, value) {
+    if between(low, high, value) {
         return Ok(value);
     }
     beyond(kind, model, value)
@@ -146,37 +173,105 @@ fn summed(kind: Kind, model: Model, value: i128) -> Result<i128, ErrorKind>
 
 // A product of two values of a kind.
 #[inline(always)]
-fn multiplied(kind: Kind, model: Model, left: i128, right: i128) -> Result<i128, ErrorKind>
+fn multiplied(
+    low: i64,
+    high: u64,
+    kind: Kind,
+    model: Model,
+    left: i128,
+    right: i128,
+) -> Result<i128, ErrorKind>
+    requires low { low ≡ int.least_of kind model }
+    requires high { pos high ≡ int.greatest_of kind model }
     requires kind { IsTrue (int.is_promoted kind) }
     requires left { int.InRange kind model left }
     requires right { int.InRange kind model right }
     ensures { result ≡ int.exact kind model (left *ℤ right) }
 {
     if is_signed(kind) {
-        return summed(kind, model, left * right);
+        return summed(low, high, kind, model, left * right);
     }
     arith(Op::Mul, kind, model, left, right)
 }
 
-// The operation on operands of its kind, with a short way to what most runs do most.
+// Whether there is a quotient with no sign.
 #[inline(always)]
-fn operated(op: Op, kind: Kind, model: Model, left: i128, right: i128) -> Result<i128, ErrorKind>
+fn is_plain(left: i128, right: i128) -> bool
+    ensures { IsTrue result → (pos 0 ≤ℤ left) × (pos 0 <ℤ right) }
+{
+    0 <= left && 0 < right
+}
+
+// A quotient of two values of a kind.
+#[inline(always)]
+fn divided(kind: Kind, model: Model, left: i128, right: i128) -> Result<i128, ErrorKind>
     requires kind { IsTrue (int.is_promoted kind) }
     requires left { int.InRange kind model left }
-    requires right { int.IsRight op kind model right }
+    requires right { int.InRange kind model right }
+    ensures { result ≡ int.quotient kind model left right }
+{
+    if is_plain(left, right) {
+        return Ok(cut_quotient(left, right));
+    }
+    arith(Op::Div, kind, model, left, right)
+}
+
+// What a quotient of two values of a kind leaves.
+#[inline(always)]
+fn left_over(kind: Kind, model: Model, left: i128, right: i128) -> Result<i128, ErrorKind>
+    requires kind { IsTrue (int.is_promoted kind) }
+    requires left { int.InRange kind model left }
+    requires right { int.InRange kind model right }
+    ensures { result ≡ int.remainder kind model left right }
+{
+    if is_plain(left, right) {
+        return Ok(cut_remainder(left, right));
+    }
+    arith(Op::Rem, kind, model, left, right)
+}
+
+// The operation on two values of its kind, whose ends these are, with a short way to what most runs do most.
+#[inline(always)]
+#[tactic(auto, using(crate::proofs::Quick::right_of))]
+fn operated(
+    low: i64,
+    high: u64,
+    op: Op,
+    kind: Kind,
+    model: Model,
+    left: i128,
+    right: i128,
+) -> Result<i128, ErrorKind>
+    requires low { low ≡ int.least_of kind model }
+    requires high { pos high ≡ int.greatest_of kind model }
+    requires kind { IsTrue (int.is_promoted kind) }
+    requires left { int.InRange kind model left }
+    requires right { int.InRange kind model right }
     ensures { result ≡ int.arith_of op kind model left right }
 {
     match op {
-        Op::Add => summed(kind, model, left + right),
-        Op::Sub => summed(kind, model, left - right),
-        Op::Mul => multiplied(kind, model, left, right),
+        Op::Add => summed(low, high, kind, model, left + right),
+        Op::Sub => summed(low, high, kind, model, left - right),
+        Op::Mul => multiplied(low, high, kind, model, left, right),
+        Op::Div => divided(kind, model, left, right),
+        Op::Rem => left_over(kind, model, left, right),
         Op::Less => Ok(truth(left < right)),
         Op::LessEqual => Ok(truth(left <= right)),
         Op::Equal => Ok(truth(left == right)),
-        Op::Div | Op::Rem => arith(op, kind, model, left, right),
         Op::And | Op::Or | Op::Xor => arith(op, kind, model, left, right),
         Op::Shl | Op::Shr => arith(op, kind, model, left, right),
     }
+}
+
+// The operation whose operands are still to be tested.
+#[inline(never)]
+fn tested(model: Model, op: Op, kind: Kind, left: i128, right: i128) -> Result<i128, ErrorKind>
+    ensures { result ≡ guards.guarded model op kind left right }
+{
+    if is_promoted(kind) && in_range(kind, model, left) && is_right(op, kind, model, right) {
+        return arith(op, kind, model, left, right);
+    }
+    Err(ErrorKind::Overflow)
 }
 
 /// The operation in a promoted kind, or the error that it meets. Where an operand is no value of the kind it is not done:
@@ -185,10 +280,12 @@ fn operated(op: Op, kind: Kind, model: Model, left: i128, right: i128) -> Result
 pub fn guarded(model: Model, op: Op, kind: Kind, left: i128, right: i128) -> Result<i128, ErrorKind>
     ensures { result ≡ guards.guarded model op kind left right }
 {
-    if is_promoted(kind) && in_range(kind, model, left) && is_right(op, kind, model, right) {
-        return operated(op, kind, model, left, right);
+    let low = least(kind, model);
+    let high = greatest(kind, model);
+    if are_given(low, high, kind, left, right) {
+        return operated(low, high, op, kind, model, left, right);
     }
-    Err(ErrorKind::Overflow)
+    tested(model, op, kind, left, right)
 }
 
 // What `!=` makes of the value of `==`.
@@ -202,9 +299,109 @@ fn opposite(computed: Result<i128, ErrorKind>) -> Result<i128, ErrorKind>
     }
 }
 
-/// What a binary operator but for `&&` and `||` gives of two values of its kind, or the error that it meets.
+// A binary operator on two values of its kind, whose ends these are.
 #[inline(always)]
 #[tactic(auto, using(crate::proofs::Quick::finished_plain))]
+fn combined(
+    low: i64,
+    high: u64,
+    op: BinaryOp,
+    kind: Kind,
+    model: Model,
+    left: i128,
+    right: i128,
+) -> Result<i128, ErrorKind>
+    requires low { low ≡ int.least_of kind model }
+    requires high { pos high ≡ int.greatest_of kind model }
+    requires kind { IsTrue (int.is_promoted kind) }
+    requires left { int.InRange kind model left }
+    requires right { int.InRange kind model right }
+    ensures { result ≡ plain_value model op kind left right }
+{
+    match op {
+        BinaryOp::Add => operated(low, high, Op::Add, kind, model, left, right),
+        BinaryOp::Subtract => operated(low, high, Op::Sub, kind, model, left, right),
+        BinaryOp::Multiply => operated(low, high, Op::Mul, kind, model, left, right),
+        BinaryOp::Divide => operated(low, high, Op::Div, kind, model, left, right),
+        BinaryOp::Remainder => operated(low, high, Op::Rem, kind, model, left, right),
+        BinaryOp::Less => operated(low, high, Op::Less, kind, model, left, right),
+        BinaryOp::Greater => operated(low, high, Op::Less, kind, model, right, left),
+        BinaryOp::LessEqual => operated(low, high, Op::LessEqual, kind, model, left, right),
+        BinaryOp::GreaterEqual => operated(low, high, Op::LessEqual, kind, model, right, left),
+        BinaryOp::Equal => operated(low, high, Op::Equal, kind, model, left, right),
+        BinaryOp::NotEqual => opposite(operated(low, high, Op::Equal, kind, model, left, right)),
+        BinaryOp::OrElse | BinaryOp::BitOr => arith(Op::Or, kind, model, left, right),
+        BinaryOp::AndAlso | BinaryOp::BitAnd => arith(Op::And, kind, model, left, right),
+        BinaryOp::BitXor => arith(Op::Xor, kind, model, left, right),
+        BinaryOp::ShiftLeft => operated(low, high, Op::Shl, kind, model, left, right),
+        BinaryOp::ShiftRight => operated(low, high, Op::Shr, kind, model, left, right),
+    }
+}
+
+fn op_of(op: BinaryOp) -> Op
+    ensures { result ≡ operators.op_of op }
+{
+    match op {
+        BinaryOp::OrElse => Op::Or,
+        BinaryOp::AndAlso => Op::And,
+        BinaryOp::BitOr => Op::Or,
+        BinaryOp::BitXor => Op::Xor,
+        BinaryOp::BitAnd => Op::And,
+        BinaryOp::Equal => Op::Equal,
+        BinaryOp::NotEqual => Op::Equal,
+        BinaryOp::Less => Op::Less,
+        BinaryOp::Greater => Op::Less,
+        BinaryOp::LessEqual => Op::LessEqual,
+        BinaryOp::GreaterEqual => Op::LessEqual,
+        BinaryOp::ShiftLeft => Op::Shl,
+        BinaryOp::ShiftRight => Op::Shr,
+        BinaryOp::Add => Op::Add,
+        BinaryOp::Subtract => Op::Sub,
+        BinaryOp::Multiply => Op::Mul,
+        BinaryOp::Divide => Op::Div,
+        BinaryOp::Remainder => Op::Rem,
+    }
+}
+
+fn is_turned(op: BinaryOp) -> bool
+    ensures { result ≡ operators.is_turned op }
+{
+    matches!(op, BinaryOp::Greater | BinaryOp::GreaterEqual)
+}
+
+fn negated(op: BinaryOp, value: i128) -> i128
+    ensures { result ≡ operators.negated (operators.is_negated op) value }
+{
+    match op {
+        BinaryOp::NotEqual => truth(!is_true(value)),
+        _ => value,
+    }
+}
+
+// A binary operator whose operands are still to be tested.
+#[inline(never)]
+fn combined_slowly(
+    model: Model,
+    op: BinaryOp,
+    kind: Kind,
+    left: i128,
+    right: i128,
+) -> Result<i128, ErrorKind>
+    ensures { result ≡ applied_value model op kind left right }
+{
+    let computed = if is_turned(op) {
+        tested(model, op_of(op), kind, right, left)
+    } else {
+        tested(model, op_of(op), kind, left, right)
+    };
+    match computed {
+        Ok(value) => Ok(negated(op, value)),
+        Err(error) => Err(error),
+    }
+}
+
+/// What a binary operator but for `&&` and `||` gives of two values of its kind, or the error that it meets.
+#[inline(always)]
 pub fn applied(
     model: Model,
     op: BinaryOp,
@@ -214,24 +411,12 @@ pub fn applied(
 ) -> Result<i128, ErrorKind>
     ensures { result ≡ applied_value model op kind left right }
 {
-    match op {
-        BinaryOp::Add => guarded(model, Op::Add, kind, left, right),
-        BinaryOp::Subtract => guarded(model, Op::Sub, kind, left, right),
-        BinaryOp::Multiply => guarded(model, Op::Mul, kind, left, right),
-        BinaryOp::Divide => guarded(model, Op::Div, kind, left, right),
-        BinaryOp::Remainder => guarded(model, Op::Rem, kind, left, right),
-        BinaryOp::Less => guarded(model, Op::Less, kind, left, right),
-        BinaryOp::Greater => guarded(model, Op::Less, kind, right, left),
-        BinaryOp::LessEqual => guarded(model, Op::LessEqual, kind, left, right),
-        BinaryOp::GreaterEqual => guarded(model, Op::LessEqual, kind, right, left),
-        BinaryOp::Equal => guarded(model, Op::Equal, kind, left, right),
-        BinaryOp::NotEqual => opposite(guarded(model, Op::Equal, kind, left, right)),
-        BinaryOp::OrElse | BinaryOp::BitOr => guarded(model, Op::Or, kind, left, right),
-        BinaryOp::AndAlso | BinaryOp::BitAnd => guarded(model, Op::And, kind, left, right),
-        BinaryOp::BitXor => guarded(model, Op::Xor, kind, left, right),
-        BinaryOp::ShiftLeft => guarded(model, Op::Shl, kind, left, right),
-        BinaryOp::ShiftRight => guarded(model, Op::Shr, kind, left, right),
+    let low = least(kind, model);
+    let high = greatest(kind, model);
+    if are_given(low, high, kind, left, right) {
+        return combined(low, high, op, kind, model, left, right);
     }
+    combined_slowly(model, op, kind, left, right)
 }
 
 /// The operation of `++` and of `--`.
