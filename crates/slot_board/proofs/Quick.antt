@@ -1,7 +1,7 @@
 -- What an operation gives where the value is one of the kind's own.
 use Rattle.std.proofs.Common.{◌≡◌, ◌∙◌, ap, sym, subst, refl, ℕ, zero, suc, ◌%◌, ◌<◌, ◌≤◌, ◌^◌, ◌-◌, ◌+◌, if◌then◌else◌, ℤ, pos, negsuc, ◌*ℤ◌, ◌≤ℤ◌, ◌<ℤ◌, FitsSigned, Bool, true, false, Result, Ok, Err, arith, lit<, to_z, of_z}
 use Rattle.std.specs.Int.{w128}
-use Rattle.std.specs.Prelude.{nat_lt, MatchBool, int_div, int_rem}
+use Rattle.std.specs.Prelude.{nat_lt, MatchBool, Option, IfSome, int_div, int_rem}
 use Rattle.std.proofs.lemmas.Int.{ints}
 use Rattle.std.proofs.lemmas.Bool.{lt-ltb, le-ltb}
 use Rattle.std.proofs.Math.Nat.{mod-eq_of_lt}
@@ -107,11 +107,15 @@ opened o kind model x y p hx hy =
     by_turn true e f = e
     by_turn false e f = f
 
-pub product_is_exact : (kind : Kind) (model : Model) (r : Result ℤ ErrorKind) (a b : ℤ) → is_signed kind ≡ true → InRange kind model a → InRange kind model b → FitsSigned w128 a → FitsSigned w128 b →
-    r ≡ exact kind model (to_z w128 (of_z w128 (to_z w128 (of_z w128 a) *ℤ to_z w128 (of_z w128 b)))) → r ≡ exact kind model (a *ℤ b)
-product_is_exact kind model r a b is ha hb fa fb e =
+-- what is a value of one is a value of the same
+pub some_same : (o : Option ℤ) (r s : Result ℤ ErrorKind) → r ≡ s → IfSome o (λ v. Ok v ≡ r) → IfSome o (λ v. Ok v ≡ s)
+some_same o r s e h = subst (λ (t : Result ℤ ErrorKind). IfSome o (λ v. Ok v ≡ t)) e h
+
+pub product_some : (kind : Kind) (model : Model) (o : Option ℤ) (a b : ℤ) → is_signed kind ≡ true → InRange kind model a → InRange kind model b → FitsSigned w128 a → FitsSigned w128 b →
+    IfSome o (λ v. Ok v ≡ exact kind model (to_z w128 (of_z w128 (to_z w128 (of_z w128 a) *ℤ to_z w128 (of_z w128 b))))) → IfSome o (λ v. Ok v ≡ exact kind model (a *ℤ b))
+product_some kind model o a b is ha hb fa fb h =
     let fits : FitsSigned w128 (a *ℤ b) = product_fits a b (signed_in_any kind model a is ha) (signed_in_any kind model b is hb) in
-    e ∙ ap (exact kind model) (product_is a b fa fb fits)
+    some_same o _ _ (ap (exact kind model) (product_is a b fa fb fits)) h
 
 -- ---- Quotients with no sign
 

@@ -9,7 +9,8 @@ ghost use Rattle.slot_board.specs.Boards.{state_of, shape_of, act_of, next_of};
 use crate::row::{Row, draw};
 use crate::step::Step;
 use crate::values::{
-    applied, chosen, convert, crement_op, guarded, is_index, is_true, is_zero, promoted, truth,
+    applied, chosen, convert, crement_op, guarded, is_index, is_true, is_zero, promoted, quickly,
+    quickly_applied, truth,
 };
 use c_tree::{BinaryOp, Crement};
 use lv_base::{ErrorKind, Kind, Model, Op};
@@ -242,7 +243,11 @@ impl Board {
         ensures next { next_of site.place result self.new ≡ act_of model [] (Instruction.Negate site.slot kind at) site.place self.old }
         ensures kept { shape_of self.new ≡ shape_of self.old }
     {
-        let computed = guarded(model, Op::Sub, kind, 0, self.slot(site.slot));
+        let value = self.slot(site.slot);
+        if let Some(negative) = quickly(model, Op::Sub, kind, 0, value) {
+            return self.stored(site, negative);
+        }
+        let computed = guarded(model, Op::Sub, kind, 0, value);
         let got = self.or_error(at, computed);
         self.filled(site, got)
     }
@@ -289,6 +294,9 @@ impl Board {
     {
         let left = self.slot(site.slot);
         let right = self.second(site.slot);
+        if let Some(value) = quickly_applied(model, op, kind, left, right) {
+            return self.stored(site, value);
+        }
         let got = self.or_error(at, applied(model, op, kind, left, right));
         self.filled(site, got)
     }
@@ -322,6 +330,10 @@ impl Board {
         let index = self.slot(site.slot).unsigned_abs();
         let left = convert(self.second(site.slot), kind, model);
         let right = self.third(site.slot);
+        if let Some(value) = quickly_applied(model, op, kind, left, right) {
+            let stored = convert(value, target, model);
+            return self.rewrite(site, object, index, stored, stored);
+        }
         match applied(model, op, kind, left, right) {
             Ok(value) => {
                 let stored = convert(value, target, model);
@@ -349,7 +361,12 @@ impl Board {
         let index = self.slot(site.slot).unsigned_abs();
         let old = self.read(object, index);
         let wide = promoted(kind);
-        match guarded(model, crement_op(by), wide, convert(old, wide, model), 1) {
+        let operand = convert(old, wide, model);
+        if let Some(value) = quickly(model, crement_op(by), wide, operand, 1) {
+            let new = convert(value, kind, model);
+            return self.rewrite(site, object, index, new, chosen(before, new, old));
+        }
+        match guarded(model, crement_op(by), wide, operand, 1) {
             Ok(value) => {
                 let new = convert(value, kind, model);
                 self.rewrite(site, object, index, new, chosen(before, new, old))

@@ -1,4 +1,4 @@
-ghost use Rattle.std.specs.Prelude.{◌≡◌, ◌*ℤ◌, ◌≤ℤ◌, ◌<ℤ◌, pos, true, IsTrue};
+ghost use Rattle.std.specs.Prelude.{◌≡◌, ◌*ℤ◌, ◌≤ℤ◌, ◌<ℤ◌, pos, true, IfSome, Result, Ok, ℤ, IsTrue};
 ghost use Rattle.lv_base.specs.Integers as int;
 ghost use Rattle.c_run.specs.Run as run;
 ghost use Rattle.c_run.specs.Operators as operators;
@@ -118,20 +118,6 @@ fn is_right(op: Op, kind: Kind, model: Model, value: i128) -> bool
     in_range(kind, model, value)
 }
 
-// What a sum, a difference or a product gives: an error, or what is left of it, where the kind doesn't hold it.
-#[inline(never)]
-fn beyond(kind: Kind, model: Model, value: i128) -> Result<i128, ErrorKind>
-    ensures { result ≡ int.exact kind model value }
-{
-    if !is_signed(kind) {
-        return Ok(quick_integers::convert(value, kind, model));
-    }
-    if in_range(kind, model, value) {
-        return Ok(value);
-    }
-    Err(ErrorKind::Overflow)
-}
-
 // Whether a value lies between these.
 #[inline(always)]
 fn between(low: i64, high: u64, value: i128) -> bool
@@ -147,31 +133,24 @@ fn are_given(low: i64, high: u64, kind: Kind, left: i128, right: i128) -> bool
     ensures left { IsTrue result → (low ≤ℤ left) × (left ≤ℤ pos high) }
     ensures right { IsTrue result → (low ≤ℤ right) × (right ≤ℤ pos high) }
 {
-    is_promoted(kind) && between(low, high, left) && between(low, high, right)
+    between(low, high, left) && between(low, high, right) && is_promoted(kind)
 }
 
-// A sum, a difference or a product in a kind whose ends these are. One of the kind's own stays as it is; what else there
-// is to do is seldom done.
+// A sum, a difference or a product, where the kind with these ends holds it.
 #[inline(always)]
 #[tactic(auto, using(crate::proofs::Quick::exact_between))]
-fn summed(
-    low: i64,
-    high: u64,
-    kind: Kind,
-    model: Model,
-    value: i128,
-) -> Result<i128, ErrorKind>
+fn summed(low: i64, high: u64, kind: Kind, model: Model, value: i128) -> Option<i128>
     requires low { low ≡ int.least_of kind model }
     requires high { pos high ≡ int.greatest_of kind model }
-    ensures { result ≡ int.exact kind model value }
+    ensures { IfSome result (λ v. Ok v ≡ int.exact kind model value) }
 {
     if between(low, high, value) {
-        return Ok(value);
+        return Some(value);
     }
-    beyond(kind, model, value)
+    None
 }
 
-// A product of two values of a kind.
+// A product of two values of a signed kind.
 #[inline(always)]
 fn multiplied(
     low: i64,
@@ -180,18 +159,17 @@ fn multiplied(
     model: Model,
     left: i128,
     right: i128,
-) -> Result<i128, ErrorKind>
+) -> Option<i128>
     requires low { low ≡ int.least_of kind model }
     requires high { pos high ≡ int.greatest_of kind model }
-    requires kind { IsTrue (int.is_promoted kind) }
     requires left { int.InRange kind model left }
     requires right { int.InRange kind model right }
-    ensures { result ≡ int.exact kind model (left *ℤ right) }
+    ensures { IfSome result (λ v. Ok v ≡ int.exact kind model (left *ℤ right)) }
 {
     if is_signed(kind) {
         return summed(low, high, kind, model, left * right);
     }
-    arith(Op::Mul, kind, model, left, right)
+    None
 }
 
 // Whether there is a quotient with no sign.
@@ -202,37 +180,36 @@ fn is_plain(left: i128, right: i128) -> bool
     0 <= left && 0 < right
 }
 
-// A quotient of two values of a kind.
+// A quotient of two values of a kind, where it has no sign.
 #[inline(always)]
-fn divided(kind: Kind, model: Model, left: i128, right: i128) -> Result<i128, ErrorKind>
-    requires kind { IsTrue (int.is_promoted kind) }
+#[tactic(auto, using(crate::proofs::Quick::plain_quotient))]
+fn divided(kind: Kind, model: Model, left: i128, right: i128) -> Option<i128>
     requires left { int.InRange kind model left }
     requires right { int.InRange kind model right }
-    ensures { result ≡ int.quotient kind model left right }
+    ensures { IfSome result (λ v. Ok v ≡ int.quotient kind model left right) }
 {
     if is_plain(left, right) {
-        return Ok(cut_quotient(left, right));
+        return Some(cut_quotient(left, right));
     }
-    arith(Op::Div, kind, model, left, right)
+    None
 }
 
-// What a quotient of two values of a kind leaves.
+// What such a quotient leaves.
 #[inline(always)]
-fn left_over(kind: Kind, model: Model, left: i128, right: i128) -> Result<i128, ErrorKind>
-    requires kind { IsTrue (int.is_promoted kind) }
+#[tactic(auto, using(crate::proofs::Quick::plain_rest))]
+fn left_over(kind: Kind, model: Model, left: i128, right: i128) -> Option<i128>
     requires left { int.InRange kind model left }
     requires right { int.InRange kind model right }
-    ensures { result ≡ int.remainder kind model left right }
+    ensures { IfSome result (λ v. Ok v ≡ int.remainder kind model left right) }
 {
     if is_plain(left, right) {
-        return Ok(cut_remainder(left, right));
+        return Some(cut_remainder(left, right));
     }
-    arith(Op::Rem, kind, model, left, right)
+    None
 }
 
-// The operation on two values of its kind, whose ends these are, with a short way to what most runs do most.
+// The value of an operation on two values of its kind, whose ends these are, where there is a short way to it.
 #[inline(always)]
-#[tactic(auto, using(crate::proofs::Quick::right_of))]
 fn operated(
     low: i64,
     high: u64,
@@ -241,13 +218,12 @@ fn operated(
     model: Model,
     left: i128,
     right: i128,
-) -> Result<i128, ErrorKind>
+) -> Option<i128>
     requires low { low ≡ int.least_of kind model }
     requires high { pos high ≡ int.greatest_of kind model }
-    requires kind { IsTrue (int.is_promoted kind) }
     requires left { int.InRange kind model left }
     requires right { int.InRange kind model right }
-    ensures { result ≡ int.arith_of op kind model left right }
+    ensures { IfSome result (λ v. Ok v ≡ int.arith_of op kind model left right) }
 {
     match op {
         Op::Add => summed(low, high, kind, model, left + right),
@@ -255,17 +231,31 @@ fn operated(
         Op::Mul => multiplied(low, high, kind, model, left, right),
         Op::Div => divided(kind, model, left, right),
         Op::Rem => left_over(kind, model, left, right),
-        Op::Less => Ok(truth(left < right)),
-        Op::LessEqual => Ok(truth(left <= right)),
-        Op::Equal => Ok(truth(left == right)),
-        Op::And | Op::Or | Op::Xor => arith(op, kind, model, left, right),
-        Op::Shl | Op::Shr => arith(op, kind, model, left, right),
+        Op::Less => Some(truth(left < right)),
+        Op::LessEqual => Some(truth(left <= right)),
+        Op::Equal => Some(truth(left == right)),
+        Op::And | Op::Or | Op::Xor => None,
+        Op::Shl | Op::Shr => None,
     }
 }
 
-// The operation whose operands are still to be tested.
+/// The value of an operation in a promoted kind on two values of it, where there is a short way to it.
+#[inline(always)]
+pub fn quickly(model: Model, op: Op, kind: Kind, left: i128, right: i128) -> Option<i128>
+    ensures { IfSome result (λ v. Ok v ≡ guards.guarded model op kind left right) }
+{
+    let low = least(kind, model);
+    let high = greatest(kind, model);
+    if are_given(low, high, kind, left, right) {
+        return operated(low, high, op, kind, model, left, right);
+    }
+    None
+}
+
+/// The operation in a promoted kind, or the error that it meets. Where an operand is no value of the kind it is not done:
+/// in the code of a typed tree that never happens.
 #[inline(never)]
-fn tested(model: Model, op: Op, kind: Kind, left: i128, right: i128) -> Result<i128, ErrorKind>
+pub fn guarded(model: Model, op: Op, kind: Kind, left: i128, right: i128) -> Result<i128, ErrorKind>
     ensures { result ≡ guards.guarded model op kind left right }
 {
     if is_promoted(kind) && in_range(kind, model, left) && is_right(op, kind, model, right) {
@@ -274,32 +264,18 @@ fn tested(model: Model, op: Op, kind: Kind, left: i128, right: i128) -> Result<i
     Err(ErrorKind::Overflow)
 }
 
-/// The operation in a promoted kind, or the error that it meets. Where an operand is no value of the kind it is not done:
-/// in the code of a typed tree that never happens.
+// 1 where the value is 0, and else 0; and none where there is none.
 #[inline(always)]
-pub fn guarded(model: Model, op: Op, kind: Kind, left: i128, right: i128) -> Result<i128, ErrorKind>
-    ensures { result ≡ guards.guarded model op kind left right }
+fn opposite(value: Option<i128>) -> Option<i128>
+    ensures { (r : Result ℤ ErrorKind) → IfSome value (λ v. Ok v ≡ r) → IfSome result (λ v. Ok v ≡ finished true r) }
 {
-    let low = least(kind, model);
-    let high = greatest(kind, model);
-    if are_given(low, high, kind, left, right) {
-        return operated(low, high, op, kind, model, left, right);
-    }
-    tested(model, op, kind, left, right)
-}
-
-// What `!=` makes of the value of `==`.
-#[inline(always)]
-fn opposite(computed: Result<i128, ErrorKind>) -> Result<i128, ErrorKind>
-    ensures { result ≡ finished true computed }
-{
-    match computed {
-        Ok(value) => Ok(truth(is_zero(value))),
-        Err(error) => Err(error),
+    match value {
+        Some(value) => Some(truth(is_zero(value))),
+        None => None,
     }
 }
 
-// A binary operator on two values of its kind, whose ends these are.
+// The value of a binary operator on two values of its kind, whose ends these are, where there is a short way to it.
 #[inline(always)]
 #[tactic(auto, using(crate::proofs::Quick::finished_plain))]
 fn combined(
@@ -310,13 +286,12 @@ fn combined(
     model: Model,
     left: i128,
     right: i128,
-) -> Result<i128, ErrorKind>
+) -> Option<i128>
     requires low { low ≡ int.least_of kind model }
     requires high { pos high ≡ int.greatest_of kind model }
-    requires kind { IsTrue (int.is_promoted kind) }
     requires left { int.InRange kind model left }
     requires right { int.InRange kind model right }
-    ensures { result ≡ plain_value model op kind left right }
+    ensures { IfSome result (λ v. Ok v ≡ plain_value model op kind left right) }
 {
     match op {
         BinaryOp::Add => operated(low, high, Op::Add, kind, model, left, right),
@@ -330,11 +305,9 @@ fn combined(
         BinaryOp::GreaterEqual => operated(low, high, Op::LessEqual, kind, model, right, left),
         BinaryOp::Equal => operated(low, high, Op::Equal, kind, model, left, right),
         BinaryOp::NotEqual => opposite(operated(low, high, Op::Equal, kind, model, left, right)),
-        BinaryOp::OrElse | BinaryOp::BitOr => arith(Op::Or, kind, model, left, right),
-        BinaryOp::AndAlso | BinaryOp::BitAnd => arith(Op::And, kind, model, left, right),
-        BinaryOp::BitXor => arith(Op::Xor, kind, model, left, right),
-        BinaryOp::ShiftLeft => operated(low, high, Op::Shl, kind, model, left, right),
-        BinaryOp::ShiftRight => operated(low, high, Op::Shr, kind, model, left, right),
+        BinaryOp::OrElse | BinaryOp::BitOr => None,
+        BinaryOp::AndAlso | BinaryOp::BitAnd => None,
+        BinaryOp::BitXor | BinaryOp::ShiftLeft | BinaryOp::ShiftRight => None,
     }
 }
 
@@ -378,30 +351,8 @@ fn negated(op: BinaryOp, value: i128) -> i128
     }
 }
 
-// A binary operator whose operands are still to be tested.
-#[inline(never)]
-fn combined_slowly(
-    model: Model,
-    op: BinaryOp,
-    kind: Kind,
-    left: i128,
-    right: i128,
-) -> Result<i128, ErrorKind>
-    ensures { result ≡ applied_value model op kind left right }
-{
-    let computed = if is_turned(op) {
-        tested(model, op_of(op), kind, right, left)
-    } else {
-        tested(model, op_of(op), kind, left, right)
-    };
-    match computed {
-        Ok(value) => Ok(negated(op, value)),
-        Err(error) => Err(error),
-    }
-}
-
 /// What a binary operator but for `&&` and `||` gives of two values of its kind, or the error that it meets.
-#[inline(always)]
+#[inline(never)]
 pub fn applied(
     model: Model,
     op: BinaryOp,
@@ -411,12 +362,34 @@ pub fn applied(
 ) -> Result<i128, ErrorKind>
     ensures { result ≡ applied_value model op kind left right }
 {
+    let computed = if is_turned(op) {
+        guarded(model, op_of(op), kind, right, left)
+    } else {
+        guarded(model, op_of(op), kind, left, right)
+    };
+    match computed {
+        Ok(value) => Ok(negated(op, value)),
+        Err(error) => Err(error),
+    }
+}
+
+/// The same, where it is a value to which there is a short way.
+#[inline(always)]
+pub fn quickly_applied(
+    model: Model,
+    op: BinaryOp,
+    kind: Kind,
+    left: i128,
+    right: i128,
+) -> Option<i128>
+    ensures { IfSome result (λ v. Ok v ≡ applied_value model op kind left right) }
+{
     let low = least(kind, model);
     let high = greatest(kind, model);
     if are_given(low, high, kind, left, right) {
         return combined(low, high, op, kind, model, left, right);
     }
-    combined_slowly(model, op, kind, left, right)
+    None
 }
 
 /// The operation of `++` and of `--`.
