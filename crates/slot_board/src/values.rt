@@ -150,6 +150,37 @@ fn summed(low: i64, high: u64, kind: Kind, model: Model, value: i128) -> Option<
     None
 }
 
+// A sum of two values of a kind.
+#[inline(always)]
+fn added(low: i64, high: u64, kind: Kind, model: Model, left: i128, right: i128) -> Option<i128>
+    requires low { low ≡ int.least_of kind model }
+    requires high { pos high ≡ int.greatest_of kind model }
+    requires left { int.InRange kind model left }
+    requires right { int.InRange kind model right }
+    ensures { IfSome result (λ v. Ok v ≡ int.arith_of Op.Add kind model left right) }
+{
+    summed(low, high, kind, model, left + right)
+}
+
+// A difference of two values of a kind.
+#[inline(always)]
+fn subtracted(
+    low: i64,
+    high: u64,
+    kind: Kind,
+    model: Model,
+    left: i128,
+    right: i128,
+) -> Option<i128>
+    requires low { low ≡ int.least_of kind model }
+    requires high { pos high ≡ int.greatest_of kind model }
+    requires left { int.InRange kind model left }
+    requires right { int.InRange kind model right }
+    ensures { IfSome result (λ v. Ok v ≡ int.arith_of Op.Sub kind model left right) }
+{
+    summed(low, high, kind, model, left - right)
+}
+
 // A product of two values of a signed kind.
 #[inline(always)]
 fn multiplied(
@@ -226,8 +257,8 @@ fn operated(
     ensures { IfSome result (λ v. Ok v ≡ int.arith_of op kind model left right) }
 {
     match op {
-        Op::Add => summed(low, high, kind, model, left + right),
-        Op::Sub => summed(low, high, kind, model, left - right),
+        Op::Add => added(low, high, kind, model, left, right),
+        Op::Sub => subtracted(low, high, kind, model, left, right),
         Op::Mul => multiplied(low, high, kind, model, left, right),
         Op::Div => divided(kind, model, left, right),
         Op::Rem => left_over(kind, model, left, right),
@@ -264,17 +295,6 @@ pub fn guarded(model: Model, op: Op, kind: Kind, left: i128, right: i128) -> Res
     Err(ErrorKind::Overflow)
 }
 
-// 1 where the value is 0, and else 0; and none where there is none.
-#[inline(always)]
-fn opposite(value: Option<i128>) -> Option<i128>
-    ensures { (r : Result ℤ ErrorKind) → IfSome value (λ v. Ok v ≡ r) → IfSome result (λ v. Ok v ≡ finished true r) }
-{
-    match value {
-        Some(value) => Some(truth(is_zero(value))),
-        None => None,
-    }
-}
-
 // The value of a binary operator on two values of its kind, whose ends these are, where there is a short way to it.
 #[inline(always)]
 #[tactic(auto, using(crate::proofs::Quick::finished_plain))]
@@ -294,17 +314,17 @@ fn combined(
     ensures { IfSome result (λ v. Ok v ≡ plain_value model op kind left right) }
 {
     match op {
-        BinaryOp::Add => operated(low, high, Op::Add, kind, model, left, right),
-        BinaryOp::Subtract => operated(low, high, Op::Sub, kind, model, left, right),
-        BinaryOp::Multiply => operated(low, high, Op::Mul, kind, model, left, right),
-        BinaryOp::Divide => operated(low, high, Op::Div, kind, model, left, right),
-        BinaryOp::Remainder => operated(low, high, Op::Rem, kind, model, left, right),
-        BinaryOp::Less => operated(low, high, Op::Less, kind, model, left, right),
-        BinaryOp::Greater => operated(low, high, Op::Less, kind, model, right, left),
-        BinaryOp::LessEqual => operated(low, high, Op::LessEqual, kind, model, left, right),
-        BinaryOp::GreaterEqual => operated(low, high, Op::LessEqual, kind, model, right, left),
-        BinaryOp::Equal => operated(low, high, Op::Equal, kind, model, left, right),
-        BinaryOp::NotEqual => opposite(operated(low, high, Op::Equal, kind, model, left, right)),
+        BinaryOp::Add => added(low, high, kind, model, left, right),
+        BinaryOp::Subtract => subtracted(low, high, kind, model, left, right),
+        BinaryOp::Multiply => multiplied(low, high, kind, model, left, right),
+        BinaryOp::Divide => divided(kind, model, left, right),
+        BinaryOp::Remainder => left_over(kind, model, left, right),
+        BinaryOp::Less => Some(truth(left < right)),
+        BinaryOp::Greater => Some(truth(right < left)),
+        BinaryOp::LessEqual => Some(truth(left <= right)),
+        BinaryOp::GreaterEqual => Some(truth(right <= left)),
+        BinaryOp::Equal => Some(truth(left == right)),
+        BinaryOp::NotEqual => Some(truth(is_zero(truth(left == right)))),
         BinaryOp::OrElse | BinaryOp::BitOr => None,
         BinaryOp::AndAlso | BinaryOp::BitAnd => None,
         BinaryOp::BitXor | BinaryOp::ShiftLeft | BinaryOp::ShiftRight => None,
