@@ -141,7 +141,7 @@ least_below LongLong model = omega (arith, ints)
 least_below ULongLong model = omega (arith, ints)
 
 -- a quotient of operands that are not negative is no greater than the dividend
-quotient_within : (kind : Kind) (model : Model) (left right : ℤ) → InRange kind model left → pos 0 ≤ℤ left → pos 0 ≤ℤ right → is_in_range kind model (int_div left right) ≡ true
+pub quotient_within : (kind : Kind) (model : Model) (left right : ℤ) → InRange kind model left → pos 0 ≤ℤ left → pos 0 ≤ℤ right → is_in_range kind model (int_div left right) ≡ true
 quotient_within kind model (pos a) (pos d) h above right_above = by_bounds (least_of kind model) (greatest_of kind model) (a / d) (least_below kind model) h.1 (div-le_self a d)
   where
     by_bounds : (least greatest : ℤ) (q : ℕ) → least ≤ℤ pos 0 → pos a ≤ℤ greatest → q ≤ a → (int_le least (pos q) && int_le (pos q) greatest) ≡ true

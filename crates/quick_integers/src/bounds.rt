@@ -62,7 +62,9 @@ pub fn highest(kind: Kind, model: Model) -> u64
     }
 }
 
-fn least(kind: Kind, model: Model) -> i64
+/// The least value of a kind.
+#[inline(always)]
+pub fn least(kind: Kind, model: Model) -> i64
     ensures { result ≡ least_of kind model }
 {
     match model {
@@ -85,7 +87,9 @@ fn least(kind: Kind, model: Model) -> i64
     }
 }
 
-fn greatest(kind: Kind, model: Model) -> u64
+/// The greatest value of a kind.
+#[inline(always)]
+pub fn greatest(kind: Kind, model: Model) -> u64
     ensures { pos result ≡ greatest_of kind model }
 {
     match model {

@@ -7,7 +7,8 @@ mod bounds;
 mod quotients;
 
 pub use arithmetic::{arith, convert};
-pub use bounds::in_range;
+pub use bounds::{greatest, in_range, least};
+pub use quotients::{cut_quotient, cut_remainder};
 
 #[cfg(test)]
 mod tests;

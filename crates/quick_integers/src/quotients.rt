@@ -5,6 +5,7 @@ ghost use Rattle.lv_base.specs.Integers.{InAny};
 const MOST: i128 = 18_446_744_073_709_551_615;
 
 /// The quotient, cut towards zero: of 64 bits where neither operand is negative, since one of 128 bits calls a library.
+#[inline(always)]
 pub fn cut_quotient(left: i128, right: i128) -> i128
     requires left { InAny left }
     requires right { right ≢ pos 0 }
@@ -17,6 +18,7 @@ pub fn cut_quotient(left: i128, right: i128) -> i128
 }
 
 /// What that quotient leaves.
+#[inline(always)]
 pub fn cut_remainder(left: i128, right: i128) -> i128
     requires left { InAny left }
     requires right { right ≢ pos 0 }

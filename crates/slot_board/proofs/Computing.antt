@@ -44,6 +44,11 @@ module _ (model : Model) (inputs : List ℤ) where
   pub applied_computed : (at : ℕ) (o : BinaryOp) (k : Kind) (x y : ℤ) (st : State) → applied model (λ op kind v w. compute_of model op kind v w) inputs at o k x y st ≡ computed at (applied_value model o k x y) st
   applied_computed at o k x y st = finished_computed (is_negated o) at _ st
 
+  pub applied_some : (place slot at : ℕ) (slots : List ℤ) (o : BinaryOp) (k : Kind) (x y : ℤ) (st : State) (v : ℤ) (n : Next) → Ok v ≡ applied_value model o k x y →
+      n ≡ Goes (machine (suc place) (put slots slot v) st) → n ≡ fills place slots slot (applied model (λ op kind a b. compute_of model op kind a b) inputs at o k x y st)
+  applied_some place slot at slots o k x y st v n h g =
+      g ∙ ap (λ r. fills place slots slot (computed at r st)) h ∙ ap (fills place slots slot) (sym (applied_computed at o k x y st))
+
   pub updated_computed : (at : ℕ) (o : BinaryOp) (k l : Kind) (e : Element) (x y : ℤ) (st : State) (r : Result ℤ ErrorKind) → r ≡ applied_value model o k (converted k model x) y →
       updated model (λ op kind v w. compute_of model op kind v w) inputs at o k l e x y st ≡ after (computed at r st) (λ v. write e (converted l model v))
   updated_computed at o k l e x y st r h =

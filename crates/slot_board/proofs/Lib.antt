@@ -2,3 +2,4 @@ pub mod Answering
 pub mod Elements
 pub mod Shapes
 pub mod Computing
+pub mod Quick

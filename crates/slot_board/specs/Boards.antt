@@ -1,5 +1,5 @@
 -- A board and what its instructions lead to, in the words of runs.
-use Rattle.std.specs.Prelude.{ℕ, List, ◌∷◌, length, map, ℤ}
+use Rattle.std.specs.Prelude.{ℕ, suc, List, ◌∷◌, length, map, ℤ}
 use Rattle.lv_base.specs.declared.kind.Model.{Model}
 use Rattle.c_run.specs.Run.{State}
 use Rattle.slot_code.specs.declared.flat.Instruction.{Instruction}
@@ -12,9 +12,11 @@ use Rattle.slot_board.specs.Seen.{state, compute_of}
 abbrev pub state_of : Board → State
 state_of b = state b.store.items b.taken b.turns
 
-abbrev pub next_of : Step → Board → Next
-next_of (step.Goes place) b = Goes (machine place b.slots.items (state_of b))
-next_of (step.Over e) b = Over e
+-- behind the instruction at this place
+abbrev pub next_of : ℕ → Step → Board → Next
+next_of place step.Next b = Goes (machine (suc place) b.slots.items (state_of b))
+next_of place (step.Goes goal) b = Goes (machine goal b.slots.items (state_of b))
+next_of place (step.Over e) b = Over e
 
 -- what the instruction at this place leads to
 abbrev pub act_of : Model → List ℤ → Instruction → ℕ → Board → Next

@@ -3,6 +3,7 @@ use Rattle.std.specs.Prelude.{ℕ, suc, Bool, ◌&&◌, if◌then◌else◌, Lis
 use Rattle.lv_base.specs.declared.kind.Kind.{Kind}
 use Rattle.lv_base.specs.declared.kind.Model.{Model}
 use Rattle.lv_base.specs.declared.fault.ErrorKind.{ErrorKind}
+use Rattle.lv_base.specs.Integers.{arith_of}
 use Rattle.c_tree.specs.declared.symbol.BinaryOp.{BinaryOp}
 use Rattle.c_run.specs.Run.{with_store, State, Got, Value, Stop, Run, Compute, give, after, located, read, Element}
 use Rattle.c_run.specs.Operators.{op_of, is_turned, is_negated, negated}
@@ -54,6 +55,10 @@ finished n (Err kind) = Err kind
 -- a binary operator but for `&&` and `||`, on values of its kind
 abbrev pub applied_value : Model → BinaryOp → Kind → ℤ → ℤ → Result ℤ ErrorKind
 applied_value model o k x y = finished (is_negated o) (if is_turned o then guarded model (op_of o) k y x else guarded model (op_of o) k x y)
+
+-- the same where the operands are known to be values of the kind
+abbrev pub plain_value : Model → BinaryOp → Kind → ℤ → ℤ → Result ℤ ErrorKind
+plain_value model o k x y = finished (is_negated o) (if is_turned o then arith_of (op_of o) k model y x else arith_of (op_of o) k model x y)
 
 abbrev pub is_index_of : ℕ → ℤ → Bool
 is_index_of count index = int_le (pos 0) index && int_lt index (pos count)

@@ -61,6 +61,7 @@ impl Row {
     }
 
     /// How many elements it has.
+    #[inline(always)]
     pub fn size(&self) -> usize
         ensures { result ≡ length self.now }
     {
@@ -68,6 +69,7 @@ impl Row {
     }
 
     /// The value of an element, and 0 where there is none. An index is as wide as a value.
+    #[inline(always)]
     pub fn value_at(&self, index: u128) -> i128
         ensures { result ≡ slice_index_or self.now index (pos 0) }
     {
@@ -78,6 +80,7 @@ impl Row {
     }
 
     /// Stores a value in an element, where there is one.
+    #[inline(always)]
     pub fn set(&mut self, index: u128, value: i128)
         ensures { self.new ≡ slice_set self.old index value }
     {

@@ -1,4 +1,5 @@
-ghost use Rattle.std.specs.Prelude.{◌≡◌, ◌≤◌, ◌<◌, length, slice_get, IfSome, IsTrue};
+ghost use Rattle.std.specs.Prelude.{◌≡◌, ◌≤◌, length, slice_get, IsTrue};
+ghost use Rattle.std.specs.Option.{option_copied};
 ghost use Rattle.typed_ranges.specs.Guards as guards;
 ghost use Rattle.slot_code.specs.Slots.{slots_in};
 ghost use Rattle.slot_code.specs.Machine as flat;
@@ -10,17 +11,11 @@ use slot_board::{Board, Step};
 use slot_code::{Ending, Instruction};
 
 // The instruction at this place; none stands behind the code.
-fn instruction_at(code: &[Instruction], place: u128) -> Option<Instruction>
-    ensures found { result ≡ slice_get code.now place }
-    ensures within { IfSome result (λ _. place < length code.now) }
+#[inline(always)]
+fn instruction_at(code: &[Instruction], place: usize) -> Option<&Instruction>
+    ensures { option_copied result ≡ slice_get code.now place }
 {
-    if place >= code.len() as u128 {
-        return None;
-    }
-    match code.get(place as usize) {
-        Some(instruction) => Some(*instruction),
-        None => None,
-    }
+    code.get(place)
 }
 
 /// Runs this code from a place on, until it ends. Each instruction takes a turn or goes forward, so it does end.
@@ -36,13 +31,19 @@ pub fn run_from(
     ensures run { result ≡ flat.run_from model (λ op kind x y. guards.guarded model op kind x y) inputs.now code.now (flat.machine start board.old.slots.items (state_of board.old)) }
     ensures kept { shape_of board.new ≡ shape_of board.old }
 {
-    let mut place = start as u128;
+    let mut place = start;
     'steps: loop {
         let Some(instruction) = instruction_at(code, place) else {
             return Ending::Ended;
         };
-        match board.act(instruction, place as usize, inputs, model) {
-            Step::Goes(next) => place = next,
+        match board.act(instruction, place, inputs, model) {
+            Step::Next => place += 1,
+            Step::Goes(goal) => {
+                if goal >= code.len() as u128 {
+                    return Ending::Ended;
+                }
+                place = goal as usize;
+            }
             Step::Over(ending) => return ending,
         }
     }

@@ -8,8 +8,7 @@ use Rattle.slot_board.proofs.board.Board.bind.Goals as goal
 
 pub returns-clause-next : goal.returns-clause-next
 returns-clause-next c =
-    let s : state_of c.write.new.self ≡ with_store (state_of c.args.self.now) (set c.args.self.now.store.items c.args.object (set (get_or c.args.self.now.store.items c.args.object []) 0 (get c.args.self.now.slots.items c.args.slot))) = search rules in
-    let o = one_value (get_or c.args.self.now.store.items c.args.object []) (get c.args.self.now.slots.items c.args.slot) c.requires in
-    ap (λ p. Goes (machine p c.write.new.self.slots.items (state_of c.write.new.self))) c.behind.ensures
-    ∙ ap (λ xs. Goes (machine (suc c.args.place) xs (state_of c.write.new.self))) c.write.ensures.slots
-    ∙ ap (λ t. Goes (machine (suc c.args.place) c.args.self.now.slots.items t)) (s ∙ ap (λ row. with_store (state_of c.args.self.now) (set c.args.self.now.store.items c.args.object row)) o)
+    let s : state_of c.write.new.self ≡ with_store (state_of c.args.self.now) (set c.args.self.now.store.items c.args.object (set (get_or c.args.self.now.store.items c.args.object []) 0 (get c.args.self.now.slots.items c.args.site.slot))) = search rules in
+    let o = one_value (get_or c.args.self.now.store.items c.args.object []) (get c.args.self.now.slots.items c.args.site.slot) c.requires.size in
+    ap (λ xs. Goes (machine (suc c.args.site.place) xs (state_of c.write.new.self))) c.write.ensures.slots
+    ∙ ap (λ t. Goes (machine (suc c.args.site.place) c.args.self.now.slots.items t)) (s ∙ ap (λ row. with_store (state_of c.args.self.now) (set c.args.self.now.store.items c.args.object row)) o)

@@ -10,4 +10,4 @@ use Rattle.slot_board.proofs.board.Board.complement.Goals as goal
 pub returns-clause-next : goal.returns-clause-next
 returns-clause-next c =
     let e : c.guarded-computed.result ≡ guarded c.args.model op.Xor c.args.kind (get c.args.self.now.slots.items c.args.site.slot) (converted c.args.kind c.args.model (negsuc 0)) = search rules in
-    answered c.args.site.place c.args.self.now.slots.items c.args.site.slot c.args.site.at (state_of c.args.self.now) c.guarded-computed.result _ c.or_error-got.result _ c.filled.ensures.next c.or_error-got.ensures e
+    answered c.args.site.place c.args.self.now.slots.items c.args.site.slot c.args.at (state_of c.args.self.now) c.guarded-computed.result _ c.or_error-got.result _ c.filled.ensures.next c.or_error-got.ensures e

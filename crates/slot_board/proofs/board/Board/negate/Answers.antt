@@ -9,4 +9,4 @@ use Rattle.slot_board.proofs.board.Board.negate.Goals as goal
 pub returns-clause-next : goal.returns-clause-next
 returns-clause-next c =
     let e : c.guarded-computed.result ≡ guarded c.args.model op.Sub c.args.kind (pos 0) (get c.args.self.now.slots.items c.args.site.slot) = search rules in
-    answered c.args.site.place c.args.self.now.slots.items c.args.site.slot c.args.site.at (state_of c.args.self.now) c.guarded-computed.result _ c.or_error-got.result _ c.filled.ensures.next c.or_error-got.ensures e
+    answered c.args.site.place c.args.self.now.slots.items c.args.site.slot c.args.at (state_of c.args.self.now) c.guarded-computed.result _ c.or_error-got.result _ c.filled.ensures.next c.or_error-got.ensures e

@@ -7,5 +7,5 @@ use Rattle.slot_board.proofs.board.Board.read_element.Goals as goal
 
 pub returns-clause-next : goal.returns-clause-next
 returns-clause-next c =
-    let e : reply c.element-got.result (state_of c.args.self.now) ≡ seen (element_at c.args.site.at c.args.object c.args.count (get c.args.self.now.slots.items c.args.site.slot) (state_of c.args.self.now)) = search rules in
+    let e : reply c.element-got.result (state_of c.args.self.now) ≡ seen (element_at c.args.at c.args.object c.args.count (get c.args.self.now.slots.items c.args.site.slot) (state_of c.args.self.now)) = search rules in
     fills_reply _ c.args.site.place c.args.self.now.slots.items c.args.site.slot _ _ c.filled.ensures.next e
