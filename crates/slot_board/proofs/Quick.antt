@@ -1,7 +1,7 @@
 -- What an operation gives where the value is one of the kind's own.
-use Rattle.std.proofs.Common.{◌≡◌, ◌∙◌, ap, sym, subst, refl, ℕ, zero, suc, ◌%◌, ◌<◌, ◌≤◌, ◌^◌, ◌-◌, ◌+◌, if◌then◌else◌, ℤ, pos, negsuc, ◌*ℤ◌, ◌≤ℤ◌, ◌<ℤ◌, FitsSigned, Bool, true, false, Result, Ok, Err, arith, lit<, to_z, of_z}
+use Rattle.std.proofs.Common.{◌≡◌, ◌∙◌, ap, sym, subst, refl, ℕ, zero, suc, ◌%◌, ◌<◌, ◌^◌, ◌-◌, ◌+◌, if◌then◌else◌, ℤ, pos, negsuc, ◌*ℤ◌, ◌≤ℤ◌, ◌<ℤ◌, FitsSigned, Bool, true, false, Result, Ok, Err, arith, lit<, to_z, of_z}
 use Rattle.std.specs.Int.{w128}
-use Rattle.std.specs.Prelude.{nat_lt, MatchBool, Option, IfSome, int_div, int_rem}
+use Rattle.std.specs.Prelude.{MatchBool, Option, IfSome, int_div, int_rem}
 use Rattle.std.proofs.lemmas.Int.{ints}
 use Rattle.std.proofs.lemmas.Bool.{lt-ltb, le-ltb}
 use Rattle.std.proofs.Math.Nat.{mod-eq_of_lt}

@@ -376,13 +376,7 @@ impl Board {
     }
 
     #[inline(always)]
-    fn draw_value(
-        &mut self,
-        site: Site,
-        kind: Kind,
-        inputs: &[i128],
-        model: Model,
-    ) -> Step
+    fn draw_value(&mut self, site: Site, kind: Kind, inputs: &[i128], model: Model) -> Step
         requires { site.slot < length self.old.slots.items }
         ensures next { next_of site.place result self.new ≡ act_of model inputs.now (Instruction.Draw site.slot kind) site.place self.old }
         ensures kept { shape_of self.new ≡ shape_of self.old }
