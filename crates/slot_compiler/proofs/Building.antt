@@ -16,8 +16,6 @@ use Rattle.slot_code.specs.Programs as p
 use Rattle.slot_values.specs.declared.scene.Scene.{Scene}
 use Rattle.slot_values.specs.Seen.{objects_of, functions_of}
 use Rattle.slot_statements.specs.declared.frames.Frame.{Frame}
-use Rattle.slot_statements.specs.declared.frames.Exits.{Exits}
-use Rattle.slot_statements.specs.declared.frames.Aims.{Aims}
 use Rattle.slot_statements.specs.Measures as me
 use Rattle.slot_statements.specs.Seen as seen
 use Rattle.slot_compiler.specs.Bodies.{label_place, code_of, body_steps}
@@ -50,22 +48,18 @@ framed scene model kind slot = record { scene = scene; model = model; result = k
 abbrev laid : Frame → (end place : ℕ) → (List ℕ → ℕ) → t.Steps → List Instruction
 laid f end place labels ss = s.steps_code f.model (objects_of f.scene) (functions_of f.scene) f.scene.links.now f.result f.slot end labels end end place ss
 
-pub body_is : (scene : Scene) (model : Model) (kind : Option Kind) (slot next place end : ℕ) (ss : t.Steps) (exits : Exits) (m : me.Measure) (code : List Instruction) → next ≡ suc slot → m ≡ seen.measured_all (framed scene model kind next) ss → end ≡ place + m.size →
-    exits.start ≡ place → exits.end ≡ end → seen.marks_of exits.marks.now ≡ m.marks → code ≡ seen.steps_code (framed scene model kind next) exits (let a : Aims = record { broke = end; continued = end; place = place } in a) ss →
-    code ≡ body_steps scene model kind slot place ss
-body_is scene model kind slot next place end ss exits m code x g e a b k n =
-    n ∙ ap (λ z. s.steps_code model (objects_of scene) (functions_of scene) scene.links.now kind next exits.end (label_place exits.end exits.start z) end end place ss) k
-    ∙ ap (λ z. s.steps_code model (objects_of scene) (functions_of scene) scene.links.now kind next exits.end (label_place exits.end z m.marks) end end place ss) a
-    ∙ ap (λ z. s.steps_code model (objects_of scene) (functions_of scene) scene.links.now kind next z (label_place z place m.marks) end end place ss) b
+pub body_is : (scene : Scene) (model : Model) (kind : Option Kind) (slot next place end : ℕ) (ss : t.Steps) (labels : List s.Mark) (m : me.Measure) (code : List Instruction) → next ≡ suc slot → m ≡ seen.measured_all (framed scene model kind next) ss → end ≡ place + m.size →
+    labels ≡ m.marks → code ≡ laid (framed scene model kind next) end place (label_place end place labels) ss → code ≡ body_steps scene model kind slot place ss
+body_is scene model kind slot next place end ss labels m code x g e k n =
+    n ∙ ap (λ z. laid (framed scene model kind next) end place (label_place end place z) ss) k
     ∙ ap (λ z. laid (framed scene model kind next) z place (label_place z place m.marks) ss) e
     ∙ ap (λ (z : me.Measure). laid (framed scene model kind next) (place + z.size) place (label_place (place + z.size) place z.marks) ss) g
     ∙ ap (λ z. laid (framed scene model kind z) (place + (seen.measured_all (framed scene model kind z) ss).size) place (label_place (place + (seen.measured_all (framed scene model kind z) ss).size) place (seen.measured_all (framed scene model kind z) ss).marks) ss) x
 
-pub body_gives : {B : Type 0} (scene : Scene) (model : Model) (kind : Option Kind) (slot next place end : ℕ) (ss : t.Steps) (exits : Exits) (m : me.Measure) (o : Result (Vec Instruction Global) B) → next ≡ suc slot → m ≡ seen.measured_all (framed scene model kind next) ss → end ≡ place + m.size →
-    exits.start ≡ place → exits.end ≡ end → seen.marks_of exits.marks.now ≡ m.marks → IfOk o (λ r. r.items ≡ seen.steps_code (framed scene model kind next) exits (let a : Aims = record { broke = end; continued = end; place = place } in a) ss) →
-    IfOk o (λ r. r.items ≡ body_steps scene model kind slot place ss)
-body_gives scene model kind slot next place end ss exits m (Ok r) x g e a b k n = body_is scene model kind slot next place end ss exits m r.items x g e a b k n
-body_gives scene model kind slot next place end ss exits m (Err r) x g e a b k n = n
+pub body_gives : {B : Type 0} (scene : Scene) (model : Model) (kind : Option Kind) (slot next place end : ℕ) (ss : t.Steps) (labels : List s.Mark) (m : me.Measure) (o : Result (Vec Instruction Global) B) → next ≡ suc slot → m ≡ seen.measured_all (framed scene model kind next) ss → end ≡ place + m.size →
+    labels ≡ m.marks → IfOk o (λ r. r.items ≡ laid (framed scene model kind next) end place (label_place end place labels) ss) → IfOk o (λ r. r.items ≡ body_steps scene model kind slot place ss)
+body_gives scene model kind slot next place end ss labels m (Ok r) x g e k n = body_is scene model kind slot next place end ss labels m r.items x g e k n
+body_gives scene model kind slot next place end ss labels m (Err r) x g e k n = n
 
 -- ---- Programs
 

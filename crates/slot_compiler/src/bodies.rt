@@ -5,7 +5,7 @@ ghost use Rattle.slot_compiler.specs.Bodies as bodies;
 use c_typed::Step;
 use lv_base::{Kind, Memory, Model};
 use slot_code::Instruction;
-use slot_statements::{Aims, Exits, Frame, measured_all, steps_code};
+use slot_statements::{Aims, Exits, Frame, Labels, measured_all, steps_code};
 use slot_values::{Scene, add, after, next};
 use std::alloc::Global;
 
@@ -29,10 +29,11 @@ fn body_steps(
     };
     let measure = measured_all(alloc, &frame, body)?;
     let end = after(place, measure.size)?;
+    let labels = Labels::new(alloc, &measure.marks)?;
     let exits = Exits {
         start: place,
         end,
-        marks: &measure.marks,
+        labels: &labels,
     };
     let aims = Aims {
         broke: end,

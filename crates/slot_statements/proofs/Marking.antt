@@ -1,7 +1,10 @@
 -- Places that are jumped to, one more at a time.
 use Rattle.std.proofs.Common.{◌≡◌, ℕ, suc, ◌<◌, ◌+◌, ◌-◌, Bool, true, false, List, [], ◌∷◌, ◌++◌, length, take, drop, get_or, append_assoc, Option, Some, None, refl, ap, ◌∙◌, sym, arith}
-use Rattle.std.specs.Prelude.{if◌then◌else◌, bytes_eq}
+use Rattle.std.specs.Prelude.{if◌then◌else◌, cond, bytes_eq}
+use Rattle.std.specs.Borrow.{Bor}
+use Rattle.std.specs.HashMap.{HashMap, get_by}
 use Rattle.std.proofs.lemmas.List.{drop_more}
+use Rattle.std.proofs.lemmas.Slice.Eq.{bytes_eq-Decides}
 use Rattle.step_values.proofs.Rows.{take_more}
 use Rattle.lv_base.specs.declared.kind.Kind.{Kind}
 use Rattle.lv_base.specs.declared.kind.Model.{Model}
@@ -11,7 +14,8 @@ use Rattle.slot_code.specs.declared.flat.Instruction.TheVariants as ins
 use Rattle.slot_code.specs.Statements as c
 use Rattle.slot_code.specs.Statements.{aLabel, aCase, aDefault}
 use Rattle.slot_statements.specs.declared.marks.Mark.{Mark}
-use Rattle.slot_statements.specs.Seen.{mark_of, marks_of}
+use Rattle.slot_statements.specs.declared.marks.Name.TheVariants as nm
+use Rattle.slot_statements.specs.Marked.{name_of, mark_of, marks_of, IsFound}
 use Rattle.slot_statements.specs.Casing.{case_count, cases_count, case_code}
 use Rattle.slot_statements.specs.Finding.{or_else}
 
@@ -83,13 +87,45 @@ default_first (aLabel l) place o = refl
 default_first (aCase v) place o = refl
 default_first aDefault place o = refl
 
-pub label_step : (name : List ℕ) (xs : List Mark) (i : ℕ) (d : Mark) (old own new : Option ℕ) → i < length xs → old ≡ c.label_in name (marks_of (take i xs)) → own ≡ c.label_in name (mark_of (get_or xs i d) ∷ []) →
-    new ≡ or_else old own → new ≡ c.label_in name (marks_of (take (i + 1) xs))
-label_step name = found_step (c.label_in name) refl (λ m ms. name_first name m.name m.place (c.label_in name ms))
-
 pub default_step : (xs : List Mark) (i : ℕ) (d : Mark) (old own new : Option ℕ) → i < length xs → old ≡ c.default_in (marks_of (take i xs)) → own ≡ c.default_in (mark_of (get_or xs i d) ∷ []) →
     new ≡ or_else old own → new ≡ c.default_in (marks_of (take (i + 1) xs))
 default_step = found_step c.default_in refl (λ m ms. default_first m.name m.place (c.default_in ms))
+
+-- ---- Labels by their names
+
+flip : (a b : List ℕ) → bytes_eq a b ≡ bytes_eq b a
+flip a b = by (bytes_eq a b) (bytes_eq b a) refl refl
+  where
+    by : (x y : Bool) → x ≡ bytes_eq a b → y ≡ bytes_eq b a → bytes_eq a b ≡ bytes_eq b a
+    by true y p q = sym p ∙ sym ((bytes_eq-Decides b a).1 (sym ((bytes_eq-Decides a b).0 (sym p))))
+    by false true p q = (bytes_eq-Decides a b).1 (sym ((bytes_eq-Decides b a).0 (sym q))) ∙ q
+    by false false p q = sym p ∙ q
+
+taken : (b : Bool) (place : ℕ) (o : Option ℕ) → cond b (Some place) o ≡ or_else (if b then Some place else None) o
+taken true place o = refl
+taken false place o = refl
+
+-- a label is found before those that were there
+label_taken : (name label : List ℕ) (place : ℕ) (o : Option ℕ) → cond (bytes_eq label name) (Some place) o ≡ or_else (if bytes_eq name label then Some place else None) o
+label_taken name label place o = ap (λ z. cond z (Some place) o) (flip label name) ∙ taken (bytes_eq name label) place o
+
+pub label_more : {S : Type 0} (m : Mark) (l : Bor (List ℕ)) (bytes : List ℕ) (old new : HashMap (Bor (List ℕ)) ℕ S) → m.name ≡ nm.Label l → bytes ≡ l.now →
+    ((name : List ℕ) → get_by (λ k. bytes_eq name k.now) new ≡ cond (bytes_eq bytes name) (Some m.place) (get_by (λ k. bytes_eq name k.now) old)) →
+    (name : List ℕ) → get_by (λ k. bytes_eq name k.now) new ≡ or_else (c.label_in name (mark_of m ∷ [])) (get_by (λ k. bytes_eq name k.now) old)
+label_more m l bytes old new e b u name =
+    u name ∙ label_taken name bytes m.place (get_by (λ k. bytes_eq name k.now) old)
+    ∙ ap (λ z. or_else (if bytes_eq name z then Some m.place else None) (get_by (λ k. bytes_eq name k.now) old)) b
+    ∙ sym (ap (λ n. or_else (c.label_in name ((let a : c.Mark = record { name = name_of n; place = m.place } in a) ∷ [])) (get_by (λ k. bytes_eq name k.now) old)) e)
+
+-- one place more, before the others
+pub found_more : {S : Type 0} (xs : List Mark) (i j : ℕ) (d x : Mark) (old new : HashMap (Bor (List ℕ)) ℕ S) → i < length xs → j ≡ i + 1 → x ≡ get_or xs i d → IsFound (marks_of (drop j xs)) old →
+    ((name : List ℕ) → get_by (λ k. bytes_eq name k.now) new ≡ or_else (c.label_in name (mark_of x ∷ [])) (get_by (λ k. bytes_eq name k.now) old)) → IsFound (marks_of (drop i xs)) new
+found_more xs i j d x old new h e is f u name =
+    u name ∙ ap (or_else (c.label_in name (mark_of x ∷ []))) (f name)
+    ∙ sym (name_first name (mark_of x).name (mark_of x).place (c.label_in name (marks_of (drop j xs))))
+    ∙ ap (λ z. c.label_in name (mark_of z ∷ marks_of (drop j xs))) is
+    ∙ ap (λ z. c.label_in name (mark_of (get_or xs i d) ∷ marks_of (drop z xs))) e
+    ∙ ap (λ z. c.label_in name (marks_of z)) (sym (drop_more xs i d h))
 
 -- ---- Cases
 

@@ -1,5 +1,6 @@
 pub mod Measures
 pub mod Casing
+pub mod Marked
 pub mod Seen
 pub mod Aiming
 pub mod Joints

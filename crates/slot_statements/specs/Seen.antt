@@ -1,5 +1,5 @@
 -- Statements' code over a function's frame, and places that are jumped to, without where they lie in memory.
-use Rattle.std.specs.Prelude.{ℕ, ◌+◌, List, map, Option, None, Some, length}
+use Rattle.std.specs.Prelude.{ℕ, ◌+◌, List, Option, None, Some, length}
 use Rattle.lv_base.specs.declared.kind.Kind.{Kind}
 use Rattle.c_run.specs.Operators as o
 use Rattle.c_typed.specs.Tree as t
@@ -10,21 +10,8 @@ use Rattle.slot_statements.specs.Measures as me
 use Rattle.slot_statements.specs.declared.frames.Frame.{Frame}
 use Rattle.slot_statements.specs.declared.frames.Exits.{Exits}
 use Rattle.slot_statements.specs.declared.frames.Aims.{Aims}
-use Rattle.slot_statements.specs.declared.marks.Name.{Name}
-use Rattle.slot_statements.specs.declared.marks.Name.TheVariants as nm
-use Rattle.slot_statements.specs.declared.marks.Mark.{Mark}
 use Rattle.slot_statements.specs.declared.measures.Measure.{Measure}
-
-abbrev pub name_of : Name → c.Name
-name_of (nm.Label l) = c.aLabel l.now
-name_of (nm.Case v) = c.aCase v
-name_of nm.Default = c.aDefault
-
-abbrev pub mark_of : Mark → c.Mark
-mark_of m = record { name = name_of m.name; place = m.place }
-
-abbrev pub marks_of : List Mark → List c.Mark
-marks_of ms = map mark_of ms
+pub use Rattle.slot_statements.specs.Marked.{name_of, mark_of, marks_of}
 
 abbrev pub measure_of : Measure → me.Measure
 measure_of m = record { size = m.size; marks = marks_of m.marks.items }
@@ -63,7 +50,7 @@ measured_all f ss = record {
 
 -- a label that isn't there leaves the body
 abbrev pub label_place : Exits → List ℕ → ℕ
-label_place e name = c.or_place e.end (elim (c.label_in name (marks_of e.marks.now)) [ None ↦ None | Some n ↦ Some (e.start + n) ])
+label_place e name = c.or_place e.end (elim (c.label_in name e.labels.now) [ None ↦ None | Some n ↦ Some (e.start + n) ])
 
 abbrev pub step_code : Frame → Exits → Aims → t.Step → List Instruction
 step_code f e a s = c.step_code f.model (objects_of f.scene) (functions_of f.scene) f.scene.links.now f.result f.slot e.end (label_place e) a.broke a.continued a.place s

@@ -4,7 +4,7 @@ ghost use Rattle.c_typed.specs.View as v;
 ghost use Rattle.slot_code.specs.Statements as c;
 ghost use Rattle.slot_statements.specs.Aiming as aiming;
 
-use crate::marks::Mark;
+use crate::labels::Labels;
 use c_typed::Object;
 use lv_base::{Kind, Memory, Model};
 use slot_values::{Scene, after};
@@ -19,12 +19,12 @@ pub struct Frame<'a> {
     pub slot: usize,
 }
 
-/// The places of a function's body: its start, the place behind it, and those that are jumped to.
+/// The places of a function's body: its start, the place behind it, and its labels.
 #[derive(Clone, Copy)]
-pub struct Exits<'a> {
+pub struct Exits<'a, 'm> {
     pub start: usize,
     pub end: usize,
-    pub marks: &'a [Mark<'a>],
+    pub labels: &'a Labels<'m>,
 }
 
 /// Where a `break` goes, where a `continue` goes, and where the code of a statement begins.

@@ -6,7 +6,6 @@ ghost use Rattle.slot_statements.specs.Joints as joints;
 ghost use Rattle.slot_statements.specs.Seen as seen;
 
 use crate::frames::{Exits, Frame, kind_of};
-use crate::marks::label_in;
 use crate::sizes::count_in;
 use c_typed::Value;
 use lv_base::{Memory, Text};
@@ -251,10 +250,10 @@ pub(crate) fn or_place(place: usize, other: Option<usize>) -> usize
     }
 }
 
-fn label_place(exits: &Exits<'_>, name: &Text) -> Result<usize, Memory>
+fn label_place(exits: &Exits<'_, '_>, name: &Text) -> Result<usize, Memory>
     ensures { IfOk result (λ n. n ≡ seen.label_place exits.now name.now) }
 {
-    match label_in(name, exits.marks) {
+    match exits.labels.find(name) {
         None => Ok(exits.end),
         Some(place) => after(exits.start, place),
     }
@@ -263,7 +262,7 @@ fn label_place(exits: &Exits<'_>, name: &Text) -> Result<usize, Memory>
 /// A jump to a label, which takes a turn.
 pub(crate) fn goto_code(
     alloc: Global,
-    exits: &Exits<'_>,
+    exits: &Exits<'_, '_>,
     at: u32,
     name: &Text,
 ) -> Result<Vec<Instruction>, Memory>

@@ -6,12 +6,16 @@ mod branches;
 mod cases;
 mod frames;
 mod joints;
+mod labels;
 mod marks;
 mod measures;
 mod sizes;
 mod steps;
+#[cfg(test)]
+mod tests;
 
 pub use frames::{Aims, Exits, Frame};
+pub use labels::Labels;
 pub use marks::{Mark, Name};
 pub use measures::Measure;
 pub use sizes::measured_all;

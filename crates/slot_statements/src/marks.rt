@@ -1,4 +1,4 @@
-ghost use Rattle.std.specs.Prelude.{◌≡◌, ◌++◌, [], ◌∷◌, bytes_eq, IfOk};
+ghost use Rattle.std.specs.Prelude.{◌≡◌, ◌++◌, [], ◌∷◌, IfOk};
 ghost use Rattle.slot_code.specs.Statements as c;
 ghost use Rattle.slot_statements.specs.Finding as finding;
 ghost use Rattle.slot_statements.specs.Seen as seen;
@@ -73,29 +73,6 @@ pub(crate) fn labels_alone<'a>(alloc: Global, marks: &[Mark<'a>]) -> Result<Vec<
     Ok(all)
 }
 
-fn same_name(name: &Text, other: &Text) -> bool
-    ensures { result ≡ bytes_eq name.now other.now }
-{
-    name.as_bytes() == other.as_bytes()
-}
-
-// The place of a label of this name, if the mark is one.
-fn labelled(name: &Text, mark: Mark<'_>) -> Option<usize>
-    ensures { result ≡ c.label_in name.now (seen.mark_of mark.entry ∷ []) }
-{
-    match mark.name {
-        Name::Label(own) => {
-            if same_name(name, own) {
-                Some(mark.place)
-            } else {
-                None
-            }
-        }
-        Name::Case(_) => None,
-        Name::Default => None,
-    }
-}
-
 // The first of two places, where there is one.
 fn first(place: Option<usize>, other: Option<usize>) -> Option<usize>
     ensures { result ≡ finding.or_else place other }
@@ -104,17 +81,6 @@ fn first(place: Option<usize>, other: Option<usize>) -> Option<usize>
         None => other,
         Some(place) => Some(place),
     }
-}
-
-/// The place of the first label of this name.
-pub(crate) fn label_in(name: &Text, marks: &[Mark<'_>]) -> Option<usize>
-    ensures { result ≡ c.label_in name.now (seen.marks_of marks.now) }
-{
-    let mut found = None;
-    for mark in marks {
-        found = first(found, labelled(name, *mark));
-    }
-    found
 }
 
 // The place of a `default`, if the mark is one.

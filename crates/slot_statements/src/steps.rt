@@ -22,7 +22,7 @@ use std::alloc::Global;
 pub fn step_code(
     alloc: Global,
     frame: &Frame<'_>,
-    exits: &Exits<'_>,
+    exits: &Exits<'_, '_>,
     aims: Aims,
     step: &Step,
 ) -> Result<Vec<Instruction>, Memory>
@@ -87,7 +87,7 @@ pub fn step_code(
 pub fn steps_code(
     alloc: Global,
     frame: &Frame<'_>,
-    exits: &Exits<'_>,
+    exits: &Exits<'_, '_>,
     aims: Aims,
     steps: &[Step],
 ) -> Result<Vec<Instruction>, Memory>
