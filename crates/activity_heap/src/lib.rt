@@ -8,7 +8,5 @@
 
 mod order;
 mod sifting;
-#[cfg(test)]
-mod tests;
 
 pub use order::Order;

@@ -11,8 +11,6 @@ mod done;
 mod emit;
 mod gates;
 mod store;
-#[cfg(test)]
-mod tests;
 
 pub use bits::{Bits, blast, blast_all};
 pub use cone::Uses;

@@ -13,8 +13,6 @@ mod netlist;
 mod products;
 mod shifters;
 mod singles;
-#[cfg(test)]
-mod tests;
 
 pub use adders::{adder, put_half, put_ripple};
 pub use comparisons::{

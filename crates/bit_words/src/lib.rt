@@ -9,8 +9,6 @@ mod elements;
 mod folding;
 mod folds;
 pub mod laws;
-#[cfg(test)]
-mod tests;
 mod words;
 
 pub use elements::{put_decoded, put_picked, put_stored};

@@ -33,6 +33,3 @@ pub fn programs_typed()
     tokens_rise();
     sources_typed();
 }
-
-#[cfg(test)]
-mod tests;

@@ -12,6 +12,3 @@ mod well_formed;
 pub use table::Terms;
 pub use term::{Term, TermId};
 pub use well_formed::are_widths;
-
-#[cfg(test)]
-mod tests;

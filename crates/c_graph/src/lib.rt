@@ -18,6 +18,3 @@ pub use store::{Named, Store};
 
 /// The number of the layout of nodes, edges and cells. A change of the layout raises it.
 pub const LAYOUT: u32 = 1;
-
-#[cfg(test)]
-mod tests;

@@ -11,6 +11,3 @@ mod token;
 
 pub use lexer::lex;
 pub use token::{Mark, NumberForm, Token, TokenKind};
-
-#[cfg(test)]
-mod tests;

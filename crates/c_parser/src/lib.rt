@@ -7,7 +7,5 @@ mod parser;
 mod settling;
 mod statements;
 mod steps;
-#[cfg(test)]
-mod tests;
 
 pub use parser::parse;

@@ -6,6 +6,3 @@ mod reader;
 
 pub use laws::{has_no_other, has_one, has_spans, is_lexed};
 pub use reader::tokens_of;
-
-#[cfg(test)]
-mod tests;

@@ -4,8 +4,6 @@
 mod known;
 mod nodes;
 mod symbol;
-#[cfg(test)]
-mod tests;
 mod tree;
 mod words;
 

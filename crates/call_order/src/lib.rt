@@ -9,8 +9,6 @@ mod laws;
 mod marks;
 mod order;
 mod search;
-#[cfg(test)]
-mod tests;
 mod walk;
 
 pub use calls::{CallAt, calls_of};

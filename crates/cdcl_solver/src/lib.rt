@@ -12,8 +12,6 @@ mod joining;
 mod learning;
 mod opening;
 mod pacing;
-#[cfg(test)]
-mod tests;
 
 pub use board::{Board, Settled, Stop, go_back, settle};
 pub use clause_learning::{Answer, MOST_PAIRS, QueryFail, SolveFail};
@@ -21,4 +19,4 @@ pub use engine::{Ending, Solver, Turn, solve, solve_within};
 pub use joining::join_learned;
 pub use learning::{Highest, add_watch, what_to_watch};
 pub use opening::{Watches, set_units, watch_all};
-pub use pacing::Pace;
+pub use pacing::{Pace, paced};

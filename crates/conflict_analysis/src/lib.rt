@@ -9,8 +9,6 @@
 mod analysis;
 mod minimizing;
 mod noting;
-#[cfg(test)]
-mod tests;
 mod walk;
 
 pub use analysis::analyze;

@@ -11,6 +11,3 @@ mod unwinding;
 
 pub use unit::{Apart, FormulaList, UnitDone};
 pub use unwinding::Unwinding;
-
-#[cfg(test)]
-mod tests;

@@ -8,9 +8,6 @@
 ghost use Rattle.std.specs.Prelude.{◌≡◌, ℕ, ◌+◌, ◌*◌, ◌/◌, ◌++◌, ◌∷◌, [], ◌<◌, ◌≤◌, length, IfOk, MatchOption, List, option_to_list, false, true, slice_set};
 ghost use Rattle.dense_trail.specs.Dense.{negation, is_true, Valued, Quiet, distinct, falses};
 
-#[cfg(test)]
-mod tests;
-
 use std::alloc::{AllocError, Global};
 
 /// The code of the same variable with the other sign.

@@ -4,8 +4,6 @@
 mod expressions;
 mod finishing;
 mod program;
-#[cfg(test)]
-mod tests;
 
 pub use expressions::{
     Called, Usage, Wanted, called_in, first_in, index_option, list_in, list_use, second_in,

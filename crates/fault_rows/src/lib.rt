@@ -4,9 +4,6 @@
 
 ghost use Rattle.fault_rows.specs.Rows.{BrokenLines};
 
-#[cfg(test)]
-mod tests;
-
 /// The rule that each source breaks first, with its offset: no `main`, an unknown name, a name declared twice, a call without a body,
 /// a length of 0, an unknown label, a jump into a scope, a `const` that is written, a `break` outside, an unsequenced change, recursion.
 pub fn broken_lines()

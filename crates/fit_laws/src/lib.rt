@@ -23,6 +23,3 @@ pub fn sources_fit()
 pub fn known_hold()
     ensures { KnownHold }
 {}
-
-#[cfg(test)]
-mod tests;

@@ -16,6 +16,3 @@ pub fn labels_found()
 {
     bodies_left();
 }
-
-#[cfg(test)]
-mod tests;

@@ -8,6 +8,3 @@ ghost use Rattle.main_laws.specs.Laws.{MainFound};
 pub fn main_found()
     ensures { MainFound }
 {}
-
-#[cfg(test)]
-mod tests;

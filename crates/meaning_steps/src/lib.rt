@@ -4,9 +4,6 @@
 
 ghost use Rattle.meaning_steps.specs.Laws.{ValuesInSteps, StatementsInSteps};
 
-#[cfg(test)]
-mod tests;
-
 /// The value of each expression is that of its steps.
 pub fn values_in_steps()
     ensures { ValuesInSteps }

@@ -4,9 +4,6 @@
 
 ghost use Rattle.name_bindings.specs.Laws.{PartByPart};
 
-#[cfg(test)]
-mod tests;
-
 /// Adding the declarations of each part of a source to those before it binds what the list of all declarations does.
 pub fn part_by_part()
     ensures { PartByPart }

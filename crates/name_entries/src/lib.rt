@@ -5,8 +5,6 @@ mod declaring;
 mod lengths;
 mod objects;
 mod places;
-#[cfg(test)]
-mod tests;
 
 pub use declaring::{
     declare_constant, declare_function, declare_name, declare_tag, declare_typedef,

@@ -56,6 +56,3 @@ pub fn objects_typed()
 pub fn parameters_typed()
     ensures { ParametersTyped }
 {}
-
-#[cfg(test)]
-mod tests;

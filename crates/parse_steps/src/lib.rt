@@ -4,8 +4,6 @@
 mod declarations;
 mod enumerations;
 mod specifiers;
-#[cfg(test)]
-mod tests;
 
 pub use declarations::{step_behind, step_listed, step_next, step_parameter, step_parameters};
 pub use enumerations::{step_constant, step_enumeration, step_named, step_tagged};

@@ -9,8 +9,6 @@ mod analysis;
 mod engine;
 mod known;
 mod scan;
-#[cfg(test)]
-mod tests;
 mod trail;
 
 pub use analysis::{Analysis, analyze};

@@ -10,8 +10,6 @@ ghost use Rattle.prop.specs.Pieces.{pieces, Rising, start_of};
 
 mod assignment;
 mod step;
-#[cfg(test)]
-mod tests;
 
 pub use assignment::Assignment;
 use std::alloc::Global;

@@ -16,6 +16,3 @@ pub fn reaches_kept()
     sources_hold();
     sources_fit();
 }
-
-#[cfg(test)]
-mod tests;

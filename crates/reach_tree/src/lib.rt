@@ -6,6 +6,3 @@ mod vertex;
 
 pub use tree::Tree;
 pub use vertex::{Children, Label, NewLabel, Vertex, VertexId};
-
-#[cfg(test)]
-mod tests;

@@ -30,6 +30,3 @@ pub fn runs_kept()
     sources_run();
     sources_break();
 }
-
-#[cfg(test)]
-mod tests;

@@ -11,8 +11,6 @@ pub mod laws;
 mod marks;
 mod numbering;
 mod rows;
-#[cfg(test)]
-mod tests;
 
 pub use check::check_log;
 pub use numbering::{code, coded, number_of, variables};

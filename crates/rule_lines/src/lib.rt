@@ -3,8 +3,6 @@
 
 mod laws;
 mod lines;
-#[cfg(test)]
-mod tests;
 
 pub use laws::{joined, tried};
 pub use lines::{Broken, Found, both, line, none, unless};

@@ -31,6 +31,3 @@ pub fn sources_walked()
     joined();
     tried();
 }
-
-#[cfg(test)]
-mod tests;

@@ -4,8 +4,6 @@
 mod cells;
 mod halt;
 mod machine;
-#[cfg(test)]
-mod tests;
 mod values;
 
 pub use cells::Cells;

@@ -3,9 +3,6 @@
 
 ghost use Rattle.slot_laws.specs.Laws.{CodeGoesOn, CodeRunsAsTree, CodeShaped, RanksFall};
 
-#[cfg(test)]
-mod tests;
-
 /// A run from a place is the run from where the instruction there leads: each instruction takes a turn or goes forward.
 pub fn code_goes_on()
     ensures { CodeGoesOn }

@@ -9,7 +9,5 @@ mod expressions;
 mod functions;
 mod items;
 mod statements;
-#[cfg(test)]
-mod tests;
 
 pub use items::bind_all;

@@ -2,7 +2,5 @@
 #![tactic(auto)]
 
 mod checks;
-#[cfg(test)]
-mod tests;
 
 pub use checks::accepted;

@@ -39,6 +39,3 @@ pub fn objects_kept()
     objects_typed();
     parameters_typed();
 }
-
-#[cfg(test)]
-mod tests;

@@ -4,8 +4,6 @@
 
 mod cells;
 mod refusals;
-#[cfg(test)]
-mod tests;
 
 pub use cells::{Passed, limit_passed};
 pub use refusals::{all_found, decide};

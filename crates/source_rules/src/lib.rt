@@ -7,8 +7,6 @@ mod declarations;
 mod items;
 mod laws;
 mod statements;
-#[cfg(test)]
-mod tests;
 
 pub use cases::{Case, cases_of, duplicates};
 pub use items::items_found;

@@ -6,8 +6,6 @@ mod conditions;
 mod leaving;
 mod places;
 mod rounds;
-#[cfg(test)]
-mod tests;
 mod tries;
 
 pub use beginning::{begun, declared_in, declared_object, initial_list, initial_value, padded};

@@ -2,7 +2,5 @@
 #![tactic(auto)]
 
 mod symbols;
-#[cfg(test)]
-mod tests;
 
 pub use symbols::sign_of;

@@ -3,8 +3,6 @@
 
 mod declarations;
 mod expressions;
-#[cfg(test)]
-mod tests;
 
 pub use declarations::{close_of, end_of, end_of_declaration, first_of_words, open_of};
 pub use expressions::{count_parts, first_of, last_of, own_token};

@@ -3,7 +3,5 @@
 
 mod evaluation;
 mod operations;
-#[cfg(test)]
-mod tests;
 
 pub use evaluation::{constant, is_constant, is_object};

@@ -4,8 +4,6 @@
 mod kinds;
 mod numbers;
 mod operations;
-#[cfg(test)]
-mod tests;
 mod types;
 mod words;
 

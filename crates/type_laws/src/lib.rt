@@ -16,6 +16,3 @@ pub fn same_jumps()
 pub fn same_control()
     ensures { SameControl }
 {}
-
-#[cfg(test)]
-mod tests;

@@ -7,8 +7,6 @@ mod expressions;
 mod linked;
 mod links;
 mod look_ups;
-#[cfg(test)]
-mod tests;
 mod words;
 
 pub use collected::Declarations;

@@ -4,9 +4,6 @@
 
 ghost use Rattle.typed_ranges.specs.Laws.{RunsGuarded};
 
-#[cfg(test)]
-mod tests;
-
 /// A typed tree runs the same where each operation tests its operands first.
 pub fn runs_guarded()
     ensures { RunsGuarded }

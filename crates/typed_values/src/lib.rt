@@ -7,8 +7,6 @@ mod names;
 mod nodes;
 mod operators;
 mod parts;
-#[cfg(test)]
-mod tests;
 
 pub use calls::{called_name, parameter_kind, parameters_of};
 pub use known::{Known, known_of};

@@ -3,7 +3,5 @@
 
 mod buckets;
 mod names;
-#[cfg(test)]
-mod tests;
 
 pub use names::Names;

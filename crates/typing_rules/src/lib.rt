@@ -5,8 +5,6 @@ mod entities;
 mod expressions;
 mod laws;
 mod lines;
-#[cfg(test)]
-mod tests;
 
 pub use entities::is_object_name;
 pub use expressions::{expression, parts, words};

@@ -9,8 +9,6 @@
 
 mod lists;
 mod looking;
-#[cfg(test)]
-mod tests;
 mod visiting;
 
 pub use lists::WatchLists;

@@ -1,0 +1,17 @@
+//! The rules that small sources break, and what is examined where none is broken.
+#![tactic(auto)]
+
+#[cfg(test)]
+mod of_c_rules;
+#[cfg(test)]
+mod of_call_order;
+#[cfg(test)]
+mod of_rule_lines;
+#[cfg(test)]
+mod of_source_checks;
+#[cfg(test)]
+mod of_source_refusals;
+#[cfg(test)]
+mod of_source_rules;
+#[cfg(test)]
+mod of_typing_rules;
