@@ -3,6 +3,8 @@
 #![tactic(auto)]
 
 mod laws;
+#[cfg(test)]
+mod tests;
 mod tree;
 mod typed;
 

@@ -2,8 +2,6 @@
 #![tactic(auto)]
 
 #[cfg(test)]
-mod of_c_rules;
-#[cfg(test)]
 mod of_call_order;
 #[cfg(test)]
 mod of_rule_lines;

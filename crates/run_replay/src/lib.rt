@@ -5,6 +5,8 @@
 mod entries;
 mod laws;
 mod runs;
+#[cfg(test)]
+mod tests;
 
 pub use laws::orders_agree;
 pub use runs::Replay;

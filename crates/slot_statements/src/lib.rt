@@ -11,6 +11,8 @@ mod marks;
 mod measures;
 mod sizes;
 mod steps;
+#[cfg(test)]
+mod tests;
 
 pub use frames::{Aims, Exits, Frame};
 pub use labels::Labels;

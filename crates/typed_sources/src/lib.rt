@@ -1,8 +1,6 @@
-//! Tests of typed trees: their facts and runs, nodes of values, and expressions and whole sources from their text.
+//! Tests of typed trees: nodes of values, and expressions and whole sources from their text.
 #![tactic(auto)]
 
-#[cfg(test)]
-mod of_c_typed;
 #[cfg(test)]
 mod of_typed_values;
 #[cfg(test)]

@@ -1,4 +1,4 @@
-use c_typed::{Function, Typed, drawn_inputs, more_turns};
+use crate::{Function, Typed, drawn_inputs, more_turns};
 use lv_base::{Kind, Memory, Model, Text};
 use std::alloc::Global;
 use std::process::Abort;

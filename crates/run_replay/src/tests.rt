@@ -2,10 +2,10 @@ ghost use Rattle.std.specs.Prelude.{◌≡◌, IfOk, None, Some};
 ghost use Rattle.c_typed.specs.Tree as t;
 ghost use Rattle.c_typed.specs.View as v;
 
+use crate::{Ending, Replay, orders_agree};
 use c_rules::{Examined, examine};
 use c_typed::{Function, Object, Owner, Step, Target, Typed, Value};
 use lv_base::{ErrorKind, Kind, Memory, Model, SourceFail, Text};
-use run_replay::{Ending, Replay, orders_agree};
 use std::alloc::Global;
 use std::process::Abort;
 use std::test::Fail;

@@ -1,5 +1,5 @@
+use crate::{Labels, Mark, Name};
 use lv_base::Text;
-use slot_statements::{Labels, Mark, Name};
 use std::test::Fail;
 
 // Names that are looked up, and what is found.

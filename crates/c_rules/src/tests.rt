@@ -1,4 +1,4 @@
-use c_rules::{examine, faults_found};
+use crate::{examine, faults_found};
 use c_typed::{Function, Step, Typed};
 use lv_base::{Kind, Memory, Model, SourceFail, SourceFault, Text};
 use std::alloc::Global;
