@@ -2,6 +2,8 @@
 #![tactic(auto)]
 
 #[cfg(test)]
+mod edges;
+#[cfg(test)]
 mod of_c_graph;
 #[cfg(test)]
 mod of_cover_engine;

@@ -1,7 +1,8 @@
+use crate::edges::edge;
 use bv_term::{Term, TermId, Terms, are_widths};
 use c_graph::{
-    Cell, Edge, EdgeId, Graph, LAYOUT, LoopAt, Map, Named, Node, NodeId, Operation, Operations,
-    Origin, Store, edge_count, is_graph, laws,
+    Cell, Edge, EdgeId, Graph, LAYOUT, LoopAt, Map, Named, Node, NodeId, Operation, Origin, Store,
+    edge_count, is_graph, laws,
 };
 use lv_base::{ErrorKind, Memory};
 use std::alloc::{AllocError, Global};
@@ -36,14 +37,6 @@ fn terms(rt: &impl Abort, alloc: Global) -> Result<Terms, Memory> {
         terms.put(term)?;
     }
     Ok(terms)
-}
-
-fn edge(alloc: Global, from: u32, to: u32, operation: Operation) -> Result<Edge, AllocError> {
-    Ok(Edge {
-        from: NodeId(from),
-        to: NodeId(to),
-        ops: Operations::new([operation].to_vec(alloc)?),
-    })
 }
 
 /// A loop at node 1 that reaches the error at node 2 where the first cell is not 0, and goes round as often as the

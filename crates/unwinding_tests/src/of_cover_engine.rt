@@ -3,22 +3,15 @@ ghost use Rattle.c_graph.specs.declared.graph.Node.TheVariants.{Plain};
 ghost use Rattle.reach_tree.specs.Trees.{vertex_at};
 ghost use Rattle.cover_engine.specs.Units.{Legal};
 
+use crate::edges::edge;
 use bv_term::{Term, TermId, Terms, are_widths};
-use c_graph::{Cell, Edge, Graph, Node, NodeId, Operation, Operations, Origin, Store, is_graph};
+use c_graph::{Cell, Graph, Node, NodeId, Operation, Origin, Store, is_graph};
 use cover_engine::{FormulaList, UnitDone, Unwinding};
 use lv_base::{ErrorKind, Memory};
 use reach_tree::{Vertex, VertexId};
-use std::alloc::{AllocError, Global};
+use std::alloc::Global;
 use std::process::Abort;
 use std::test::Fail;
-
-fn edge(alloc: Global, from: u32, to: u32, operation: Operation) -> Result<Edge, AllocError> {
-    Ok(Edge {
-        from: NodeId(from),
-        to: NodeId(to),
-        ops: Operations::new([operation].to_vec(alloc)?),
-    })
-}
 
 /// A cell x that is set to 0; a loop at node 1 that reaches the error at node 2 where x is not 0, and goes round as often
 /// as the second cell draws a value other than 0.

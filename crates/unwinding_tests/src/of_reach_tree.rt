@@ -1,20 +1,13 @@
 ghost use Rattle.std.specs.Prelude.{◌<◌, All, IsTrue, length};
 
+use crate::edges::edge;
 use bv_term::{Term, TermId, Terms, are_widths};
-use c_graph::{Cell, Edge, EdgeId, Graph, Node, NodeId, Operation, Operations, Origin, is_graph};
+use c_graph::{Cell, EdgeId, Graph, Node, NodeId, Operation, Origin, is_graph};
 use lv_base::{ErrorKind, Memory};
 use reach_tree::{Label, NewLabel, Tree, VertexId};
 use std::alloc::{AllocError, Global};
 use std::process::Abort;
 use std::test::Fail;
-
-fn edge(alloc: Global, from: u32, to: u32, operation: Operation) -> Result<Edge, AllocError> {
-    Ok(Edge {
-        from: NodeId(from),
-        to: NodeId(to),
-        ops: Operations::new([operation].to_vec(alloc)?),
-    })
-}
 
 /// One cell of 32 bits, which is set to 0; an error where it is not 0, else the end.
 fn graph(rt: &impl Abort, alloc: Global) -> Result<Graph, Memory> {
@@ -101,12 +94,31 @@ fn labels_that_grow(rt: HostRuntime) -> Result<(), Fail> {
     assert!(rt; !tree.may_strengthen(root, cell));
     assert!(rt; !tree.may_strengthen(root, TermId(2)));
     assert!(rt; !tree.may_strengthen(VertexId(1), falsehood));
+    Ok(())
+}
+
+/// A label of two conjuncts for the root, and the number that it gets.
+fn label_of_the_root(alloc: Global, conjunct: TermId) -> Result<Vec<NewLabel>, AllocError> {
+    let mut twice = Vec::new(alloc);
+    twice.push(conjunct)?;
+    twice.push(conjunct)?;
     let mut labels = Vec::new(alloc);
     labels.push(NewLabel {
-        vertex: root,
-        label: Label::new([falsehood, falsehood].to_vec(alloc)?),
+        vertex: VertexId(0),
+        label: Label::new(twice),
         version: 7,
     })?;
+    Ok(labels)
+}
+
+#[test]
+fn labels_are_replaced(rt: HostRuntime) -> Result<(), Fail> {
+    let alloc = rt.alloc();
+    let graph = graph(&rt, alloc)?;
+    let mut tree = Tree::new(alloc, &graph)?;
+    assert!(rt; tree.terms().fits(Term::Constant(1, 0)));
+    let falsehood = tree.put(Term::Constant(1, 0))?;
+    let labels = label_of_the_root(alloc, falsehood)?;
     assert!(rt; are_there(&tree, &labels));
     tree.relabel(labels);
     assert_eq!(rt; tree.vertices().len(), 1);
