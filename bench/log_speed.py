@@ -1,14 +1,14 @@
 #!/usr/bin/env python3
-"""Times the checker of logs: both modes of log_speed, interleaved, and the difference as pairs a second.
+"""Times the checker of logs: both modes of log_bench, interleaved, and the difference as pairs a second.
 
-Run `rt run` in crates/log_speed first; this script runs out/log_speed.
+Run `rt run` in crates/log_bench first; this script runs out/log_bench.
 """
 import pathlib
 import resource
 import subprocess
 import sys
 
-program = pathlib.Path(__file__).resolve().parent.parent / "crates/log_speed/out/log_speed"
+program = pathlib.Path(__file__).resolve().parent.parent / "crates/log_bench/out/log_bench"
 chains = sys.argv[1] if len(sys.argv) > 1 else "100000"
 
 

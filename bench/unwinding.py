@@ -1,15 +1,15 @@
 #!/usr/bin/env python3
-"""Times unwindings: unwinding_speed with rising numbers of units, the user time and the memory of each, and the time of a
+"""Times unwindings: unwinding_bench with rising numbers of units, the user time and the memory of each, and the time of a
 unit as a ratio to that of the first row.
 
-Run `rt run` in crates/unwinding_speed first; this script runs out/unwinding_speed. Words are numbers of units.
+Run `rt run` in crates/unwinding_bench first; this script runs out/unwinding_bench. Words are numbers of units.
 """
 import os
 import pathlib
 import subprocess
 import sys
 
-program = pathlib.Path(__file__).resolve().parent.parent / "crates/unwinding_speed/out/unwinding_speed"
+program = pathlib.Path(__file__).resolve().parent.parent / "crates/unwinding_bench/out/unwinding_bench"
 counts = [int(word) for word in sys.argv[1:]] or [12500, 25000, 50000, 100000]
 
 

@@ -5,7 +5,7 @@ use Rattle.lv_base.specs.declared.fail.SourceFail.{SourceFail}
 use Rattle.lv_base.specs.declared.fail.SourceFail.TheVariants as source
 use Rattle.lv_base.specs.declared.fault.SourceFault.TheVariants as fault
 use Rattle.c_tree.specs.declared.symbol.Symbol.TheVariants as sy
-use Rattle.c_tree.specs.declared.symbol.Sign.{Sign}
+use Rattle.c_tree.specs.declared.symbol.SymbolAt.{SymbolAt}
 use Rattle.c_tree.specs.Tree as tr
 use Rattle.c_tree.specs.Tree.{Items}
 use Rattle.c_tree.specs.Words.{is_typed}
@@ -32,10 +32,10 @@ use Rattle.c_parser.proofs.RunLemmas.{stays}
 
 -- ---- the token at which the machine stops
 
-record Stop (s : ma.State) (tokens : List Sign) (r : ma.Result) : Type 0 where
-  pub before : List Sign
-  pub token : Sign
-  pub behind : List Sign
+record Stop (s : ma.State) (tokens : List SymbolAt) (r : ma.Result) : Type 0 where
+  pub before : List SymbolAt
+  pub token : SymbolAt
+  pub behind : List SymbolAt
   pub are : before ++ token ∷ behind ≡ tokens
   pub state : ma.State
   pub runs : ma.run before (ma.Going s) ≡ ma.Going state
@@ -47,26 +47,26 @@ over_same r q h = cc
 no_halt : (s : ma.State) (r : ma.Result) → ma.Going s ≡ ma.Over r → ⊥
 no_halt s r h = cc
 
-stop_step : (t : Sign) (ts : List Sign) (s : ma.State) (r : ma.Result) → ((s1 : ma.State) → ma.run ts (ma.Going s1) ≡ ma.Over r → Stop s1 ts r) → (c : ma.Course) → ma.advance t (ma.Going s) ≡ c → ma.run ts c ≡ ma.Over r → Stop s (t ∷ ts) r
+stop_step : (t : SymbolAt) (ts : List SymbolAt) (s : ma.State) (r : ma.Result) → ((s1 : ma.State) → ma.run ts (ma.Going s1) ≡ ma.Over r → Stop s1 ts r) → (c : ma.Course) → ma.advance t (ma.Going s) ≡ c → ma.run ts c ≡ ma.Over r → Stop s (t ∷ ts) r
 stop_step t ts s r later (ma.Over q) e h =
     record { before = []; token = t; behind = ts; are = refl; state = s; runs = refl; halts = e ∙ ap ma.Over (over_same q r (sym (stays ts q) ∙ h)) }
 stop_step t ts s r later (ma.Going s1) e h =
     let w = later s1 h in
-    record { before = t ∷ w.before; token = w.token; behind = w.behind; are = ap (λ (x : List Sign). t ∷ x) w.are; state = w.state; runs = ap (ma.run w.before) e ∙ w.runs; halts = w.halts }
+    record { before = t ∷ w.before; token = w.token; behind = w.behind; are = ap (λ (x : List SymbolAt). t ∷ x) w.are; state = w.state; runs = ap (ma.run w.before) e ∙ w.runs; halts = w.halts }
 
-stop_of : (tokens : List Sign) (s : ma.State) (r : ma.Result) → ma.run tokens (ma.Going s) ≡ ma.Over r → Stop s tokens r
+stop_of : (tokens : List SymbolAt) (s : ma.State) (r : ma.Result) → ma.run tokens (ma.Going s) ≡ ma.Over r → Stop s tokens r
 stop_of [] s r h = absurd (no_halt s r h)
 stop_of (t ∷ ts) s r h = stop_step t ts s r (λ s1 h1. stop_of ts s1 r h1) (ma.advance t (ma.Going s)) refl h
 
-run_append : (ts us : List Sign) (c : ma.Course) → ma.run (ts ++ us) c ≡ ma.run us (ma.run ts c)
+run_append : (ts us : List SymbolAt) (c : ma.Course) → ma.run (ts ++ us) c ≡ ma.run us (ma.run ts c)
 run_append [] us c = refl
 run_append (t ∷ ts) us c = run_append ts us (ma.advance t c)
 
-stops_there : (tokens : List Sign) (r : ma.Result) → (w : Stop ma.start tokens r) → StopsAt tokens w.token
+stops_there : (tokens : List SymbolAt) (r : ma.Result) → (w : Stop ma.start tokens r) → StopsAt tokens w.token
 stops_there tokens r w =
     record { before = w.before; behind = w.behind; are = w.are; none = refused (w.before ++ w.token ∷ []) r (run_append w.before (w.token ∷ []) (ma.Going ma.start) ∙ ap (ma.run (w.token ∷ [])) w.runs ∙ w.halts) }
 
-reason : (t : Sign) (a : ma.Answer) (r : ma.Result) → ma.course t a ≡ ma.Over r → (ma.refusal t ≡ r) ⊎ (ma.TooHigh ≡ r)
+reason : (t : SymbolAt) (a : ma.Answer) (r : ma.Result) → ma.course t a ≡ ma.Over r → (ma.refusal t ≡ r) ⊎ (ma.TooHigh ≡ r)
 reason t (ma.Goes s) r h = absurd (no_halt s r h)
 reason t ma.Refused r h = inl (over_same (ma.refusal t) r h)
 reason t ma.High r h = inr (over_same ma.TooHigh r h)
@@ -176,7 +176,7 @@ going_same : (p q : ma.State) → ma.Going p ≡ ma.Going q → p ≡ q
 going_same p q h = cc
 
 -- where the machine goes on behind the end, all is whole
-finished : (o : Option ma.State) → IsLast o → (q : ma.State) (t : Sign) → ma.course t (ma.limited o) ≡ ma.Going q → ma.finish q ≡ ma.Tree q.items
+finished : (o : Option ma.State) → IsLast o → (q : ma.State) (t : SymbolAt) → ma.course t (ma.limited o) ≡ ma.Going q → ma.finish q ≡ ma.Tree q.items
 finished None e q t h = absurd (no_halt q (ma.refusal t) (sym h))
 finished (Some p) (inl e) q t h = by_test (leb (ma.phase_low p.phase) 200) h
   where
@@ -191,7 +191,7 @@ end_from : (at : ℕ) (c : ma.Course) (q : ma.State) → ma.advance (sign sy.End
 end_from at (ma.Over r) q h = absurd (no_halt q r (sym h))
 end_from at (ma.Going s) q h = finished (ma.step (sign sy.End at) s) (step_ends at s) q (sign sy.End at) h
 
-ended_tree : (tokens : List Sign) → IsEnded tokens → (q : ma.State) → ma.run tokens (ma.Going ma.start) ≡ ma.Going q → ma.finish q ≡ ma.Tree q.items
+ended_tree : (tokens : List SymbolAt) → IsEnded tokens → (q : ma.State) → ma.run tokens (ma.Going ma.start) ≡ ma.Going q → ma.finish q ≡ ma.Tree q.items
 ended_tree tokens w q h =
     end_from w.at (ma.run w.before (ma.Going ma.start)) q (sym (run_append w.before (sign sy.End w.at ∷ []) (ma.Going ma.start)) ∙ ap (λ z. ma.run z (ma.Going ma.start)) w.are ∙ h)
 
@@ -200,19 +200,19 @@ ended_tree tokens w q h =
 tree_same : (a b : Items) → ma.Tree a ≡ ma.Tree b → a ≡ b
 tree_same a b h = cc
 
-only : (tokens : List Sign) (tree : Items) → ma.parse_of tokens ≡ ma.Tree tree → IsOnly tokens tree
+only : (tokens : List SymbolAt) (tree : Items) → ma.parse_of tokens ≡ ma.Tree tree → IsOnly tokens tree
 only tokens tree h other spelled low =
     tree_same other tree (sym (complete other spelled.shaped low spelled.end) ∙ ap ma.parse_of spelled.spelled ∙ h)
 
-refusal_reading : (tokens : List Sign) (t : Sign) → StopsAt tokens t → (b : Bool) → is_unsupported t.symbol ≡ b → IsReading tokens (if b then ma.Unsupported t.at else ma.Syntax t.at)
+refusal_reading : (tokens : List SymbolAt) (t : SymbolAt) → StopsAt tokens t → (b : Bool) → is_unsupported t.symbol ≡ b → IsReading tokens (if b then ma.Unsupported t.at else ma.Syntax t.at)
 refusal_reading tokens t stops true e = (t, stops, refl, e)
 refusal_reading tokens t stops false e = λ ended. (t, stops, refl, e)
 
-halt_from : (tokens : List Sign) (r : ma.Result) (w : Stop ma.start tokens r) → (ma.refusal w.token ≡ r) ⊎ (ma.TooHigh ≡ r) → IsReading tokens r
+halt_from : (tokens : List SymbolAt) (r : ma.Result) (w : Stop ma.start tokens r) → (ma.refusal w.token ≡ r) ⊎ (ma.TooHigh ≡ r) → IsReading tokens r
 halt_from tokens r w (inl e) = subst (λ (x : ma.Result). IsReading tokens x) e (refusal_reading tokens w.token (stops_there tokens r w) (is_unsupported w.token.symbol) refl)
 halt_from tokens r w (inr e) = subst (λ (x : ma.Result). IsReading tokens x) e (w.token, stops_there tokens r w)
 
-halt_reading : (tokens : List Sign) (r : ma.Result) → ma.run tokens (ma.Going ma.start) ≡ ma.Over r → IsReading tokens r
+halt_reading : (tokens : List SymbolAt) (r : ma.Result) → ma.run tokens (ma.Going ma.start) ≡ ma.Over r → IsReading tokens r
 halt_reading tokens r h =
     let w = stop_of tokens ma.start r h in
     halt_from tokens r w (reason w.token (ma.limited_step w.token w.state) r w.halts)
@@ -221,7 +221,7 @@ finish_cases : (is : Items) (p : ma.Phase) → (ma.finish_phase is p ≡ ma.Tree
 finish_cases is (ma.Plain m.Finished) = inl refl
 finish_cases is _ = inr refl
 
-finish_reading : (tokens : List Sign) (s : ma.State) (r : ma.Result) → ma.run tokens (ma.Going ma.start) ≡ ma.Going s → ma.finish s ≡ r → IsReading tokens r
+finish_reading : (tokens : List SymbolAt) (s : ma.State) (r : ma.Result) → ma.run tokens (ma.Going ma.start) ≡ ma.Going s → ma.finish s ≡ r → IsReading tokens r
 finish_reading tokens s (ma.Tree tree) e h =
     let p : ma.parse_of tokens ≡ ma.Tree tree = ap ma.outcome e ∙ h in
     (sound tokens tree p, only tokens tree p)
@@ -238,17 +238,17 @@ finish_reading tokens s ma.TooHigh e h = elim (finish_cases s.items s.phase) [
   | inr x ↦ absurd (let y : ma.Syntax 0 ≡ ma.TooHigh = sym x ∙ h in cc)
 ]
 
-course_reading : (tokens : List Sign) (c : ma.Course) (r : ma.Result) → ma.run tokens (ma.Going ma.start) ≡ c → ma.outcome c ≡ r → IsReading tokens r
+course_reading : (tokens : List SymbolAt) (c : ma.Course) (r : ma.Result) → ma.run tokens (ma.Going ma.start) ≡ c → ma.outcome c ≡ r → IsReading tokens r
 course_reading tokens (ma.Over q) r e h = halt_reading tokens r (e ∙ ap ma.Over h)
 course_reading tokens (ma.Going s) r e h = finish_reading tokens s r e h
 
 -- Whatever the machine answers to some tokens is so.
-pub reading : (tokens : List Sign) (r : ma.Result) → ma.parse_of tokens ≡ r → IsReading tokens r
+pub reading : (tokens : List SymbolAt) (r : ma.Result) → ma.parse_of tokens ≡ r → IsReading tokens r
 reading tokens r h = course_reading tokens (ma.run tokens (ma.Going ma.start)) r refl h
 
 -- ---- the same of what the parser answers
 
-refusal_of : (tokens : List Sign) (e : SourceFail) → FailsWith e (ma.parse_of tokens) → IsRefusal tokens e
+refusal_of : (tokens : List SymbolAt) (e : SourceFail) → FailsWith e (ma.parse_of tokens) → IsRefusal tokens e
 refusal_of tokens (source.Fault fault.Syntax at) h = reading tokens (ma.Syntax at) h
 refusal_of tokens (source.Fault fault.Unsupported at) h = reading tokens (ma.Unsupported at) h
 refusal_of tokens (source.Fault _ at) h = absurd h

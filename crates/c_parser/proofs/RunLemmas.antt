@@ -4,20 +4,20 @@ use Rattle.lv_base.specs.declared.fail.SourceFail.{SourceFail}
 use Rattle.lv_base.specs.declared.fail.SourceFail.TheVariants as source
 use Rattle.lv_base.specs.declared.fault.SourceFault.TheVariants as fault
 use Rattle.c_lexer.specs.declared.token.Token.{Token}
-use Rattle.c_tree.specs.declared.symbol.Sign.{Sign}
+use Rattle.c_tree.specs.declared.symbol.SymbolAt.{SymbolAt}
 use Rattle.c_tree.specs.Symbols as sg
 use Rattle.parse_machine.specs.Machine as ma
 use Rattle.c_parser.specs.StateView.{StopsWith, FailsWith}
 
-pub stays : (ts : List Sign) (r : ma.Result) → ma.run ts (ma.Over r) ≡ ma.Over r
+pub stays : (ts : List SymbolAt) (r : ma.Result) → ma.run ts (ma.Over r) ≡ ma.Over r
 stays [] r = refl
 stays (t ∷ ts) r = stays ts r
 
-ends : (ts : List Sign) (c : ma.Course) (r : ma.Result) → c ≡ ma.Over r → ma.outcome (ma.run ts c) ≡ r
+ends : (ts : List SymbolAt) (c : ma.Course) (r : ma.Result) → c ≡ ma.Over r → ma.outcome (ma.run ts c) ≡ r
 ends ts c r h = ap (λ c. ma.outcome (ma.run ts c)) h ∙ ap ma.outcome (stays ts r)
 
 -- what stops the machine is its answer
-pub stops : (e : SourceFail) (ts : List Sign) (c : ma.Course) → StopsWith e c → FailsWith e (ma.outcome (ma.run ts c))
+pub stops : (e : SourceFail) (ts : List SymbolAt) (c : ma.Course) → StopsWith e c → FailsWith e (ma.outcome (ma.run ts c))
 stops (source.Fault fault.Syntax at) ts c h = ends ts c (ma.Syntax at) h
 stops (source.Fault fault.Unsupported at) ts c h = ends ts c (ma.Unsupported at) h
 stops (source.Fault _ at) ts c h = absurd h

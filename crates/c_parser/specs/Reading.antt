@@ -4,7 +4,7 @@ use Rattle.lv_base.specs.declared.fail.SourceFail.{SourceFail}
 use Rattle.lv_base.specs.declared.fail.SourceFail.TheVariants as source
 use Rattle.lv_base.specs.declared.fault.SourceFault.TheVariants as fault
 use Rattle.c_tree.specs.declared.symbol.Symbol.TheVariants as sy
-use Rattle.c_tree.specs.declared.symbol.Sign.{Sign}
+use Rattle.c_tree.specs.declared.symbol.SymbolAt.{SymbolAt}
 use Rattle.c_tree.specs.Tree.{Items}
 use Rattle.c_tree.specs.Height.{height_items}
 use Rattle.c_tree.specs.Symbols.{sign}
@@ -13,37 +13,37 @@ use Rattle.parse_machine.specs.Tokens.{is_unsupported}
 use Rattle.parse_machine.specs.Machine as ma
 
 -- no other shaped tree of height at most 200 has these tokens
-abbrev pub IsOnly : List Sign → Items → Type 0
+abbrev pub IsOnly : List SymbolAt → Items → Type 0
 IsOnly tokens tree = (other : Items) → IsSpelled tokens other → height_items other ≤ 200 → other ≡ tree
 
 -- this token is among the tokens, and no shaped tree of height at most 200 begins with the tokens up to it
-pub record StopsAt (tokens : List Sign) (token : Sign) : Type 0 where
-  pub before : List Sign
-  pub behind : List Sign
+pub record StopsAt (tokens : List SymbolAt) (token : SymbolAt) : Type 0 where
+  pub before : List SymbolAt
+  pub behind : List SymbolAt
   pub are : before ++ token ∷ behind ≡ tokens
   pub none : BeginsWithin 200 (before ++ token ∷ []) → ⊥
 
 -- the tokens stop at a token with this offset, which is one of those that are left out of the subset, or is none
-abbrev pub IsStopped : List Sign → ℕ → Bool → Type 0
-IsStopped tokens at unsupported = (token : Sign) × StopsAt tokens token × (at ≡ token.at) × (is_unsupported token.symbol ≡ unsupported)
+abbrev pub IsStopped : List SymbolAt → ℕ → Bool → Type 0
+IsStopped tokens at unsupported = (token : SymbolAt) × StopsAt tokens token × (at ≡ token.at) × (is_unsupported token.symbol ≡ unsupported)
 
 -- the last token is a source's end
-pub record IsEnded (tokens : List Sign) : Type 0 where
-  pub before : List Sign
+pub record IsEnded (tokens : List SymbolAt) : Type 0 where
+  pub before : List SymbolAt
   pub at : ℕ
   pub are : before ++ sign sy.End at ∷ [] ≡ tokens
 
 -- what each answer says of the tokens
-abbrev pub IsReading : List Sign → ma.Result → Type 0
+abbrev pub IsReading : List SymbolAt → ma.Result → Type 0
 IsReading tokens (ma.Tree tree) = IsSpelled tokens tree × IsOnly tokens tree
 IsReading tokens (ma.Syntax at) = IsEnded tokens → IsStopped tokens at false
 IsReading tokens (ma.Unsupported at) = IsStopped tokens at true
-IsReading tokens ma.TooHigh = (token : Sign) × StopsAt tokens token
+IsReading tokens ma.TooHigh = (token : SymbolAt) × StopsAt tokens token
 
 -- what a refusal says of them
-abbrev pub IsRefusal : List Sign → SourceFail → Type 0
+abbrev pub IsRefusal : List SymbolAt → SourceFail → Type 0
 IsRefusal tokens (source.Fault fault.Syntax at) = IsEnded tokens → IsStopped tokens at false
 IsRefusal tokens (source.Fault fault.Unsupported at) = IsStopped tokens at true
 IsRefusal tokens (source.Fault _ at) = ⊥
-IsRefusal tokens (source.Over number count) = ((token : Sign) × StopsAt tokens token) × (number ≡ 3) × (count ≡ 201)
+IsRefusal tokens (source.Over number count) = ((token : SymbolAt) × StopsAt tokens token) × (number ≡ 3) × (count ≡ 201)
 IsRefusal tokens source.Memory = Unit {0}

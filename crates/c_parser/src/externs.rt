@@ -13,11 +13,11 @@ ghost use Rattle.c_parser.specs.StateView.{GivesState, GivesExtern, extern_of, o
 use crate::measures::low;
 use crate::steps::next;
 use c_lexer::Token;
-use c_tree::{AssignOp, BinaryOp, Bracket, Item, Sign, Spec, StorageWord, Symbol};
+use c_tree::{AssignOp, BinaryOp, Bracket, Item, Spec, StorageWord, Symbol, SymbolAt};
 use parse_stack::{Around, Place, StepFail};
 use parse_values::Mode;
+use parser_symbols::sign_of;
 use std::alloc::Global;
-use token_signs::sign_of;
 use typedef_names::Names;
 
 /// An item that begins with `extern`: the offsets of `__extension__` and of `extern`, and the tokens behind.
@@ -25,7 +25,7 @@ use typedef_names::Names;
 pub struct Extern {
     pub extension: Option<u32>,
     pub at: u32,
-    pub tokens: Vec<Sign>,
+    pub tokens: Vec<SymbolAt>,
 }
 
 /// How an item is read: as it stands, also as tokens alone, or as tokens alone.
@@ -121,7 +121,7 @@ fn opens_mode(alloc: Global, m: &Mode, at: u32) -> Option<Extern>
 }
 
 /// Whether the token begins an item that may be skipped.
-fn opens(alloc: Global, t: &Sign, m: &Mode) -> Option<Extern>
+fn opens(alloc: Global, t: &SymbolAt, m: &Mode) -> Option<Extern>
     ensures { option_extern result ≡ ma.opens t.now.symbol t.now.at (mode m.now) }
 {
     match t.symbol {
@@ -132,7 +132,7 @@ fn opens(alloc: Global, t: &Sign, m: &Mode) -> Option<Extern>
 
 /// One token more.
 #[tactic(auto, using(crate::proofs::Views::raw_push))]
-fn add_token(x: Extern, t: Sign) -> Result<Extern, StepFail>
+fn add_token(x: Extern, t: SymbolAt) -> Result<Extern, StepFail>
     ensures { GivesExtern result (ma.more (extern_of x) t) }
 {
     let Extern {
@@ -180,7 +180,7 @@ fn go_plain(
     alloc: Global,
     items: Vec<Item>,
     names: Names,
-    t: Sign,
+    t: SymbolAt,
     m: Option<Box<Mode>>,
     high: bool,
 ) -> Result<State, StepFail>
@@ -235,7 +235,7 @@ fn go_kept(
     items: Vec<Item>,
     names: Names,
     x: Extern,
-    t: Sign,
+    t: SymbolAt,
     m: Mode,
     high: bool,
 ) -> Result<State, StepFail>
@@ -261,7 +261,7 @@ fn go_copied(
     items: Vec<Item>,
     names: Names,
     x: Extern,
-    t: Sign,
+    t: SymbolAt,
     m: Mode,
     high: bool,
 ) -> Result<State, StepFail>
@@ -288,7 +288,7 @@ fn go_both(
     items: Vec<Item>,
     names: Names,
     x: Extern,
-    t: Sign,
+    t: SymbolAt,
     m: Mode,
     high: bool,
 ) -> Result<State, StepFail>
@@ -306,7 +306,7 @@ fn step_other(
     items: Vec<Item>,
     names: Names,
     x: Extern,
-    t: Sign,
+    t: SymbolAt,
     m: Option<Box<Mode>>,
     high: bool,
 ) -> Result<State, StepFail>
@@ -328,7 +328,7 @@ fn step_both(
     items: Vec<Item>,
     names: Names,
     token: &Token,
-    t: Sign,
+    t: SymbolAt,
     x: Extern,
     m: Option<Box<Mode>>,
     high: bool,
@@ -356,7 +356,7 @@ fn step_skipping(
     alloc: Global,
     items: Vec<Item>,
     names: Names,
-    t: Sign,
+    t: SymbolAt,
     x: Extern,
 ) -> Result<State, StepFail>
     ensures { GivesState result (ma.step_skipping (ma.role t.symbol) (items_of items.items) names t (extern_of x)) }
@@ -381,7 +381,7 @@ fn step_plain(
     alloc: Global,
     items: Vec<Item>,
     names: Names,
-    t: Sign,
+    t: SymbolAt,
     m: Mode,
 ) -> Result<State, StepFail>
     ensures { GivesState result (ma.step_plain (ma.opens t.symbol t.at (mode m)) (items_of items.items) names t (mode m)) }
@@ -401,7 +401,7 @@ fn step_plain(
 }
 
 /// One token.
-pub fn step(alloc: Global, token: &Token, t: Sign, state: State) -> Result<State, StepFail>
+pub fn step(alloc: Global, token: &Token, t: SymbolAt, state: State) -> Result<State, StepFail>
     requires { t ≡ sg.sign_of token.now }
     ensures { GivesState result (ma.step t (state_of state)) }
 {

@@ -5,7 +5,7 @@ ghost use Rattle.parse_machine.specs.Tokens as tk;
 ghost use Rattle.parse_machine.specs.Machine as ma;
 ghost use Rattle.c_parser.specs.Reading.{IsOnly, IsRefusal};
 ghost use Rattle.c_parser.specs.StateView.{Answers, Advances, StopsWith, state_of, phase_of};
-ghost use Rattle.c_tree.specs.declared.symbol.Sign.{Sign};
+ghost use Rattle.c_tree.specs.declared.symbol.SymbolAt.{SymbolAt};
 
 use crate::externs::{Phase, State, step};
 use crate::measures::low;
@@ -14,8 +14,8 @@ use c_tree::{BinaryOp, StorageWord, Symbol, Unit};
 use lv_base::{SourceFail, SourceFault};
 use parse_stack::StepFail;
 use parse_values::Mode;
+use parser_symbols::sign_of;
 use std::alloc::Global;
-use token_signs::sign_of;
 use typedef_names::Names;
 
 /// The height of a tree that passes the limit.
@@ -63,7 +63,7 @@ fn refusal(unsupported: bool, at: u32) -> SourceFail
 
 /// The state, where its trees are not all too high.
 fn limited(state: State) -> Result<State, SourceFail>
-    ensures { (t : Sign) → Advances result (ma.course t (ma.limited (Some (state_of state)))) }
+    ensures { (t : SymbolAt) → Advances result (ma.course t (ma.limited (Some (state_of state)))) }
 {
     if phase_low(&state.phase) > 200 {
         Err(SourceFail::Over(3, PASSED))

@@ -12,7 +12,7 @@ ghost use Rattle.c_tree.specs.declared.symbol.Bracket.TheVariants as br;
 
 use crate::settling::step_whole;
 use crate::statements::{function_item, step_begin, step_either, step_goto, step_label, step_wait};
-use c_tree::{Attribute, AttributeWord, Body, Bracket, Item, Sign, Spec, Symbol};
+use c_tree::{Attribute, AttributeWord, Body, Bracket, Item, Spec, Symbol, SymbolAt};
 use parse_stack::{
     Around, Attributed, FunctionHead, Place, StepFail, add_attribute, add_word, unspoken,
 };
@@ -80,7 +80,7 @@ fn with_attribute(alloc: Global, on: Box<Attributed>, x: Attribute) -> Result<Mo
 #[tactic(auto, using(crate::proofs::Views::raw_push))]
 fn step_attribute(
     alloc: Global,
-    t: Sign,
+    t: SymbolAt,
     word: AttributeWord,
     at: u32,
     bracket: u32,
@@ -117,7 +117,7 @@ fn step_attribute(
 #[tactic(auto, using(crate::proofs::Views::raw_push))]
 fn step_skipped(
     alloc: Global,
-    t: Sign,
+    t: SymbolAt,
     head: Box<FunctionHead>,
     bracket: u32,
     skip: Skip,
@@ -160,11 +160,11 @@ fn step_file(alloc: Global, names: &Names, t: Symbol, at: u32) -> Result<Mode, S
 
 /// One token, in each mode.
 #[tactic(auto, using(crate::proofs::TurnLemmas::kept_gives))]
-pub fn next(alloc: Global, names: &mut Names, t: Sign, m: Mode) -> Result<Mode, StepFail>
+pub fn next(alloc: Global, names: &mut Names, t: SymbolAt, m: Mode) -> Result<Mode, StepFail>
     ensures gives { GivesTurn result names.new (st.next names.old t (mode m)) }
     ensures keeps { Keeps result m names.old names.new }
 {
-    let Sign { symbol, at } = t;
+    let SymbolAt { symbol, at } = t;
     match m {
         Mode::File => step_file(alloc, names, symbol, at),
         Mode::Ended(..) | Mode::Finished => Err(StepFail::Refused),
@@ -174,7 +174,7 @@ pub fn next(alloc: Global, names: &mut Names, t: Sign, m: Mode) -> Result<Mode, 
         Mode::Constant(l) => step_constant(names, symbol, at, l),
         Mode::Named(l, n, x) => step_named(alloc, symbol, at, l, n, x),
         Mode::Attribute(w, x, a, skip, on) => {
-            step_attribute(alloc, Sign { symbol, at }, w, x, a, skip, on)
+            step_attribute(alloc, SymbolAt { symbol, at }, w, x, a, skip, on)
         }
         Mode::Next(d, c) => step_next(alloc, names, symbol, at, d, c),
         Mode::Behind(d) => step_behind(alloc, names, symbol, at, d),
@@ -183,7 +183,7 @@ pub fn next(alloc: Global, names: &mut Names, t: Sign, m: Mode) -> Result<Mode, 
         Mode::Parameter(d, a, row, c, s, n, x) => {
             step_parameter(alloc, symbol, at, d, a, row, c, s, n, x)
         }
-        Mode::Skipped(head, a, skip) => step_skipped(alloc, Sign { symbol, at }, head, a, skip),
+        Mode::Skipped(head, a, skip) => step_skipped(alloc, SymbolAt { symbol, at }, head, a, skip),
         Mode::Begin(o) => step_begin(alloc, names, symbol, at, o),
         Mode::Wait(x) => step_wait(alloc, names, symbol, at, x),
         Mode::Either(f, offsets) => step_either(alloc, names, symbol, at, f, offsets),

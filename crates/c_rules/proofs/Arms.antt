@@ -8,8 +8,8 @@ use Rattle.c_typed.specs.Tree as t
 use Rattle.c_typed.specs.Rules as r
 use Rattle.c_typed.specs.View as v
 use Rattle.c_typed.specs.declared.tree.Function.{Function}
-use Rattle.rule_lines.specs.Found.{Summary, summary, both}
-use Rattle.rule_lines.proofs.Least.{joined_is}
+use Rattle.first_broken.specs.Found.{Summary, summary, both}
+use Rattle.first_broken.proofs.Least.{joined_is}
 use Rattle.jump_rules.specs.declared.jumps.Jump.{Jump}
 use Rattle.jump_rules.specs.Seen.{jump_of, jumps}
 use Rattle.c_rules.specs.declared.label.LabelAt.{LabelAt}

@@ -8,8 +8,8 @@ use Rattle.c_typed.specs.Parts as typed
 use Rattle.c_typed.specs.Parts.{tree_of}
 use Rattle.c_typed.specs.View.{function_of}
 use Rattle.c_typed.specs.declared.tree.Function.{Function as F}
-use Rattle.rule_lines.specs.Found.{Summary, summary, both}
-use Rattle.rule_lines.proofs.Least.{joined_is}
+use Rattle.first_broken.specs.Found.{Summary, summary, both}
+use Rattle.first_broken.proofs.Least.{joined_is}
 use Rattle.call_order.specs.declared.calls.CallAt.{CallAt}
 use Rattle.call_order.specs.Seen.{all_calls, graph_of}
 use Rattle.call_order.specs.Order.{callees, IsOrder}

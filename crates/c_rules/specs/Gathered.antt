@@ -1,6 +1,6 @@
 -- What the functions of a typed tree break, with their labels and calls, gathered one by one.
 use Rattle.std.specs.Prelude.{◌≡◌, ℕ, List, [], ◌∷◌, ◌++◌, map}
-use Rattle.rule_lines.specs.Found.{Summary, summary, both}
+use Rattle.first_broken.specs.Found.{Summary, summary, both}
 use Rattle.c_typed.specs.Tree.{Function}
 use Rattle.c_typed.specs.Rules as r
 use Rattle.c_rules.specs.declared.label.LabelAt.{LabelAt}

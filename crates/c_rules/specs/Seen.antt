@@ -1,8 +1,8 @@
 -- What is gathered by the program.
 use Rattle.std.specs.Prelude.{List, map, Vec}
 use Rattle.std.proofs.Common.{Global}
-use Rattle.rule_lines.specs.declared.lines.Found.{Found}
-use Rattle.rule_lines.specs.Seen.{found_of}
+use Rattle.first_broken.specs.declared.lines.Found.{Found}
+use Rattle.first_broken.specs.Seen.{found_of}
 use Rattle.call_order.specs.declared.calls.CallAt.{CallAt}
 use Rattle.call_order.specs.Seen.{calls, all_calls}
 use Rattle.c_rules.specs.declared.checks.Gathered.{Gathered}

@@ -1,7 +1,7 @@
 -- A list in the tree, seen by its elements.
 use Rattle.std.proofs.Common.{◌≡◌, ℕ, List, [], ◌∷◌, ◌++◌, Option, refl, ap, ◌∙◌, Vec, Global}
 use Rattle.std.specs.Prelude.{Box}
-use Rattle.c_tree.specs.declared.symbol.Sign.{Sign}
+use Rattle.c_tree.specs.declared.symbol.SymbolAt.{SymbolAt}
 use Rattle.c_tree.specs.declared.tree.Attribute.{Attribute}
 use Rattle.c_tree.specs.declared.tree.Listed.{Listed}
 use Rattle.c_tree.specs.declared.tree.Specs.{Specs}
@@ -16,11 +16,11 @@ use Rattle.c_tree.specs.Tree as t
 use Rattle.c_tree.specs.View.{expr, part_row, word_row, word, enumerator_row, enumerator_behind, parts_of, parts_behind, words_of, words_behind, enumerators_of, enumerators_behind, params_of, params_behind, option_name, declarators_of, declarators_behind, declarator_behind, attributes_of, attributes_behind, attribute_of, raw_of, raw_behind, statement, statement_row, statements_of, statements_behind}
 use mathlib.Core.Former.{Count}
 
-raw_more : (xs : List Sign) (x : Sign) (r : t.Raw) → raw_behind r (xs ++ x ∷ []) ≡ t.raw_and (raw_behind r xs) x
+raw_more : (xs : List SymbolAt) (x : SymbolAt) (r : t.Raw) → raw_behind r (xs ++ x ∷ []) ≡ t.raw_and (raw_behind r xs) x
 raw_more [] x r = refl
 raw_more (y ∷ xs) x r = raw_more xs x (t.raw_and r y)
 
-pub raw_push : (xs : List Sign) (x : Sign) → raw_of (xs ++ x ∷ []) ≡ t.raw_and (raw_of xs) x
+pub raw_push : (xs : List SymbolAt) (x : SymbolAt) → raw_of (xs ++ x ∷ []) ≡ t.raw_and (raw_of xs) x
 raw_push xs x = raw_more xs x t.no_raw
 
 attributes_more : (xs : List Attribute) (x : Attribute) (r : t.Ats) → attributes_behind r (xs ++ x ∷ []) ≡ t.attributes_and (attributes_behind r xs) (attribute_of x)

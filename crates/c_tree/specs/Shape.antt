@@ -9,7 +9,7 @@ use Rattle.c_tree.specs.declared.symbol.AssignOp.TheVariants as to
 use Rattle.c_tree.specs.declared.symbol.StorageWord.TheVariants as storage
 use Rattle.c_tree.specs.declared.symbol.Symbol.{Symbol}
 use Rattle.c_tree.specs.declared.symbol.Symbol.TheVariants as sy
-use Rattle.c_tree.specs.declared.symbol.Sign.{Sign}
+use Rattle.c_tree.specs.declared.symbol.SymbolAt.{SymbolAt}
 use Rattle.c_tree.specs.declared.known.Site.{Site}
 use Rattle.c_tree.specs.declared.known.Site.TheVariants as site
 use Rattle.c_tree.specs.declared.known.Known.{Known}
@@ -331,24 +331,24 @@ has_stop no_raw = false
 has_stop (raw_and r s) = is_stop s.symbol || has_stop r
 
 -- no such token stands before the first `;`, `=` or `{`
-abbrev pub has_no_listed : List Sign → Bool
+abbrev pub has_no_listed : List SymbolAt → Bool
 has_no_listed [] = true
 has_no_listed (s ∷ tokens) = if is_stop s.symbol then true else (not (is_listed s.symbol) && has_no_listed tokens)
 
-abbrev pub unlisted_extern : Symbol → List Sign → Bool
+abbrev pub unlisted_extern : Symbol → List SymbolAt → Bool
 unlisted_extern (sy.Storage storage.Extern) tokens = has_no_listed tokens
 unlisted_extern _ tokens = true
 
-abbrev pub unlisted_extension : List Sign → Bool
+abbrev pub unlisted_extension : List SymbolAt → Bool
 unlisted_extension [] = true
 unlisted_extension (s ∷ tokens) = unlisted_extern s.symbol tokens
 
-abbrev pub unlisted_from : Symbol → List Sign → Bool
+abbrev pub unlisted_from : Symbol → List SymbolAt → Bool
 unlisted_from sy.Extension tokens = unlisted_extension tokens
 unlisted_from s tokens = unlisted_extern s tokens
 
 -- this holds where they begin with `extern` or `__extension__ extern`
-abbrev pub is_unlisted : List Sign → Bool
+abbrev pub is_unlisted : List SymbolAt → Bool
 is_unlisted [] = true
 is_unlisted (s ∷ tokens) = unlisted_from s.symbol tokens
 

@@ -16,7 +16,7 @@ use Rattle.c_tree.specs.declared.symbol.Crement.TheVariants as cr
 use Rattle.c_tree.specs.declared.symbol.Bracket.TheVariants as br
 use Rattle.c_tree.specs.declared.symbol.Symbol.{Symbol}
 use Rattle.c_tree.specs.declared.symbol.Symbol.TheVariants as sy
-use Rattle.c_tree.specs.declared.symbol.Sign.{Sign}
+use Rattle.c_tree.specs.declared.symbol.SymbolAt.{SymbolAt}
 use Rattle.c_tree.specs.declared.words.TheConstants.{KEYWORDS}
 
 unfoldable pub keyword_of : List ℕ → Option Keyword
@@ -91,11 +91,11 @@ symbol_of kind.Str = sy.Str
 symbol_of (kind.Mark m) = mark_symbol m
 symbol_of kind.End = sy.End
 
-abbrev pub sign : Symbol → ℕ → Sign
+abbrev pub sign : Symbol → ℕ → SymbolAt
 sign s at = record { symbol = s; at = at }
 
-abbrev pub sign_of : Token → Sign
+abbrev pub sign_of : Token → SymbolAt
 sign_of t = sign (symbol_of t.kind) t.at
 
-abbrev pub signs_of : List Token → List Sign
+abbrev pub signs_of : List Token → List SymbolAt
 signs_of tokens = map sign_of tokens

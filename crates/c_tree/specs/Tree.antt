@@ -1,7 +1,7 @@
 -- The trees, without where they lie in memory. A number is the offset of a token; a list has its last element outermost.
 use Rattle.std.specs.Prelude.{ℕ, ℤ, List, Option}
 use Rattle.c_lexer.specs.declared.token.NumberForm.{NumberForm}
-use Rattle.c_tree.specs.declared.symbol.Sign.{Sign}
+use Rattle.c_tree.specs.declared.symbol.SymbolAt.{SymbolAt}
 use Rattle.c_tree.specs.declared.symbol.TypeWord.{TypeWord}
 use Rattle.c_tree.specs.declared.symbol.StorageWord.{StorageWord}
 use Rattle.c_tree.specs.declared.symbol.ConstWord.{ConstWord}
@@ -14,7 +14,7 @@ use Rattle.c_tree.specs.declared.tree.PrefixOp.{PrefixOp}
 -- tokens that are kept as they stand
 pub data Raw : Type 0 where
   no_raw : Raw
-  raw_and : Raw → Sign → Raw
+  raw_and : Raw → SymbolAt → Raw
 
 -- the word, `(`, the tokens between, `)`
 pub data At : Type 0 where

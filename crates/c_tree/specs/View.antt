@@ -1,7 +1,7 @@
 -- The program's trees, without where they lie in memory.
 use Rattle.std.specs.Prelude.{List, [], ◌∷◌, Option, None, Some, Box}
 use Rattle.std.proofs.Common.{Global}
-use Rattle.c_tree.specs.declared.symbol.Sign.{Sign}
+use Rattle.c_tree.specs.declared.symbol.SymbolAt.{SymbolAt}
 use Rattle.c_tree.specs.declared.tree.Name.{Name}
 use Rattle.c_tree.specs.declared.tree.Attribute.{Attribute}
 use Rattle.c_tree.specs.declared.tree.Listed.{Listed}
@@ -32,11 +32,11 @@ use Rattle.c_tree.specs.declared.tree.Item.{Item}
 use Rattle.c_tree.specs.declared.tree.Item.TheVariants as it
 use Rattle.c_tree.specs.Tree as t
 
-abbrev pub raw_behind : t.Raw → List Sign → t.Raw
+abbrev pub raw_behind : t.Raw → List SymbolAt → t.Raw
 raw_behind r [] = r
 raw_behind r (x ∷ xs) = raw_behind (t.raw_and r x) xs
 
-abbrev pub raw_of : List Sign → t.Raw
+abbrev pub raw_of : List SymbolAt → t.Raw
 raw_of xs = raw_behind t.no_raw xs
 
 abbrev pub attribute_of : Attribute → t.At

@@ -10,8 +10,8 @@ mod words;
 pub use known::{Known, Signedness, Site, Size, Storage, Typing};
 pub use nodes::height;
 pub use symbol::{
-    AssignOp, AttributeWord, BinaryOp, Bracket, ConstWord, Crement, Keyword, Sign, StatementWord,
-    StorageWord, Symbol, TypeWord,
+    AssignOp, AttributeWord, BinaryOp, Bracket, ConstWord, Crement, Keyword, StatementWord,
+    StorageWord, Symbol, SymbolAt, TypeWord,
 };
 pub use tree::{
     Attribute, Body, Declaration, Declarator, Enumerator, Expr, ForHead, ForStart, Form, Function,

@@ -166,7 +166,7 @@ pub enum Symbol {
 
 /// A symbol with the offset of its first byte.
 #[derive(Debug, Drop)]
-pub struct Sign {
+pub struct SymbolAt {
     pub symbol: Symbol,
     pub at: u32,
 }

@@ -1,5 +1,5 @@
 use crate::symbol::{
-    AssignOp, AttributeWord, BinaryOp, ConstWord, Crement, Sign, StorageWord, TypeWord,
+    AssignOp, AttributeWord, BinaryOp, ConstWord, Crement, StorageWord, SymbolAt, TypeWord,
 };
 use c_lexer::NumberForm;
 use lv_base::Text;
@@ -104,7 +104,7 @@ pub struct Attribute {
     pub word: AttributeWord,
     pub at: u32,
     pub open: u32,
-    pub tokens: Vec<Sign>,
+    pub tokens: Vec<SymbolAt>,
     pub close: u32,
 }
 
@@ -229,7 +229,7 @@ pub enum Statement {
 #[derive(Drop)]
 pub enum Body {
     Block(u32, Vec<Statement>, u32),
-    Skipped(u32, Vec<Sign>, u32),
+    Skipped(u32, Vec<SymbolAt>, u32),
 }
 
 /// A function with a body.
@@ -246,7 +246,7 @@ pub struct Function {
 #[derive(Drop)]
 pub enum Item {
     /// `__extension__ extern .. ;`: the offsets of `__extension__` and `extern`, the tokens behind, and the `;`.
-    Skipped(Option<u32>, u32, Vec<Sign>, u32),
+    Skipped(Option<u32>, u32, Vec<SymbolAt>, u32),
     Function(Function),
     Declaration(Declaration),
     Empty(u32),

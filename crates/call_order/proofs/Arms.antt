@@ -12,8 +12,8 @@ use Rattle.c_typed.specs.declared.tree.Value.TheVariants as va
 use Rattle.c_typed.specs.Tree as t
 use Rattle.c_typed.specs.Rules as r
 use Rattle.c_typed.specs.View.{value, values_of}
-use Rattle.rule_lines.specs.Found.{Summary, summary, both}
-use Rattle.rule_lines.proofs.Least.{joined_is}
+use Rattle.first_broken.specs.Found.{Summary, summary, both}
+use Rattle.first_broken.proofs.Least.{joined_is}
 use Rattle.step_values.specs.Seen.{values}
 use Rattle.step_values.proofs.Views.{value_Call, value_Comma}
 use Rattle.step_values.proofs.Rows.{values_taken, take_more}
@@ -22,8 +22,8 @@ use Rattle.call_order.specs.Seen.{calls, call_of, targets, graph_of, all_calls}
 use Rattle.call_order.specs.Layers as l
 use Rattle.call_order.specs.Peel as p
 use Rattle.call_order.specs.Apart as a
-use Rattle.rule_lines.specs.declared.lines.Found.{Found}
-use Rattle.rule_lines.specs.Seen.{found_of}
+use Rattle.first_broken.specs.declared.lines.Found.{Found}
+use Rattle.first_broken.specs.Seen.{found_of}
 use Rattle.call_order.proofs.Leading.{cycles_found, cycles_none}
 use Rattle.call_order.proofs.Peeling.{whole_acyclic}
 use Rattle.call_order.proofs.Confirming.{first_is}

@@ -8,8 +8,8 @@ use Rattle.std.proofs.lemmas.List.{length-map}
 use Rattle.lv_base.specs.declared.fault.SourceFault.TheVariants as fault
 use Rattle.c_run.specs.Breaking.{Broken, line}
 use Rattle.c_typed.specs.Rules.{Call, leads, has, recursion, recursion_in}
-use Rattle.rule_lines.specs.Found.{summary, both}
-use Rattle.rule_lines.proofs.Least.{joined_is}
+use Rattle.first_broken.specs.Found.{summary, both}
+use Rattle.first_broken.proofs.Least.{joined_is}
 use Rattle.call_order.specs.Layers.{IsBounded}
 use Rattle.call_order.specs.Peel.{marked}
 use Rattle.call_order.specs.Apart.{part_of, is_apart, own_apart, all_apart, is_call, is_made, Reaches, AreReached, only, marked_all, expanded}

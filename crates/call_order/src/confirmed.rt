@@ -2,8 +2,8 @@ ghost use Rattle.std.specs.Prelude.{◌≡◌, IfOk};
 ghost use Rattle.std.specs.Option.{IfSome};
 ghost use Rattle.std.specs.List.{list_all, list_any};
 ghost use Rattle.c_typed.specs.Rules as r;
-ghost use Rattle.rule_lines.specs.Found.{summary};
-ghost use Rattle.rule_lines.specs.Seen as lines;
+ghost use Rattle.first_broken.specs.Found.{summary};
+ghost use Rattle.first_broken.specs.Seen as lines;
 ghost use Rattle.call_order.specs.Apart as apart;
 ghost use Rattle.call_order.specs.Layers as layers;
 ghost use Rattle.call_order.specs.Seen as seen;
@@ -11,8 +11,8 @@ ghost use Rattle.call_order.specs.Seen as seen;
 use crate::calls::CallAt;
 use crate::marks::is_marked;
 use crate::search::reached;
+use first_broken::{Found, line};
 use lv_base::{Memory, SourceFault};
-use rule_lines::{Found, line};
 use std::alloc::Global;
 
 // A call, with the function that makes it.

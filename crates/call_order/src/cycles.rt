@@ -1,8 +1,8 @@
 ghost use Rattle.std.specs.Prelude.{◌≡◌, length, IfOk, slice_index_or, false};
 ghost use Rattle.std.specs.List.{list_any};
 ghost use Rattle.c_typed.specs.Rules as r;
-ghost use Rattle.rule_lines.specs.Found.{summary};
-ghost use Rattle.rule_lines.specs.Seen as lines;
+ghost use Rattle.first_broken.specs.Found.{summary};
+ghost use Rattle.first_broken.specs.Seen as lines;
 ghost use Rattle.call_order.specs.Layers as layers;
 ghost use Rattle.call_order.specs.Seen as seen;
 
@@ -11,8 +11,8 @@ use crate::confirmed::confirmed;
 use crate::marks::is_marked;
 use crate::order::{guided, is_whole};
 use crate::walk::make_guess;
+use first_broken::{Found, both, line, none};
 use lv_base::{Memory, SourceFault};
-use rule_lines::{Found, both, line, none};
 use std::alloc::Global;
 
 fn any_call(calls: &[CallAt], marks: &[bool]) -> bool

@@ -9,10 +9,10 @@ use Rattle.c_tree.specs.View.{item_of, items_of, items_behind}
 use Rattle.c_run.specs.Breaking as br
 use Rattle.c_run.specs.Breaking.{line}
 use Rattle.c_meaning.specs.Bindings as b
-use Rattle.rule_lines.specs.declared.lines.Broken.{Broken}
-use Rattle.rule_lines.specs.Found.{summary, both}
-use Rattle.rule_lines.specs.Seen.{broken_of}
-use Rattle.rule_lines.proofs.Least.{joined_is}
+use Rattle.first_broken.specs.declared.lines.Broken.{Broken}
+use Rattle.first_broken.specs.Found.{summary, both}
+use Rattle.first_broken.specs.Seen.{broken_of}
+use Rattle.first_broken.proofs.Least.{joined_is}
 use Rattle.type_scopes.specs.declared.entries.Entry.{Entry}
 use Rattle.type_scopes.specs.Seen.{entry_of}
 use Rattle.declaration_rules.specs.Twice as d

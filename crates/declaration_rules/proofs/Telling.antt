@@ -8,8 +8,8 @@ use Rattle.c_tree.specs.Tree as t
 use Rattle.c_run.specs.Breaking.{Broken, line}
 use Rattle.c_meaning.specs.Bindings.{Env, words_type, kind_in, parameter_kinds}
 use Rattle.c_meaning.specs.Rules as r
-use Rattle.rule_lines.specs.Found.{Summary, summary, both}
-use Rattle.rule_lines.proofs.Least.{joined_is}
+use Rattle.first_broken.specs.Found.{Summary, summary, both}
+use Rattle.first_broken.proofs.Least.{joined_is}
 use Rattle.declaration_rules.specs.Laws.{MainTold}
 use Rattle.declaration_rules.specs.Mains as m
 use Rattle.declaration_rules.proofs.Agreeing.{result_same}

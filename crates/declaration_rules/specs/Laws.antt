@@ -4,7 +4,7 @@ use Rattle.lv_base.specs.declared.kind.Model.{Model}
 use Rattle.c_tree.specs.Tree.{Items}
 use Rattle.c_meaning.specs.Bindings.{Env}
 use Rattle.c_meaning.specs.Rules as r
-use Rattle.rule_lines.specs.Found.{summary}
+use Rattle.first_broken.specs.Found.{summary}
 use Rattle.declaration_rules.specs.Twice.{twice}
 use Rattle.declaration_rules.specs.Mains.{main_found}
 

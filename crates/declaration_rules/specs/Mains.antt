@@ -5,9 +5,9 @@ use Rattle.lv_base.specs.declared.fault.SourceFault.TheVariants as fault
 use Rattle.c_tree.specs.Tree.{Words, Name, named, Parameters, Body, bBlock, bSkipped, Item, tFunction, Items, no_items, items_and}
 use Rattle.c_run.specs.Breaking.{line}
 use Rattle.c_meaning.specs.Bindings.{Env, words_type, kind_in, parameter_kinds}
-use Rattle.rule_lines.specs.declared.lines.Found.{Found}
-use Rattle.rule_lines.specs.Found.{Summary, summary, both}
-use Rattle.rule_lines.specs.Seen.{found_of}
+use Rattle.first_broken.specs.declared.lines.Found.{Found}
+use Rattle.first_broken.specs.Found.{Summary, summary, both}
+use Rattle.first_broken.specs.Seen.{found_of}
 use Rattle.declaration_rules.specs.Twice.{same_result}
 
 abbrev pub some_found : Option Found → Option Summary

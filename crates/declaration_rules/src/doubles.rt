@@ -3,15 +3,15 @@ ghost use Rattle.std.specs.List.{list_any};
 ghost use Rattle.c_run.specs.Breaking as br;
 ghost use Rattle.c_meaning.specs.Bindings as b;
 ghost use Rattle.c_meaning.specs.Scope as s;
-ghost use Rattle.rule_lines.specs.Found.{summary};
-ghost use Rattle.rule_lines.specs.Seen as told;
+ghost use Rattle.first_broken.specs.Found.{summary};
+ghost use Rattle.first_broken.specs.Seen as told;
 ghost use Rattle.type_scopes.specs.Seen as seen;
 ghost use Rattle.typed_values.specs.Made as made;
 ghost use Rattle.declaration_rules.specs.Twice as t;
 
 use crate::agreement::agree;
+use first_broken::{Broken, Found, both, line, none};
 use lv_base::{Kind, Memory, Model, SourceFault};
-use rule_lines::{Broken, Found, both, line, none};
 use std::alloc::Global;
 use type_kinds::kind_in;
 use type_scopes::{Entry, Env, What, is_file, is_same, is_tag, parameter_kinds, words_type};

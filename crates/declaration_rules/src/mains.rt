@@ -1,13 +1,13 @@
 ghost use Rattle.std.specs.Prelude.{◌≡◌, IfOk};
 ghost use Rattle.c_tree.specs.View as v;
-ghost use Rattle.rule_lines.specs.Seen as told;
+ghost use Rattle.first_broken.specs.Seen as told;
 ghost use Rattle.type_scopes.specs.Seen as seen;
 ghost use Rattle.declaration_rules.specs.Mains as m;
 
 use crate::agreement::same_result;
 use c_tree::{Body, Function, Item, Parameters, Specs};
+use first_broken::{Found, both, line, none};
 use lv_base::{Kind, Memory, SourceFault};
-use rule_lines::{Found, both, line, none};
 use std::alloc::Global;
 use type_kinds::kind_in;
 use type_scopes::{Env, parameter_kinds, words_type};

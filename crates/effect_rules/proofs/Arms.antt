@@ -16,8 +16,8 @@ use Rattle.c_typed.specs.View.{value, target, values_of}
 use Rattle.step_values.specs.Seen.{values}
 use Rattle.step_values.proofs.Rows.{values_taken, take_more}
 use Rattle.c_run.specs.Breaking.{Broken}
-use Rattle.rule_lines.specs.Found.{Summary, summary, both}
-use Rattle.rule_lines.proofs.Least.{joined_is}
+use Rattle.first_broken.specs.Found.{Summary, summary, both}
+use Rattle.first_broken.proofs.Least.{joined_is}
 use Rattle.effect_rules.specs.Effects as e
 use Rattle.effect_rules.proofs.Summing.{effects_summed}
 

@@ -4,8 +4,8 @@ use Rattle.lv_base.specs.declared.fault.SourceFault.TheVariants as fault
 use Rattle.c_run.specs.Breaking.{Broken, line}
 use Rattle.c_typed.specs.Tree as t
 use Rattle.c_typed.specs.Rules as r
-use Rattle.rule_lines.specs.Found.{Summary, summary}
-use Rattle.rule_lines.proofs.Least.{joined_is}
+use Rattle.first_broken.specs.Found.{Summary, summary}
+use Rattle.first_broken.proofs.Least.{joined_is}
 use Rattle.effect_rules.specs.Effects as e
 use Rattle.effect_rules.proofs.Bools.{clash_left, or_commutes}
 

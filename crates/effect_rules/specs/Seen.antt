@@ -1,6 +1,6 @@
 -- Effects of the program.
 use Rattle.effect_rules.specs.declared.effects.Effects.{Effects}
-use Rattle.rule_lines.specs.Seen.{found_of}
+use Rattle.first_broken.specs.Seen.{found_of}
 use Rattle.effect_rules.specs.Effects as e
 
 abbrev pub effects_of : Effects → e.Effects

@@ -7,8 +7,8 @@ ghost use Rattle.effect_rules.specs.Seen as seen;
 use crate::clashes::{clash, has};
 use crate::touched::{is_touched, touch, untouched};
 use c_typed::{Target, Value};
+use first_broken::{Found, both, line, none};
 use lv_base::{Memory, SourceFault};
-use rule_lines::{Found, both, line, none};
 use std::alloc::Global;
 
 // As many objects are looked for one by one.

@@ -1,13 +1,13 @@
 ghost use Rattle.std.specs.Prelude.{◌≡◌, IfOk};
 ghost use Rattle.c_typed.specs.Rules as r;
-ghost use Rattle.rule_lines.specs.Seen as lines;
-ghost use Rattle.rule_lines.specs.Found.{summary};
+ghost use Rattle.first_broken.specs.Seen as lines;
+ghost use Rattle.first_broken.specs.Found.{summary};
 ghost use Rattle.step_values.specs.Seen as values;
 
 use crate::effects::value_effects;
 use c_typed::Value;
+use first_broken::{Found, both, none};
 use lv_base::Memory;
-use rule_lines::{Found, both, none};
 use std::alloc::Global;
 
 /// The first of the rules of unsequenced effects that these expressions break.

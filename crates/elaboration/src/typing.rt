@@ -7,12 +7,12 @@ ghost use Rattle.c_typed.specs.Rules.{broken};
 ghost use Rattle.c_typed.specs.Run as typed;
 ghost use Rattle.c_types.specs.Elaborated.{elaborated};
 ghost use Rattle.source_refusals.specs.Refusals.{refusal};
-ghost use Rattle.refusal_laws.specs.Read.{IsRead};
+ghost use Rattle.elaboration_laws.specs.Read.{IsRead};
 
 use c_tree::Unit;
 use c_typed::Typed;
+use elaboration_laws::{runs_kept, typed_kept};
 use lv_base::{Model, SourceFail};
-use refusal_laws::{runs_kept, typed_kept};
 use source_bindings::bind_all;
 use source_refusals::decide;
 use std::alloc::Global;

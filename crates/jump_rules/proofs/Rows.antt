@@ -5,8 +5,8 @@ use Rattle.std.specs.List.{list_any}
 use Rattle.lv_base.specs.declared.fault.SourceFault.TheVariants as fault
 use Rattle.c_run.specs.Breaking.{Broken, line}
 use Rattle.c_typed.specs.Rules as r
-use Rattle.rule_lines.specs.Found.{Summary, summary, both}
-use Rattle.rule_lines.proofs.Least.{joined_is}
+use Rattle.first_broken.specs.Found.{Summary, summary, both}
+use Rattle.first_broken.proofs.Least.{joined_is}
 use Rattle.step_values.proofs.Rows.{take_more}
 use Rattle.jump_rules.specs.declared.jumps.Jump.{Jump}
 use Rattle.jump_rules.specs.Seen.{jump_of, jumps}

@@ -1,7 +1,7 @@
 -- Jumps of the program.
 use Rattle.std.specs.Prelude.{List, map}
 use Rattle.c_typed.specs.Rules as r
-use Rattle.rule_lines.specs.Seen.{found_of}
+use Rattle.first_broken.specs.Seen.{found_of}
 use Rattle.jump_rules.specs.declared.jumps.Jump.{Jump}
 use Rattle.jump_rules.specs.declared.walk.Walk.{Walk}
 use Rattle.jump_rules.specs.Walk.{State}

@@ -1,15 +1,15 @@
 ghost use Rattle.std.specs.Prelude.{◌≡◌, ◌++◌, ◌&&◌, [], IfOk, length, is_some, bytes_eq};
 ghost use Rattle.std.specs.List.{list_any};
 ghost use Rattle.c_typed.specs.Rules as r;
-ghost use Rattle.rule_lines.specs.Found.{summary};
-ghost use Rattle.rule_lines.specs.Seen as lines;
+ghost use Rattle.first_broken.specs.Found.{summary};
+ghost use Rattle.first_broken.specs.Seen as lines;
 ghost use Rattle.jump_rules.specs.Names.{IsLast, AreBefore, names_of};
 ghost use Rattle.jump_rules.specs.Seen as seen;
 
 use crate::jumps::{Jump, enters};
 use crate::names::{Named, before_of, last_of, name_all};
+use first_broken::{Found, both, line, none};
 use lv_base::{Memory, SourceFault};
-use rule_lines::{Found, both, line, none};
 use std::alloc::Global;
 
 fn is_there(place: Option<usize>) -> bool

@@ -1,13 +1,13 @@
 ghost use Rattle.std.specs.Prelude.{◌≡◌, take, option_map};
 ghost use Rattle.c_typed.specs.View as v;
 ghost use Rattle.c_typed.specs.Rules as r;
-ghost use Rattle.rule_lines.specs.Found.{summary};
-ghost use Rattle.rule_lines.specs.Seen as lines;
+ghost use Rattle.first_broken.specs.Found.{summary};
+ghost use Rattle.first_broken.specs.Seen as lines;
 
 use crate::jumps::enters;
 use c_typed::Value;
+use first_broken::{Found, line, none};
 use lv_base::{Kind, SourceFault};
-use rule_lines::{Found, line, none};
 
 // The first objects of a scope.
 fn front(scope: &[u32], count: usize) -> &[u32]

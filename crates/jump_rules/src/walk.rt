@@ -1,15 +1,15 @@
 ghost use Rattle.std.specs.Prelude.{◌≡◌, IfOk, length};
 ghost use Rattle.c_typed.specs.View as v;
 ghost use Rattle.c_typed.specs.Rules as r;
-ghost use Rattle.rule_lines.specs.Seen as lines;
+ghost use Rattle.first_broken.specs.Seen as lines;
 ghost use Rattle.jump_rules.specs.Walk as w;
 ghost use Rattle.jump_rules.specs.Seen as seen;
 
 use crate::jumps::{Jump, make_jump};
 use crate::places::{case_line, return_line};
 use c_typed::Step;
+use first_broken::{Found, both, line, none};
 use lv_base::{Kind, Memory, SourceFault, Text};
-use rule_lines::{Found, both, line, none};
 use std::alloc::Global;
 
 /// What a walk over a body has found: the objects in whose scope it stands, the outermost first, the labels and the gotos in

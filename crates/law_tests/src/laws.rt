@@ -1,22 +1,22 @@
 //! Each law is there under its name, and may be called by whoever needs what it says.
 
-use body_laws::{programs_typed, sources_typed, values_typed};
-use fault_rows::broken_lines;
-use fit_laws::{expressions_fit, known_hold, sources_fit};
-use good_runs::{bodies_left, labels_found};
-use main_laws::main_found;
-use meaning_steps::{statements_in_steps, values_in_steps};
-use name_bindings::part_by_part;
-use offset_laws::{
+use control_laws::{same_control, same_jumps};
+use elaboration_body_laws::{programs_typed, sources_typed, values_typed};
+use elaboration_fit_laws::{expressions_fit, known_hold, sources_fit};
+use elaboration_laws::{runs_kept, sources_read, typed_kept};
+use elaboration_main_laws::main_found;
+use elaboration_offset_laws::{
     good_sources, objects_typed, parameters_typed, sources_break, sources_hold, sources_run,
 };
-use reach_laws::reaches_kept;
-use refusal_laws::{runs_kept, sources_read, typed_kept};
+use elaboration_source_laws::{calls_found, good_programs, objects_kept, tokens_rise};
+use error_call_laws::reaches_kept;
+use fault_examples::broken_lines;
+use good_run_laws::{bodies_left, labels_found};
+use meaning_steps::{statements_in_steps, values_in_steps};
+use name_bindings::part_by_part;
 use rule_steps::{expressions_walked, sources_walked, statements_walked};
 use slot_laws::{code_goes_on, code_runs_as_tree, code_shaped, ranks_fall};
-use source_laws::{calls_found, good_programs, objects_kept, tokens_rise};
-use type_laws::{same_control, same_jumps};
-use typed_ranges::runs_guarded;
+use typed_range_laws::runs_guarded;
 
 #[test]
 fn what_declarations_bind() {

@@ -13,7 +13,7 @@ use Rattle.source_refusals.specs.declared.cells.Passed.{Passed}
 use Rattle.source_refusals.specs.Cells.{passed}
 use Rattle.source_refusals.specs.Refusals as first
 use Rattle.source_checks.specs.Refusals.{fault_of, control_refusal, or_else, source_refusal}
-use Rattle.refusal_laws.proofs.Limits.{no_broken, none_broken}
+use Rattle.elaboration_laws.proofs.Limits.{no_broken, none_broken}
 
 either_none : (a b : Option SourceFail) → or_else a b ≡ None → (a ≡ None) × (b ≡ None)
 either_none None b h = (refl, h)

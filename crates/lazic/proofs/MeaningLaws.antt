@@ -10,13 +10,13 @@ use Rattle.c_lexer.specs.Lexed.{lexed}
 use Rattle.c_lexer.specs.declared.token.Token.{Token}
 use Rattle.c_tokens.proofs.Whole.{is_lexed_of}
 use Rattle.c_tokens.specs.Divisions.{Fits, tokens_in, end_token}
-use Rattle.c_tree.specs.declared.symbol.Sign.{Sign}
+use Rattle.c_tree.specs.declared.symbol.SymbolAt.{SymbolAt}
 use Rattle.c_tree.specs.Symbols.{sign_of, signs_of}
 use Rattle.c_tree.specs.Tree.{Items}
 use Rattle.parse_machine.specs.Tokens.{is_unsupported}
 use Rattle.parse_machine.specs.Machine as ma
 use Rattle.c_tree.specs.Denotes.{IsSpelled}
-use Rattle.high_trees.proofs.HighFile.{the_only}
+use Rattle.high_tree_laws.proofs.HighFile.{the_only}
 use Rattle.c_parser.specs.Reading.{IsEnded, IsReading, IsStopped}
 use Rattle.c_parser.proofs.ReadingLaws.{reading}
 use Rattle.source_checks.specs.Refusals.{source_refusal}
@@ -49,7 +49,7 @@ ended source tokens has =
     let divides = has.1 in
     record { before = signs_of (tokens_in 0 divides.pieces); at = length source; are = sym (ap signs_of divides.listed ∙ signs_append (tokens_in 0 divides.pieces) (end_token source ∷ [])) }
 
-stopped_at : (source : List ℕ) (tokens : List Sign) (at : ℕ) (unsupported : Bool) → ma.parse_of tokens ≡ (if unsupported then ma.Unsupported at else ma.Syntax at) → IsStopped tokens at unsupported → IsUnread source tokens (Faulty (if unsupported then Unsupported else Syntax) (place_at source at))
+stopped_at : (source : List ℕ) (tokens : List SymbolAt) (at : ℕ) (unsupported : Bool) → ma.parse_of tokens ≡ (if unsupported then ma.Unsupported at else ma.Syntax at) → IsStopped tokens at unsupported → IsUnread source tokens (Faulty (if unsupported then Unsupported else Syntax) (place_at source at))
 stopped_at source tokens at unsupported read stop =
     let token = stop.0 in
     stopped token stop.1
@@ -58,7 +58,7 @@ stopped_at source tokens at unsupported read stop =
 
 -- ---- tokens that are a tree
 
-pub tree_is : (tokens : List Sign) (tree : Items) → ma.parse_of tokens ≡ ma.Tree tree → IsSpelled tokens tree → IsTreeOf tokens tree
+pub tree_is : (tokens : List SymbolAt) (tree : Items) → ma.parse_of tokens ≡ ma.Tree tree → IsSpelled tokens tree → IsTreeOf tokens tree
 tree_is tokens tree read spelled = let w = the_only tokens tree read in record { spelled = spelled; low = w.0; only = w.1; read = read }
 
 -- ---- what is computed is meant

@@ -18,7 +18,7 @@ use Rattle.c_tree.specs.Height.{height_items}
 use Rattle.c_tree.specs.Denotes.{IsSpelled}
 use Rattle.parse_machine.specs.Machine as ma
 use Rattle.parse_laws.proofs.CompleteFile.{complete}
-use Rattle.high_trees.proofs.HighFile.{too_high}
+use Rattle.high_tree_laws.proofs.HighFile.{too_high}
 use Rattle.c_run.specs.Run as run
 use Rattle.c_meaning.specs.Laws.{IsSpent}
 use Rattle.c_meaning.specs.Program as program

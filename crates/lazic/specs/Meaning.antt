@@ -7,7 +7,7 @@ use Rattle.lv_base.specs.declared.fail.SourceFail.{SourceFail}
 use Rattle.lv_base.specs.declared.fault.SourceFault.TheVariants.{Syntax, Unsupported}
 use Rattle.c_lexer.specs.declared.token.Token.{Token}
 use Rattle.c_tokens.specs.Divisions.{Fits}
-use Rattle.c_tree.specs.declared.symbol.Sign.{Sign}
+use Rattle.c_tree.specs.declared.symbol.SymbolAt.{SymbolAt}
 use Rattle.c_tree.specs.Symbols.{signs_of}
 use Rattle.c_tree.specs.Tree.{Items}
 use Rattle.c_tree.specs.Height.{height_items}
@@ -33,12 +33,12 @@ HasTokens source tokens = Fits source (Ok tokens)
 
 -- What is told of tokens that are no tree: a fault, or the limit on the height, where no tree of height at most 200 begins with
 -- the tokens up to there.
-pub data IsUnread (source : List ℕ) (tokens : List Sign) (answer : Outcome) : Type 0 where
-  stopped : (token : Sign) → StopsAt tokens token → parse_of tokens ≡ refusal token → answer ≡ Faulty (if is_unsupported token.symbol then Unsupported else Syntax) (place_at source token.at) → IsUnread source tokens answer
-  too_high : (token : Sign) → StopsAt tokens token → parse_of tokens ≡ TooHigh → answer ≡ Over 3 201 → IsUnread source tokens answer
+pub data IsUnread (source : List ℕ) (tokens : List SymbolAt) (answer : Outcome) : Type 0 where
+  stopped : (token : SymbolAt) → StopsAt tokens token → parse_of tokens ≡ refusal token → answer ≡ Faulty (if is_unsupported token.symbol then Unsupported else Syntax) (place_at source token.at) → IsUnread source tokens answer
+  too_high : (token : SymbolAt) → StopsAt tokens token → parse_of tokens ≡ TooHigh → answer ≡ Over 3 201 → IsUnread source tokens answer
 
 -- the tree of some tokens, which is not too high, and the only one, of whatever height
-pub record IsTreeOf (tokens : List Sign) (tree : Items) : Type 0 where
+pub record IsTreeOf (tokens : List SymbolAt) (tree : Items) : Type 0 where
   pub spelled : IsSpelled tokens tree
   pub low : height_items tree ≤ 200
   pub only : (other : Items) → IsSpelled tokens other → other ≡ tree

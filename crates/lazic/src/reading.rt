@@ -2,15 +2,15 @@ ghost use Rattle.std.specs.Prelude.{◌≡◌, ◌⊎◌, ◌≤◌, ◌^◌, le
 ghost use Rattle.lv_base.specs.declared.kind.Model.{Model};
 ghost use Rattle.c_typed.specs.Parts as typed;
 ghost use Rattle.c_tree.specs.Denotes.{tree_of};
-ghost use Rattle.refusal_laws.specs.Read.{IsRead};
+ghost use Rattle.elaboration_laws.specs.Read.{IsRead};
 ghost use Rattle.lazic.specs.Reading.{tree_read, source_read, IsReplay};
 
 use c_parser::parse;
 use c_rules::Examined;
 use c_tokens::tokens_of;
 use c_tree::Unit;
+use elaboration_laws::sources_read;
 use lv_base::{Model, SourceFail};
-use refusal_laws::sources_read;
 use source_checks::accepted;
 use std::alloc::Global;
 

@@ -3,7 +3,7 @@ use Rattle.std.proofs.Common.{◌≡◌, ℕ, ◌≤◌, List, [], ◌∷◌, Op
 use Rattle.c_tree.specs.declared.symbol.StorageWord.TheVariants as storage
 use Rattle.c_tree.specs.declared.symbol.Symbol.{Symbol}
 use Rattle.c_tree.specs.declared.symbol.Symbol.TheVariants as sy
-use Rattle.c_tree.specs.declared.symbol.Sign.{Sign}
+use Rattle.c_tree.specs.declared.symbol.SymbolAt.{SymbolAt}
 use Rattle.c_tree.specs.declared.known.Site.TheVariants as site
 use Rattle.c_tree.specs.Symbols.{sign}
 use Rattle.c_tree.specs.Spelling.{spell_raw, spell_item, spell_items}
@@ -53,16 +53,16 @@ abbrev AtRaw : Items → List (List ℕ) → Option ℕ → ℕ → Bool → Raw
 AtRaw is ns e at true r s = s ≡ ma.state is ns (Skipping (ma.extern e at r))
 AtRaw is ns e at false r s = IsBoth is ns (ma.extern e at r) s
 
-pub record RawStep (is : Items) (ns : List (List ℕ)) (e : Option ℕ) (at : ℕ) (c : Bool) (r : Raw) (t : Sign) (s : State) : Type 0 where
+pub record RawStep (is : Items) (ns : List (List ℕ)) (e : Option ℕ) (at : ℕ) (c : Bool) (r : Raw) (t : SymbolAt) (s : State) : Type 0 where
   pub after : State
   pub goes_to : ma.advance t (Going s) ≡ Going after
   pub is_at : AtRaw is ns e at c r after
 
-go_out : (ns : List (List ℕ)) (t : Sign) (o : Option Mode) → OutOption o → sh.is_stop t.symbol ≡ false → OutTurn ns (ma.go ns t o)
+go_out : (ns : List (List ℕ)) (t : SymbolAt) (o : Option Mode) → OutOption o → sh.is_stop t.symbol ≡ false → OutTurn ns (ma.go ns t o)
 go_out ns t None g h = tt
 go_out ns t (Some m) g h = next_out ns t m g h
 
-raw_step : (is : Items) (ns : List (List ℕ)) (e : Option ℕ) (at : ℕ) (c d : Bool) (r : Raw) (t : Sign) (s : State) → sh.is_stop t.symbol ≡ false → sh.is_listed t.symbol ≡ d → AtRaw is ns e at c r s → RawStep is ns e at (d || c) (raw_and r t) t s
+raw_step : (is : Items) (ns : List (List ℕ)) (e : Option ℕ) (at : ℕ) (c d : Bool) (r : Raw) (t : SymbolAt) (s : State) → sh.is_stop t.symbol ≡ false → sh.is_listed t.symbol ≡ d → AtRaw is ns e at c r s → RawStep is ns e at (d || c) (raw_and r t) t s
 raw_step is ns e at true true r t s h g a = record { after = ma.state is ns (Skipping (ma.extern e at (raw_and r t))); goes_to = ap (λ z. ma.advance t (Going z)) a ∙ goes t _ _ (ap (λ k. ma.step_skipping k is ns t (ma.extern e at r)) (role_is t.symbol true h g)) (omega arith); is_at = refl }
 raw_step is ns e at true false r t s h g a = record { after = ma.state is ns (Skipping (ma.extern e at (raw_and r t))); goes_to = ap (λ z. ma.advance t (Going z)) a ∙ goes t _ _ (ap (λ k. ma.step_skipping k is ns t (ma.extern e at r)) (role_is t.symbol false h g)) (omega arith); is_at = refl }
 raw_step is ns e at false true r t s h g a = record { after = ma.state is ns (Skipping (ma.extern e at (raw_and r t))); goes_to = ap (λ z. ma.advance t (Going z)) a.same ∙ goes t _ _ (ap (λ k. ma.step_both k is ns t (ma.extern e at r) a.mode a.high) (role_is t.symbol true h g)) (omega arith); is_at = refl }
@@ -72,7 +72,7 @@ raw_step is ns e at false false r t s h g a =
 
 pub record RawRun (is : Items) (ns : List (List ℕ)) (e : Option ℕ) (at : ℕ) (r : Raw) (s : State) : Type 0 where
   pub after : State
-  pub runs : (rest : List Sign) → ma.run (spell_raw r rest) (Going s) ≡ ma.run rest (Going after)
+  pub runs : (rest : List SymbolAt) → ma.run (spell_raw r rest) (Going s) ≡ ma.run rest (Going after)
   pub is_at : AtRaw is ns e at (sh.has_listed r) r after
 
 or_false : (c d : Bool) → (c || d) ≡ false → (c ≡ false) × (d ≡ false)
@@ -89,7 +89,7 @@ raw_run is ns e at (raw_and r t) s h a =
     record { after = z.after; runs = λ rest. w.runs (t ∷ rest) ∙ ap (ma.run rest) z.goes_to; is_at = z.is_at }
 
 -- behind `extern`
-skip_rest : (is : Items) (ns : List (List ℕ)) (e : Option ℕ) (at : ℕ) (r : Raw) (c : ℕ) (s : State) → sh.has_listed r ≡ true → sh.has_stop r ≡ false → IsBoth is ns (ma.extern e at no_raw) s → (rest : List Sign) → ma.run (spell_raw r (sign sy.Semicolon c ∷ rest)) (Going s) ≡ ma.run rest (Going (ma.state is ns (Plain (Ended (tSkipped e at r c) 0))))
+skip_rest : (is : Items) (ns : List (List ℕ)) (e : Option ℕ) (at : ℕ) (r : Raw) (c : ℕ) (s : State) → sh.has_listed r ≡ true → sh.has_stop r ≡ false → IsBoth is ns (ma.extern e at no_raw) s → (rest : List SymbolAt) → ma.run (spell_raw r (sign sy.Semicolon c ∷ rest)) (Going s) ≡ ma.run rest (Going (ma.state is ns (Plain (Ended (tSkipped e at r c) 0))))
 skip_rest is ns e at r c s h g a rest =
     let w = raw_run is ns e at r s g a in
     let z : w.after ≡ ma.state is ns (Skipping (ma.extern e at r)) = subst (λ q. AtRaw is ns e at q r w.after) h w.is_at in
@@ -98,7 +98,7 @@ skip_rest is ns e at r c s h g a rest =
 opening_is : (is : Items) (ns : List (List ℕ)) (m : Mode) (at : ℕ) (x : Extern) → ma.filed is ns (Plain m) ≡ ma.state is ns (Plain m) → ma.opens_mode m at ≡ Some x → OutTurn ns (steps.next ns (sign (sy.Storage storage.Extern) at) m) → (w : IsBoth is ns x (ma.both is ns x false (steps.next ns (sign (sy.Storage storage.Extern) at) m))) → ma.advance (sign (sy.Storage storage.Extern) at) (Going (ma.state is ns (Plain m))) ≡ Going (ma.state is ns (Both x w.mode w.high))
 opening_is is ns m at x f e o w = goes (sign (sy.Storage storage.Extern) at) _ _ (ap (ma.step_state (sign (sy.Storage storage.Extern) at)) f ∙ ap (λ k. ma.step_plain k is ns (sign (sy.Storage storage.Extern) at) m) e ∙ ap Some w.same) (omega arith)
 
-skipped_run : (is : Items) (ns : List (List ℕ)) (e : Option ℕ) (at : ℕ) (r : Raw) (c : ℕ) → sh.has_listed r ≡ true → sh.has_stop r ≡ false → (rest : List Sign) → ma.run (spell_item (tSkipped e at r c) rest) (Going (ma.state is ns (Plain File))) ≡ ma.run rest (Going (ma.state is ns (Plain (Ended (tSkipped e at r c) 0))))
+skipped_run : (is : Items) (ns : List (List ℕ)) (e : Option ℕ) (at : ℕ) (r : Raw) (c : ℕ) → sh.has_listed r ≡ true → sh.has_stop r ≡ false → (rest : List SymbolAt) → ma.run (spell_item (tSkipped e at r c) rest) (Going (ma.state is ns (Plain File))) ≡ ma.run rest (Going (ma.state is ns (Plain (Ended (tSkipped e at r c) 0))))
 skipped_run is ns None at r c h g rest =
     let o = extern_out ns at mk.unspoken refl in
     let w = both_is is ns (ma.extern None at no_raw) false (steps.next ns (sign (sy.Storage storage.Extern) at) File) o in
@@ -116,7 +116,7 @@ skipped_run is ns (Some x) at r c h g rest =
 
 pub record AnyRun (i : Item) (is : Items) (ns : List (List ℕ)) : Type 0 where
   pub height : ℕ
-  pub runs : (rest : List Sign) → ma.run (spell_item i rest) (Going (ma.state is ns (Plain File))) ≡ ma.run rest (Going (ma.state is (sh.item_names i ns) (Plain (Ended i height))))
+  pub runs : (rest : List SymbolAt) → ma.run (spell_item i rest) (Going (ma.state is ns (Plain File))) ≡ ma.run rest (Going (ma.state is (sh.item_names i ns) (Plain (Ended i height))))
 
 any_run : (i : Item) (is : Items) (ns : List (List ℕ)) → sh.ShapedItem i ns → hg.height_item i ≤ 200 → AnyRun i is ns
 any_run (tSkipped e at r c) is ns t l = record { height = 0; runs = λ rest. skipped_run is ns e at r c t.0 t.1 rest }
@@ -124,7 +124,7 @@ any_run (tFunction ws n ps ats x) is ns t l = record { height = (item_read (tFun
 any_run (tDeclaration d) is ns t l = record { height = (item_read (tDeclaration d) ns tt t l []).height; runs = λ rest. item_run (tDeclaration d) is ns tt t l rest }
 any_run (tEmpty at) is ns t l = record { height = (item_read (tEmpty at) ns tt t l []).height; runs = λ rest. item_run (tEmpty at) is ns tt t l rest }
 
-item_some : (i : Item) (ns : List (List ℕ)) → sh.ShapedItem i ns → (rest : List Sign) → NoElse (spell_item i rest)
+item_some : (i : Item) (ns : List (List ℕ)) → sh.ShapedItem i ns → (rest : List SymbolAt) → NoElse (spell_item i rest)
 item_some (tSkipped None at r c) ns t rest = refl
 item_some (tSkipped (Some x) at r c) ns t rest = refl
 item_some (tFunction ws n ps ats x) ns t rest = typed_no_else site.File ws t.0.specs _
@@ -135,14 +135,14 @@ abbrev state_behind : Items → ℕ → State
 state_behind no_items h = ma.start
 state_behind (items_and is i) h = ma.state is (sh.item_names i (sh.file_names is)) (Plain (Ended i h))
 
-refile : (is : Items) (h : ℕ) (ts : List Sign) → NoElse ts → ma.run ts (Going (state_behind is h)) ≡ ma.run ts (Going (ma.state is (sh.file_names is) (Plain File)))
+refile : (is : Items) (h : ℕ) (ts : List SymbolAt) → NoElse ts → ma.run ts (Going (state_behind is h)) ≡ ma.run ts (Going (ma.state is (sh.file_names is) (Plain File)))
 refile is h [] n = absurd n
 refile no_items h (t ∷ ts) n = refl
 refile (items_and is i) h (t ∷ ts) n = refl
 
 pub record FileRun (is : Items) : Type 0 where
   pub height : ℕ
-  pub runs : (rest : List Sign) → ma.run (spell_items is rest) (Going ma.start) ≡ ma.run rest (Going (state_behind is height))
+  pub runs : (rest : List SymbolAt) → ma.run (spell_items is rest) (Going ma.start) ≡ ma.run rest (Going (state_behind is height))
 
 file_run : (is : Items) → sh.ShapedItems is → hg.height_items is ≤ 200 → FileRun is
 file_run no_items t l = record { height = 0; runs = λ rest. refl }
@@ -165,15 +165,15 @@ tree_same : (a c : Items) → Tree a ≡ Tree c → a ≡ c
 tree_same a c h = cc
 
 -- One list of tokens has one such tree.
-pub unique : (tokens : List Sign) (a c : Items) → IsSpelled tokens a → IsSpelled tokens c → hg.height_items a ≤ 200 → hg.height_items c ≤ 200 → a ≡ c
+pub unique : (tokens : List SymbolAt) (a c : Items) → IsSpelled tokens a → IsSpelled tokens c → hg.height_items a ≤ 200 → hg.height_items c ≤ 200 → a ≡ c
 unique tokens a c f g h l = tree_same a c (sym (complete a f.shaped h f.end) ∙ ap ma.parse_of (f.spelled ∙ sym g.spelled) ∙ complete c g.shaped l g.end)
 
-over_stays : (ts : List Sign) (r : Result) → ma.run ts (Over r) ≡ Over r
+over_stays : (ts : List SymbolAt) (r : Result) → ma.run ts (Over r) ≡ Over r
 over_stays [] r = refl
 over_stays (t ∷ ts) r = over_stays ts r
 
 -- Where the machine has its answer before the end, no such tree begins with the tokens.
-pub refused : (tokens : List Sign) (r : Result) → ma.run tokens (Going ma.start) ≡ Over r → BeginsWithin 200 tokens → ⊥
+pub refused : (tokens : List SymbolAt) (r : Result) → ma.run tokens (Going ma.start) ≡ Over r → BeginsWithin 200 tokens → ⊥
 refused tokens r h w =
     let b0 = w.begins in
     let x = complete_run b0.tree b0.shaped w.low b0.end in

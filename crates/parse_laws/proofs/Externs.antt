@@ -7,7 +7,7 @@ use Rattle.c_tree.specs.declared.symbol.StorageWord.TheVariants as storage
 use Rattle.c_tree.specs.declared.symbol.AttributeWord.{AttributeWord}
 use Rattle.c_tree.specs.declared.symbol.Symbol.{Symbol}
 use Rattle.c_tree.specs.declared.symbol.Symbol.TheVariants as sy
-use Rattle.c_tree.specs.declared.symbol.Sign.{Sign}
+use Rattle.c_tree.specs.declared.symbol.SymbolAt.{SymbolAt}
 use Rattle.c_tree.specs.declared.tree.PrefixOp.TheVariants as pre
 use Rattle.c_tree.specs.declared.known.Site.{Site}
 use Rattle.c_tree.specs.declared.known.Site.TheVariants as site
@@ -417,7 +417,7 @@ with_attribute_out (onWords s w) x g = g
 with_attribute_out (onDeclared d) x g = g
 with_attribute_out (onLabel n at c ats o) x g = absurd g
 
-attribute_out : (k : Skip) (t : Sign) (w : AttributeWord) (x a : ℕ) (r : Raw) (y : Attributed) → OutAttributed y → OutMode (steps.attribute_skip k t w x a r y)
+attribute_out : (k : Skip) (t : SymbolAt) (w : AttributeWord) (x a : ℕ) (r : Raw) (y : Attributed) → OutAttributed y → OutMode (steps.attribute_skip k t w x a r y)
 attribute_out (skipOn n) t w x a r y g = g
 attribute_out skipClose t w x a r y g = with_attribute_out y (attribute w x a r t.at) g
 attribute_out skipEnd t w x a r y g = tt
@@ -480,7 +480,7 @@ extern_out_at names at s (Some n) f = (refl, f n refl)
 pub extern_out : (names : List (List ℕ)) (at : ℕ) (s : Spoken) → s.told.storage ≡ sto.Unstated → OutTurn names (kept names (sp.step_specs names (sy.Storage storage.Extern) at s (aroundPlace placeFile)))
 extern_out names at s h = extern_out_at names at s (with_storage site.File storage.Extern s.told) (λ n e. extern_stores s.told n e h)
 
-pub next_out : (names : List (List ℕ)) (t : Sign) (m : Mode) → Out m → sh.is_stop t.symbol ≡ false → OutTurn names (steps.next names t m)
+pub next_out : (names : List (List ℕ)) (t : SymbolAt) (m : Mode) → Out m → sh.is_stop t.symbol ≡ false → OutTurn names (steps.next names t m)
 next_out names t File g h = absurd g
 next_out names t (Ended i x) g h = absurd g
 next_out names t (Specifiers s w) g h = kept_out names (sp.step_specs names t.symbol t.at s w) (specs_out names t.symbol t.at s w g h)

@@ -5,7 +5,7 @@ use Rattle.c_tree.specs.declared.symbol.Crement.TheVariants as cr
 use Rattle.c_tree.specs.declared.symbol.Bracket.TheVariants as br
 use Rattle.c_tree.specs.declared.symbol.Symbol.{Symbol}
 use Rattle.c_tree.specs.declared.symbol.Symbol.TheVariants as sy
-use Rattle.c_tree.specs.declared.symbol.Sign.{Sign}
+use Rattle.c_tree.specs.declared.symbol.SymbolAt.{SymbolAt}
 use Rattle.c_tree.specs.declared.tree.PrefixOp.{PrefixOp}
 use Rattle.c_tree.specs.declared.tree.PrefixOp.TheVariants as pre
 use Rattle.c_tree.specs.Symbols.{sign}
@@ -53,7 +53,7 @@ prefix_begins ns pre.Sizeof = tt
 abbrev pub Alike : List (List ℕ) → Mode → Mode → Type 0
 Alike ns m n = (t : Symbol) (at : ℕ) → Begins' ns t → steps.next ns (sign t at) m ≡ steps.next ns (sign t at) n
 
-alike : (ns : List (List ℕ)) (m n : Mode) (t : Symbol) (at : ℕ) (rest : List Sign) → Alike ns m n → Begins' ns t → walk (sign t at ∷ rest) (stand m ns) ≡ walk (sign t at ∷ rest) (stand n ns)
+alike : (ns : List (List ℕ)) (m n : Mode) (t : Symbol) (at : ℕ) (rest : List SymbolAt) → Alike ns m n → Begins' ns t → walk (sign t at ∷ rest) (stand m ns) ≡ walk (sign t at ∷ rest) (stand n ns)
 alike ns m n t at rest a h = ap (λ o. walk rest (limit o)) (a t at h)
 
 not_no : (c : Bool) → not c ≡ true → c ≡ false
@@ -61,7 +61,7 @@ not_no true h = cc
 not_no false h = refl
 
 mutual
-  pub first : (ns : List (List ℕ)) (m n : Mode) → Alike ns m n → (e : Ex) → sh.Shaped ns e → (rest : List Sign) → walk (spell e rest) (stand m ns) ≡ walk (spell e rest) (stand n ns)
+  pub first : (ns : List (List ℕ)) (m n : Mode) → Alike ns m n → (e : Ex) → sh.Shaped ns e → (rest : List SymbolAt) → walk (spell e rest) (stand m ns) ≡ walk (spell e rest) (stand n ns)
   first ns m n a (eName x at) s rest = alike ns m n (sy.Name x) at rest a s
   first ns m n a (eNumber v f at) s rest = alike ns m n (sy.Number v f) at rest a tt
   first ns m n a (eLetter v at) s rest = alike ns m n (sy.Letter v) at rest a tt
@@ -77,11 +77,11 @@ mutual
   first ns m n a (eAssign x o at y) s rest = first ns m n a x s.2 _
   first ns m n a (eComma es) s rest = first_parts ns m n a es s.0 s.1 rest
 
-  first_parts : (ns : List (List ℕ)) (m n : Mode) → Alike ns m n → (es : Parts) → sh.are_several es ≡ true → sh.ShapedParts ns es → (rest : List Sign) → walk (spell_parts es rest) (stand m ns) ≡ walk (spell_parts es rest) (stand n ns)
+  first_parts : (ns : List (List ℕ)) (m n : Mode) → Alike ns m n → (es : Parts) → sh.are_several es ≡ true → sh.ShapedParts ns es → (rest : List SymbolAt) → walk (spell_parts es rest) (stand m ns) ≡ walk (spell_parts es rest) (stand n ns)
   first_parts ns m n a no_parts h s rest = cc
   first_parts ns m n a (parts_and es c e) h s rest = first_some ns m n a es s.2 (not_no (sh.are_no_parts es) h) _
 
-  first_some : (ns : List (List ℕ)) (m n : Mode) → Alike ns m n → (es : Parts) → sh.ShapedParts ns es → sh.are_no_parts es ≡ false → (rest : List Sign) → walk (spell_parts es rest) (stand m ns) ≡ walk (spell_parts es rest) (stand n ns)
+  first_some : (ns : List (List ℕ)) (m n : Mode) → Alike ns m n → (es : Parts) → sh.ShapedParts ns es → sh.are_no_parts es ≡ false → (rest : List SymbolAt) → walk (spell_parts es rest) (stand m ns) ≡ walk (spell_parts es rest) (stand n ns)
   first_some ns m n a no_parts s h rest = cc
   first_some ns m n a (parts_and no_parts None e) s h rest = first ns m n a e s.3 rest
   first_some ns m n a (parts_and no_parts (Some at) e) s h rest = absurd s.0
@@ -95,7 +95,7 @@ maybe_alike ns k sy.Semicolon at h = absurd h
 maybe_alike ns k _ at h = refl
 
 -- where an expression may be left out, and it is not
-pub first_maybe : (ns : List (List ℕ)) (k : Inner) (e : Ex) → sh.Shaped ns e → (rest : List Sign) → walk (spell e rest) (stand (Maybe k) ns) ≡ walk (spell e rest) (stand (Operand k) ns)
+pub first_maybe : (ns : List (List ℕ)) (k : Inner) (e : Ex) → sh.Shaped ns e → (rest : List SymbolAt) → walk (spell e rest) (stand (Maybe k) ns) ≡ walk (spell e rest) (stand (Operand k) ns)
 first_maybe ns k e s rest = first ns (Maybe k) (Operand k) (maybe_alike ns k) e s rest
 
 -- Words or an expression, and it is an expression.
@@ -138,11 +138,11 @@ fork_token ns f ats sy.Tilde at h e = refl
 fork_token ns f ats sy.Bang at h e = refl
 fork_token ns f ats _ at h e = absurd h
 
-fork_walks : (ns : List (List ℕ)) (f : Fork) (ats : List ℕ) (t : Symbol) (at : ℕ) (rest : List Sign) → Begins' ns t → (t ≡ sy.Extension → ⊥) → walk (sign t at ∷ rest) (stand (Either f ats) ns) ≡ walk (sign t at ∷ rest) (stand (Operand (stt.extension_binds ats (stt.fork_inner f))) ns)
+fork_walks : (ns : List (List ℕ)) (f : Fork) (ats : List ℕ) (t : Symbol) (at : ℕ) (rest : List SymbolAt) → Begins' ns t → (t ≡ sy.Extension → ⊥) → walk (sign t at ∷ rest) (stand (Either f ats) ns) ≡ walk (sign t at ∷ rest) (stand (Operand (stt.extension_binds ats (stt.fork_inner f))) ns)
 fork_walks ns f ats t at rest h e = ap (λ o. walk rest (limit o)) (fork_token ns f ats t at h e)
 
 mutual
-  pub first_fork : (ns : List (List ℕ)) (f : Fork) (ats : List ℕ) (e : Ex) → sh.Shaped ns e → high (stt.extension_binds ats (stt.fork_inner f)) (height e) ≤ 200 → (rest : List Sign) → walk (spell e rest) (stand (Either f ats) ns) ≡ walk (spell e rest) (stand (Operand (stt.extension_binds ats (stt.fork_inner f))) ns)
+  pub first_fork : (ns : List (List ℕ)) (f : Fork) (ats : List ℕ) (e : Ex) → sh.Shaped ns e → high (stt.extension_binds ats (stt.fork_inner f)) (height e) ≤ 200 → (rest : List SymbolAt) → walk (spell e rest) (stand (Either f ats) ns) ≡ walk (spell e rest) (stand (Operand (stt.extension_binds ats (stt.fork_inner f))) ns)
   first_fork ns f ats (eName x at) s h rest = fork_walks ns f ats (sy.Name x) at rest s (λ x. cc)
   first_fork ns f ats (eNumber v g at) s h rest = fork_walks ns f ats (sy.Number v g) at rest tt (λ x. cc)
   first_fork ns f ats (eLetter v at) s h rest = fork_walks ns f ats (sy.Letter v) at rest tt (λ x. cc)
@@ -174,11 +174,11 @@ mutual
   first_fork ns f ats (eAssign x o at y) s h rest = first_fork ns f ats x s.2 (lower (stt.extension_binds ats (stt.fork_inner f)) (height x) (height (eAssign x o at y)) h (omega arith)) _
   first_fork ns f ats (eComma es) s h rest = fork_parts ns f ats es s.0 s.1 (lower (stt.extension_binds ats (stt.fork_inner f)) (height_parts es) (height (eComma es)) h (omega arith)) rest
 
-  fork_parts : (ns : List (List ℕ)) (f : Fork) (ats : List ℕ) (es : Parts) → sh.are_several es ≡ true → sh.ShapedParts ns es → high (stt.extension_binds ats (stt.fork_inner f)) (height_parts es) ≤ 200 → (rest : List Sign) → walk (spell_parts es rest) (stand (Either f ats) ns) ≡ walk (spell_parts es rest) (stand (Operand (stt.extension_binds ats (stt.fork_inner f))) ns)
+  fork_parts : (ns : List (List ℕ)) (f : Fork) (ats : List ℕ) (es : Parts) → sh.are_several es ≡ true → sh.ShapedParts ns es → high (stt.extension_binds ats (stt.fork_inner f)) (height_parts es) ≤ 200 → (rest : List SymbolAt) → walk (spell_parts es rest) (stand (Either f ats) ns) ≡ walk (spell_parts es rest) (stand (Operand (stt.extension_binds ats (stt.fork_inner f))) ns)
   fork_parts ns f ats no_parts m s h rest = cc
   fork_parts ns f ats (parts_and es c e) m s h rest = fork_some ns f ats es s.2 (not_no (sh.are_no_parts es) m) (lower (stt.extension_binds ats (stt.fork_inner f)) (height_parts es) (height_parts (parts_and es c e)) h (omega arith)) _
 
-  fork_some : (ns : List (List ℕ)) (f : Fork) (ats : List ℕ) (es : Parts) → sh.ShapedParts ns es → sh.are_no_parts es ≡ false → high (stt.extension_binds ats (stt.fork_inner f)) (height_parts es) ≤ 200 → (rest : List Sign) → walk (spell_parts es rest) (stand (Either f ats) ns) ≡ walk (spell_parts es rest) (stand (Operand (stt.extension_binds ats (stt.fork_inner f))) ns)
+  fork_some : (ns : List (List ℕ)) (f : Fork) (ats : List ℕ) (es : Parts) → sh.ShapedParts ns es → sh.are_no_parts es ≡ false → high (stt.extension_binds ats (stt.fork_inner f)) (height_parts es) ≤ 200 → (rest : List SymbolAt) → walk (spell_parts es rest) (stand (Either f ats) ns) ≡ walk (spell_parts es rest) (stand (Operand (stt.extension_binds ats (stt.fork_inner f))) ns)
   fork_some ns f ats no_parts s m h rest = cc
   fork_some ns f ats (parts_and no_parts None e) s m h rest = first_fork ns f ats e s.3 (lower (stt.extension_binds ats (stt.fork_inner f)) (height e) (height_parts (parts_and no_parts None e)) h (omega arith)) rest
   fork_some ns f ats (parts_and no_parts (Some at) e) s m h rest = absurd s.0

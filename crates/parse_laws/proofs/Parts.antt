@@ -2,7 +2,7 @@
 use Rattle.std.proofs.Common.{◌≡◌, ℕ, suc, ◌≤◌, max, List, Option, Some, Bool, true, false, not, if◌then◌else◌, leb, refl, subst, sym, ap, ◌∙◌, arith, le-leb, le_trans}
 use Rattle.c_tree.specs.declared.symbol.BinaryOp.{BinaryOp}
 use Rattle.c_tree.specs.declared.symbol.BinaryOp.TheVariants as op
-use Rattle.c_tree.specs.declared.symbol.Sign.{Sign}
+use Rattle.c_tree.specs.declared.symbol.SymbolAt.{SymbolAt}
 use Rattle.c_tree.specs.declared.tree.PrefixOp.{PrefixOp}
 use Rattle.c_tree.specs.declared.tree.PrefixOp.TheVariants as pre
 use Rattle.c_tree.specs.Spelling.{level, operand_level, level_of, spell}
@@ -158,7 +158,7 @@ part_real l h e p = real (leb h 200) e _ (le-leb _ _ p)
 pub part_fits : (ns : List (List ℕ)) (l h : ℕ) (e : Ex) → h ≤ 200 → level_of e ≡ l → sh.Shaped ns e → FitPart ns (part l h e)
 part_fits ns l h e p q s = record { level = ap level_of (part_real l h e p) ∙ q; shaped = subst (sh.Shaped ns) (sym (part_real l h e p)) s }
 
-pub part_spells : (l h : ℕ) (e : Ex) → h ≤ 200 → (r : List Sign) → spell (part l h e).value r ≡ spell e r
+pub part_spells : (l h : ℕ) (e : Ex) → h ≤ 200 → (r : List SymbolAt) → spell (part l h e).value r ≡ spell e r
 part_spells l h e p r = ap (λ x. spell x r) (part_real l h e p)
 
 pub several : (es : Parts) (c : Option ℕ) (e : Ex) → sh.are_no_parts es ≡ false → sh.are_several (parts_and es c e) ≡ true
@@ -179,7 +179,7 @@ bound_height (bComma es at) e = refl
 pub record Made (ns : List (List ℕ)) (l : ℕ) (x : Bind) (e : Part) : Type 0 where
   pub least : l ≤ (bound x e).level
   pub fits : FitPart ns (bound x e)
-  pub spells : (r : List Sign) → spell (bound x e).value r ≡ b.bind x (spell e.value r)
+  pub spells : (r : List SymbolAt) → spell (bound x e).value r ≡ b.bind x (spell e.value r)
 
 made : (ns : List (List ℕ)) (l : ℕ) (x : Bind) (e : Part) → l ≤ 14 → FitBind ns l x → ht.least_bind x ≤ e.level → FitPart ns e → (bound x e).height ≤ 200 → Made ns l x e
 made ns l (bBinary a o at) e z f m p h = record { least = f.0; fits = part_fits ns _ _ _ h refl (f.1, omega (arith, m, p.level), f.2, p.shaped); spells = part_spells (level o) _ _ h }
@@ -191,22 +191,22 @@ made ns l (bComma es at) e z f m p h =
     record { least = f.0; fits = part_fits ns _ _ _ h refl (several es.value (Some at) e.value f.1, (comma_some _ at f.1, omega (arith, m, p.level), f.2, p.shaped)); spells = part_spells 0 _ _ h }
 
 -- what is whole where all that binds tighter is made whole
-pub record GoodHeld (file ns : List (List ℕ)) (p : List Sign → List Sign) (x : ex.Held) : Type 0 where
+pub record GoodHeld (file ns : List (List ℕ)) (p : List SymbolAt → List SymbolAt) (x : ex.Held) : Type 0 where
   pub least : least x.around ≤ x.value.level
   pub fits : FitPart (inner_names file x.around) x.value
   pub around : FitInner file x.around
-  pub reads : (r : List Sign) → b.inner x.around (spell x.value.value r) ≡ p r
+  pub reads : (r : List SymbolAt) → b.inner x.around (spell x.value.value r) ≡ p r
   pub names : ns ≡ inner_names file x.around
   pub high : high x.around x.value.height ≤ 200
 
 held_good : (file : List (List ℕ)) (k : Inner) (e : Part) → high k e.height ≤ 200 → least k ≤ e.level → FitPart (inner_names file k) e → FitInner file k → GoodHeld file (inner_names file k) (λ r. b.inner k (spell e.value r)) (ex.held e k)
 held_good file k e h l p f = record { least = l; fits = p; around = f; reads = λ r. refl; names = refl; high = h }
 
-pick_held : (file ns : List (List ℕ)) (p : List Sign → List Sign) (c : Bool) (x y : ex.Held) → GoodHeld file ns p x → GoodHeld file ns p y → GoodHeld file ns p (if c then x else y)
+pick_held : (file ns : List (List ℕ)) (p : List SymbolAt → List SymbolAt) (c : Bool) (x y : ex.Held) → GoodHeld file ns p x → GoodHeld file ns p y → GoodHeld file ns p (if c then x else y)
 pick_held file ns p true x y g h = g
 pick_held file ns p false x y g h = h
 
-same_held : (file ns : List (List ℕ)) (p q : List Sign → List Sign) (x : ex.Held) → ((r : List Sign) → p r ≡ q r) → GoodHeld file ns p x → GoodHeld file ns q x
+same_held : (file ns : List (List ℕ)) (p q : List SymbolAt → List SymbolAt) (x : ex.Held) → ((r : List SymbolAt) → p r ≡ q r) → GoodHeld file ns p x → GoodHeld file ns q x
 same_held file ns p q x e g = record { least = g.least; fits = g.fits; around = g.around; reads = λ r. g.reads r ∙ e r; names = g.names; high = g.high }
 
 pub fold_good : (file : List (List ℕ)) (k : Inner) (n : ℕ) (e : Part) → high k e.height ≤ 200 → least k ≤ e.level → FitPart (inner_names file k) e → FitInner file k → GoodHeld file (inner_names file k) (λ r. b.inner k (spell e.value r)) (ex.fold k n e)

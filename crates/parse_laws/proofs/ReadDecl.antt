@@ -3,7 +3,7 @@ use Rattle.std.proofs.Common.{◌≡◌, ℕ, suc, ◌≤◌, max, List, ◌∷�
 use Rattle.c_tree.specs.declared.symbol.Bracket.TheVariants as br
 use Rattle.c_tree.specs.declared.symbol.TypeWord.TheVariants as type
 use Rattle.c_tree.specs.declared.symbol.Symbol.TheVariants as sy
-use Rattle.c_tree.specs.declared.symbol.Sign.{Sign}
+use Rattle.c_tree.specs.declared.symbol.SymbolAt.{SymbolAt}
 use Rattle.c_tree.specs.declared.known.Site.{Site}
 use Rattle.c_tree.specs.declared.known.Site.TheVariants as site
 use Rattle.c_tree.specs.declared.known.Known.{Known}
@@ -31,7 +31,7 @@ use Rattle.parse_laws.proofs.WholeEx.{word_no_open, reads_word}
 
 -- Words.
 
-pub words_read : (ws : Words) (w : Around) (ns : List (List ℕ)) (k : Known) → known (sp.site_of w) ws ≡ Some k → sh.ShapedWords ns ws → around_high w (height_words ws) ≤ 200 → (rest : List Sign) → NoOpen rest → walk (spell_words ws rest) (stand (Specifiers mk.unspoken w) ns) ≡ walk rest (stand (Specifiers (worded ws k) w) ns)
+pub words_read : (ws : Words) (w : Around) (ns : List (List ℕ)) (k : Known) → known (sp.site_of w) ws ≡ Some k → sh.ShapedWords ns ws → around_high w (height_words ws) ≤ 200 → (rest : List SymbolAt) → NoOpen rest → walk (spell_words ws rest) (stand (Specifiers mk.unspoken w) ns) ≡ walk rest (stand (Specifiers (worded ws k) w) ns)
 words_read no_words w ns k e s h rest n = ap (λ q. walk rest (stand (Specifiers (mk.spoken no_words q 0) w) ns)) (some_same nothing_known k e)
 words_read (words_and ws x) w ns k e s h rest n =
     let z = known_before (sp.site_of w) x (known (sp.site_of w) ws) k e in
@@ -59,7 +59,7 @@ behind_param d a no_params = Parameters' d a
 behind_param d a (params_and ps c ws None) = Specifiers (bare ws) (parameter_around d a ps c)
 behind_param d a (params_and ps c ws (Some (named n at))) = Parameter d a (tall ps (hg.height_params ps)) c (bare ws) n at
 
-first_type : (ns : List (List ℕ)) (d : Declared) (a : ℕ) (x : Word) (z : Known) (rest : List Sign) → known site.Bare (words_and no_words x) ≡ Some z → walk (spell_word x rest) (stand (Parameters' d a) ns) ≡ walk (spell_word x rest) (stand (Specifiers mk.unspoken (parameter_around d a no_params None)) ns)
+first_type : (ns : List (List ℕ)) (d : Declared) (a : ℕ) (x : Word) (z : Known) (rest : List SymbolAt) → known site.Bare (words_and no_words x) ≡ Some z → walk (spell_word x rest) (stand (Parameters' d a) ns) ≡ walk (spell_word x rest) (stand (Specifiers mk.unspoken (parameter_around d a no_params None)) ns)
 first_type ns d a (wType type.Void at) z rest e = cc
 first_type ns d a (wType type.Bool at) z rest e = refl
 first_type ns d a (wType type.Char at) z rest e = refl
@@ -82,18 +82,18 @@ abbrev are_words : Words → Bool
 are_words no_words = false
 are_words (words_and ws x) = true
 
-first_any : (ns : List (List ℕ)) (d : Declared) (a : ℕ) (ws : Words) (k : Known) (rest : List Sign) → known site.Bare ws ≡ Some k → are_words ws ≡ true → walk (spell_words ws rest) (stand (Parameters' d a) ns) ≡ walk (spell_words ws rest) (stand (Specifiers mk.unspoken (parameter_around d a no_params None)) ns)
+first_any : (ns : List (List ℕ)) (d : Declared) (a : ℕ) (ws : Words) (k : Known) (rest : List SymbolAt) → known site.Bare ws ≡ Some k → are_words ws ≡ true → walk (spell_words ws rest) (stand (Parameters' d a) ns) ≡ walk (spell_words ws rest) (stand (Specifiers mk.unspoken (parameter_around d a no_params None)) ns)
 first_any ns d a no_words k rest e t = cc
 first_any ns d a (words_and no_words x) k rest e t = first_type ns d a x k rest e
 first_any ns d a (words_and (words_and ws y) x) k rest e t =
     let z = known_before site.Bare x (known site.Bare (words_and ws y)) k e in first_more ns d a ws y z.told (spell_word x rest) z.was
   where
-    first_more : (ns : List (List ℕ)) (d : Declared) (a : ℕ) (ws : Words) (y : Word) (k : Known) (rest : List Sign) → known site.Bare (words_and ws y) ≡ Some k → walk (spell_words ws (spell_word y rest)) (stand (Parameters' d a) ns) ≡ walk (spell_words ws (spell_word y rest)) (stand (Specifiers mk.unspoken (parameter_around d a no_params None)) ns)
+    first_more : (ns : List (List ℕ)) (d : Declared) (a : ℕ) (ws : Words) (y : Word) (k : Known) (rest : List SymbolAt) → known site.Bare (words_and ws y) ≡ Some k → walk (spell_words ws (spell_word y rest)) (stand (Parameters' d a) ns) ≡ walk (spell_words ws (spell_word y rest)) (stand (Specifiers mk.unspoken (parameter_around d a no_params None)) ns)
     first_more ns d a no_words y k rest e = first_type ns d a y k rest e
     first_more ns d a (words_and ws x) y k rest e = let z = known_before site.Bare y (known site.Bare (words_and ws x)) k e in first_more ns d a ws x z.told (spell_word y rest) z.was
 
 -- the first word of the first parameter
-first_param : (ns : List (List ℕ)) (d : Declared) (a : ℕ) (ws : Words) (k : Known) (rest : List Sign) → known site.Bare ws ≡ Some k → is_typed k.typing ≡ true → walk (spell_words ws rest) (stand (Parameters' d a) ns) ≡ walk (spell_words ws rest) (stand (Specifiers mk.unspoken (parameter_around d a no_params None)) ns)
+first_param : (ns : List (List ℕ)) (d : Declared) (a : ℕ) (ws : Words) (k : Known) (rest : List SymbolAt) → known site.Bare ws ≡ Some k → is_typed k.typing ≡ true → walk (spell_words ws rest) (stand (Parameters' d a) ns) ≡ walk (spell_words ws rest) (stand (Specifiers mk.unspoken (parameter_around d a no_params None)) ns)
 first_param ns d a no_words k rest e t = let n : nothing_known ≡ k = some_same nothing_known k e in let r : false ≡ true = ap (λ z. is_typed z.typing) n ∙ t in cc
 first_param ns d a (words_and no_words x) k rest e t = first_type ns d a x k rest e
 first_param ns d a (words_and (words_and ws y) x) k rest e t =
@@ -107,11 +107,11 @@ params_low d ps c h g i j l =
     le_trans (parameters_mono d.around (above (max (hg.height_params ps) (above h))) (suc g) (omega (arith, i, j, v, above_is (max (hg.height_params ps) (above h)) (omega (arith, i, j, v, u))))) l
 
 -- no `{` behind a parameter's words
-name_no_open : (n : Option Name) (rest : List Sign) → NoOpen rest → NoOpen (spell_option_name n rest)
+name_no_open : (n : Option Name) (rest : List SymbolAt) → NoOpen rest → NoOpen (spell_option_name n rest)
 name_no_open None rest h = h
 name_no_open (Some (named n at)) rest h = refl
 
-param_end : (ns : List (List ℕ)) (d : Declared) (a : ℕ) (ps : Params) (c : Option ℕ) (ws : Words) (n : Option Name) (rest : List Sign) → is_typed (told_of (known site.Bare ws)).typing ≡ true → sh.ShapedOptionName ns n → (g : ℕ) → hg.height_params ps ≤ g → suc (height_words ws) ≤ g → ht.parameters_high d.around (suc g) ≤ 200 → walk (spell_option_name n rest) (stand (Specifiers (bare ws) (parameter_around d a ps c)) ns) ≡ walk rest (stand (behind_param d a (params_and ps c ws n)) ns)
+param_end : (ns : List (List ℕ)) (d : Declared) (a : ℕ) (ps : Params) (c : Option ℕ) (ws : Words) (n : Option Name) (rest : List SymbolAt) → is_typed (told_of (known site.Bare ws)).typing ≡ true → sh.ShapedOptionName ns n → (g : ℕ) → hg.height_params ps ≤ g → suc (height_words ws) ≤ g → ht.parameters_high d.around (suc g) ≤ 200 → walk (spell_option_name n rest) (stand (Specifiers (bare ws) (parameter_around d a ps c)) ns) ≡ walk rest (stand (behind_param d a (params_and ps c ws n)) ns)
 param_end ns d a ps c ws None rest t s g i j l = refl
 param_end ns d a ps c ws (Some (named n at)) rest t s g i j l =
     go (sign (sy.Name n) at) rest (Specifiers (bare ws) (parameter_around d a ps c)) (Parameter d a (tall ps (hg.height_params ps)) c (bare ws) n at) ns ns
@@ -123,7 +123,7 @@ more_same : (ps : Params) (c : Option ℕ) (ws : Words) (n : Option Name) → he
 more_same ps c ws n h = ap (λ z. tall (params_and ps c ws n) (max (hg.height_params ps) z)) (above_is (height_words ws) h)
 
 -- behind a parameter
-param_comma : (ns : List (List ℕ)) (d : Declared) (a : ℕ) (ps : Params) (c : Option ℕ) (ws : Words) (n : Option Name) (at : ℕ) (rest : List Sign) → is_typed (told_of (known site.Bare ws)).typing ≡ true → (g : ℕ) → 1 ≤ g → hg.height_params (params_and ps c ws n) ≤ g → ht.parameters_high d.around (suc g) ≤ 200 → walk (sign sy.Comma at ∷ rest) (stand (behind_param d a (params_and ps c ws n)) ns) ≡ walk rest (stand (Specifiers mk.unspoken (parameter_around d a (params_and ps c ws n) (Some at))) ns)
+param_comma : (ns : List (List ℕ)) (d : Declared) (a : ℕ) (ps : Params) (c : Option ℕ) (ws : Words) (n : Option Name) (at : ℕ) (rest : List SymbolAt) → is_typed (told_of (known site.Bare ws)).typing ≡ true → (g : ℕ) → 1 ≤ g → hg.height_params (params_and ps c ws n) ≤ g → ht.parameters_high d.around (suc g) ≤ 200 → walk (sign sy.Comma at ∷ rest) (stand (behind_param d a (params_and ps c ws n)) ns) ≡ walk rest (stand (Specifiers mk.unspoken (parameter_around d a (params_and ps c ws n) (Some at))) ns)
 param_comma ns d a ps c ws None at rest t g o i l =
     let u : suc g ≤ 200 = omega (arith, parameters_ge d.around (suc g), l) in
     go (sign sy.Comma at) rest (Specifiers (bare ws) (parameter_around d a ps c)) (Specifiers mk.unspoken (parameter_around d a (params_and ps c ws None) (Some at))) ns ns
@@ -136,7 +136,7 @@ param_comma ns d a ps c ws (Some (named n x)) at rest t g o i l =
     (ap (λ z. stand (sp.parameters_more d a z at) ns) (more_same ps c ws (Some (named n x)) (omega (arith, i, u))))
     (params_low d (params_and ps c ws (Some (named n x))) (Some at) 0 g i o l)
 
-param_close : (ns : List (List ℕ)) (d : Declared) (a : ℕ) (ps : Params) (c : Option ℕ) (ws : Words) (n : Option Name) (at : ℕ) (rest : List Sign) → is_typed (told_of (known site.Bare ws)).typing ≡ true → hg.height_params (params_and ps c ws n) ≤ 200 → low (Behind (mk.with_form d (tall (fFunction (pSome a (params_and ps c ws n) at)) (suc (hg.height_params (params_and ps c ws n)))))) ≤ 200 → walk (closing br.Round at ∷ rest) (stand (behind_param d a (params_and ps c ws n)) ns) ≡ walk rest (stand (Behind (mk.with_form d (tall (fFunction (pSome a (params_and ps c ws n) at)) (suc (hg.height_params (params_and ps c ws n)))))) ns)
+param_close : (ns : List (List ℕ)) (d : Declared) (a : ℕ) (ps : Params) (c : Option ℕ) (ws : Words) (n : Option Name) (at : ℕ) (rest : List SymbolAt) → is_typed (told_of (known site.Bare ws)).typing ≡ true → hg.height_params (params_and ps c ws n) ≤ 200 → low (Behind (mk.with_form d (tall (fFunction (pSome a (params_and ps c ws n) at)) (suc (hg.height_params (params_and ps c ws n)))))) ≤ 200 → walk (closing br.Round at ∷ rest) (stand (behind_param d a (params_and ps c ws n)) ns) ≡ walk rest (stand (Behind (mk.with_form d (tall (fFunction (pSome a (params_and ps c ws n) at)) (suc (hg.height_params (params_and ps c ws n)))))) ns)
 param_close ns d a ps c ws None at rest t i l =
     go (closing br.Round at) rest (Specifiers (bare ws) (parameter_around d a ps c)) _ ns ns
     (ap (kept ns) (if_true (is_typed (told_of (known site.Bare ws)).typing) (sp.behind_words (sy.Close br.Round) at (bare ws) (parameter_around d a ps c)) None t)
@@ -150,11 +150,11 @@ param_close ns d a ps c ws (Some (named n x)) at rest t i l =
 typed_told : (s : Site) (ws : Words) (f : sh.AreSpecs s ws) → is_typed (told_of (known s ws)).typing ≡ true
 typed_told s ws f = ap (λ k. is_typed k.typing) (told_is (known s ws) f.told f.together) ∙ f.typed
 
-params_comma : (ps : Params) (ns : List (List ℕ)) (d : Declared) (a : ℕ) (at : ℕ) → sh.IsComma (sh.are_no_params ps) (Some at) → sh.ShapedParams ns ps → (g : ℕ) → 1 ≤ g → hg.height_params ps ≤ g → ht.parameters_high d.around (suc g) ≤ 200 → (rest : List Sign) → walk (sign sy.Comma at ∷ rest) (stand (behind_param d a ps) ns) ≡ walk rest (stand (Specifiers mk.unspoken (parameter_around d a ps (Some at))) ns)
+params_comma : (ps : Params) (ns : List (List ℕ)) (d : Declared) (a : ℕ) (at : ℕ) → sh.IsComma (sh.are_no_params ps) (Some at) → sh.ShapedParams ns ps → (g : ℕ) → 1 ≤ g → hg.height_params ps ≤ g → ht.parameters_high d.around (suc g) ≤ 200 → (rest : List SymbolAt) → walk (sign sy.Comma at ∷ rest) (stand (behind_param d a ps) ns) ≡ walk rest (stand (Specifiers mk.unspoken (parameter_around d a ps (Some at))) ns)
 params_comma no_params ns d a at c s g o i l rest = absurd c
 params_comma (params_and ps x ws n) ns d a at c s g o i l rest = param_comma ns d a ps x ws n at rest (typed_told site.Bare ws s.1) g o i l
 
-params_read : (ps : Params) (ns : List (List ℕ)) (d : Declared) (a : ℕ) → sh.ShapedParams ns ps → (g : ℕ) → 1 ≤ g → hg.height_params ps ≤ g → ht.parameters_high d.around (suc g) ≤ 200 → (rest : List Sign) → NoOpen rest → walk (spell_params ps rest) (stand (Parameters' d a) ns) ≡ walk rest (stand (behind_param d a ps) ns)
+params_read : (ps : Params) (ns : List (List ℕ)) (d : Declared) (a : ℕ) → sh.ShapedParams ns ps → (g : ℕ) → 1 ≤ g → hg.height_params ps ≤ g → ht.parameters_high d.around (suc g) ≤ 200 → (rest : List SymbolAt) → NoOpen rest → walk (spell_params ps rest) (stand (Parameters' d a) ns) ≡ walk rest (stand (behind_param d a ps) ns)
 params_read no_params ns d a s g o i l rest n = refl
 params_read (params_and no_params None ws x) ns d a s g o i l rest n =
     first_param ns d a ws s.1.told (spell_option_name x rest) s.1.together s.1.typed
@@ -170,7 +170,7 @@ params_read (params_and ps (Some at) ws x) ns d a s g o i l rest n =
     ∙ ap (λ k. walk (spell_option_name x rest) (stand (Specifiers (worded ws k) (parameter_around d a ps (Some at))) ns)) (sym (told_is (known site.Bare ws) s.1.told s.1.together))
     ∙ param_end ns d a ps (Some at) ws x rest (typed_told site.Bare ws s.1) s.3 g (omega (arith, i)) (omega (arith, i)) l
 
-pub parameters_read : (ps : Parameters) (ns : List (List ℕ)) (d : Declared) → sh.ShapedParameters ns ps → decl.may_be_function d ≡ true → ht.parameters_high d.around (hg.height_parameters ps) ≤ 200 → low (Behind (mk.with_form d (tall (fFunction ps) (hg.height_parameters ps)))) ≤ 200 → (rest : List Sign) → walk (spell_parameters ps rest) (stand (Behind d) ns) ≡ walk rest (stand (Behind (mk.with_form d (tall (fFunction ps) (hg.height_parameters ps)))) ns)
+pub parameters_read : (ps : Parameters) (ns : List (List ℕ)) (d : Declared) → sh.ShapedParameters ns ps → decl.may_be_function d ≡ true → ht.parameters_high d.around (hg.height_parameters ps) ≤ 200 → low (Behind (mk.with_form d (tall (fFunction ps) (hg.height_parameters ps)))) ≤ 200 → (rest : List SymbolAt) → walk (spell_parameters ps rest) (stand (Behind d) ns) ≡ walk rest (stand (Behind (mk.with_form d (tall (fFunction ps) (hg.height_parameters ps)))) ns)
 parameters_read (pUnknown a c) ns d s m h l rest =
     go (opening br.Round a) (closing br.Round c ∷ rest) (Behind d) (Parameters' d a) ns ns (ap (kept ns) (when_true (decl.may_be_function d) (Parameters' d a) m)) h
     ∙ go (closing br.Round c) rest (Parameters' d a) (Behind (mk.with_form d (tall (fFunction (pUnknown a c)) 1))) ns ns refl l

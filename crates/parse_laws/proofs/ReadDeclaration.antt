@@ -1,7 +1,7 @@
 -- The machine goes through each shaped declaration.
 use Rattle.std.proofs.Common.{◌≡◌, ℕ, suc, ◌≤◌, ◌+◌, max, List, ◌∷◌, Option, None, Some, Bool, true, false, not, if◌then◌else◌, leb, refl, sym, ap, ◌∙◌, arith, le-leb}
 use Rattle.c_tree.specs.declared.symbol.Symbol.TheVariants as sy
-use Rattle.c_tree.specs.declared.symbol.Sign.{Sign}
+use Rattle.c_tree.specs.declared.symbol.SymbolAt.{SymbolAt}
 use Rattle.c_tree.specs.declared.known.Site.{Site}
 use Rattle.c_tree.specs.declared.known.Known.{Known}
 use Rattle.c_tree.specs.Symbols.{sign}
@@ -79,7 +79,7 @@ value_fold : (ns : List (List ℕ)) (d : Declared) (x : ℕ) (e : Ex) (m : ℕ) 
 value_fold ns d x e m g t v q i j l = folded ns e (inBase (baseInitial d x)) m t (omega (arith, q, pull_one e v)) (omega (arith, q)) (declared_low d (height e) g i j l) tt
 
 -- behind a declared name
-dec_comma : (i : Initial) (ns ms : List (List ℕ)) (p : Place) (s : Spoken) (ds : Decs) (c : Option ℕ) (n : List ℕ) (at : ℕ) (f : Form) (ats : Ats) (x : ℕ) → sh.ShapedInitial ns i → sh.may_declare (ht.site_of_place p) s.told f i ≡ true → (g : ℕ) → suc (max (max (hg.height_form f) (hg.height_attributes ats)) (hg.height_initial i)) ≤ g → suc (ht.form_needs f) ≤ g → hg.height_declarators ds ≤ g → suc (ht.place_depth p) + g ≤ 200 → ns ≡ sh.declared s.told ds ms → (rest : List Sign) → walk (sign sy.Comma x ∷ rest) (stand (behind_initial (entire p s ds c n at f ats) i) (sh.declared s.told ds ms)) ≡ walk rest (stand (Next (so_far p s (declarators_and ds c (named n at) f ats i)) x) (sh.declared s.told (declarators_and ds c (named n at) f ats i) ms))
+dec_comma : (i : Initial) (ns ms : List (List ℕ)) (p : Place) (s : Spoken) (ds : Decs) (c : Option ℕ) (n : List ℕ) (at : ℕ) (f : Form) (ats : Ats) (x : ℕ) → sh.ShapedInitial ns i → sh.may_declare (ht.site_of_place p) s.told f i ≡ true → (g : ℕ) → suc (max (max (hg.height_form f) (hg.height_attributes ats)) (hg.height_initial i)) ≤ g → suc (ht.form_needs f) ≤ g → hg.height_declarators ds ≤ g → suc (ht.place_depth p) + g ≤ 200 → ns ≡ sh.declared s.told ds ms → (rest : List SymbolAt) → walk (sign sy.Comma x ∷ rest) (stand (behind_initial (entire p s ds c n at f ats) i) (sh.declared s.told ds ms)) ≡ walk rest (stand (Next (so_far p s (declarators_and ds c (named n at) f ats i)) x) (sh.declared s.told (declarators_and ds c (named n at) f ats i) ms))
 dec_comma iNothing ns ms p s ds c n at f ats x t m g i j y l q rest =
     let d = entire p s ds c n at f ats in
     go (sign sy.Comma x) rest (Behind d) (Next (so_far p s (declarators_and ds c (named n at) f ats iNothing)) x) (sh.declared s.told ds ms) (sh.declared s.told (declarators_and ds c (named n at) f ats iNothing) ms)
@@ -102,7 +102,7 @@ dec_comma (iList v a es u z) ns ms p s ds c n at f ats x t m g i j y l q rest =
     ∙ ap (stand (Next (so_far p s (declarators_and ds c (named n at) f ats (iList v a es u z))) x)) (names_same s.told ds c (named n at) f ats (iList v a es u z) ms (list_object (ht.site_of_place p) s.told f v a es u z m)))
     (omega (arith, i, y, l))
 
-dec_end : (i : Initial) (ns ms : List (List ℕ)) (p : Place) (s : Spoken) (ds : Decs) (c : Option ℕ) (n : List ℕ) (at : ℕ) (f : Form) (ats : Ats) (x : ℕ) → sh.ShapedInitial ns i → sh.may_declare (ht.site_of_place p) s.told f i ≡ true → (g : ℕ) → suc (max (max (hg.height_form f) (hg.height_attributes ats)) (hg.height_initial i)) ≤ g → suc (ht.form_needs f) ≤ g → hg.height_declarators ds ≤ g → suc (ht.place_depth p) + g ≤ 200 → low (ex.ended (so_far p s (declarators_and ds c (named n at) f ats i)) x) ≤ 200 → (rest : List Sign) → walk (sign sy.Semicolon x ∷ rest) (stand (behind_initial (entire p s ds c n at f ats) i) (sh.declared s.told ds ms)) ≡ walk rest (stand (ex.ended (so_far p s (declarators_and ds c (named n at) f ats i)) x) (sh.declared s.told (declarators_and ds c (named n at) f ats i) ms))
+dec_end : (i : Initial) (ns ms : List (List ℕ)) (p : Place) (s : Spoken) (ds : Decs) (c : Option ℕ) (n : List ℕ) (at : ℕ) (f : Form) (ats : Ats) (x : ℕ) → sh.ShapedInitial ns i → sh.may_declare (ht.site_of_place p) s.told f i ≡ true → (g : ℕ) → suc (max (max (hg.height_form f) (hg.height_attributes ats)) (hg.height_initial i)) ≤ g → suc (ht.form_needs f) ≤ g → hg.height_declarators ds ≤ g → suc (ht.place_depth p) + g ≤ 200 → low (ex.ended (so_far p s (declarators_and ds c (named n at) f ats i)) x) ≤ 200 → (rest : List SymbolAt) → walk (sign sy.Semicolon x ∷ rest) (stand (behind_initial (entire p s ds c n at f ats) i) (sh.declared s.told ds ms)) ≡ walk rest (stand (ex.ended (so_far p s (declarators_and ds c (named n at) f ats i)) x) (sh.declared s.told (declarators_and ds c (named n at) f ats i) ms))
 dec_end iNothing ns ms p s ds c n at f ats x t m g i j y l q rest =
     let d = entire p s ds c n at f ats in
     go (sign sy.Semicolon x) rest (Behind d) (ex.ended (so_far p s (declarators_and ds c (named n at) f ats iNothing)) x) (sh.declared s.told ds ms) (sh.declared s.told (declarators_and ds c (named n at) f ats iNothing) ms)
@@ -122,13 +122,13 @@ dec_end (iList v a es u z) ns ms p s ds c n at f ats x t m g i j y l q rest =
     (ap (λ w. stand (ex.ended w x) (sh.declared s.told ds ms)) (with_height d (iList v a es u z) (suc (height_parts es)) (omega (arith, i, l)))
     ∙ ap (stand (ex.ended (so_far p s (declarators_and ds c (named n at) f ats (iList v a es u z))) x)) (names_same s.told ds c (named n at) f ats (iList v a es u z) ms (list_object (ht.site_of_place p) s.told f v a es u z m))) q
 
-decs_comma : (ds : Decs) (ms : List (List ℕ)) (p : Place) (s : Spoken) (x : ℕ) → sh.ShapedDeclarators (ht.site_of_place p) s.told ms ds → sh.are_no_declarators ds ≡ false → (g : ℕ) → hg.height_declarators ds ≤ g → suc (ht.place_depth p) + g ≤ 200 → (rest : List Sign) → walk (sign sy.Comma x ∷ rest) (stand (behind_decs p s ds) (names_in s.told ds ms)) ≡ walk rest (stand (Next (so_far p s ds) x) (sh.declared s.told ds ms))
+decs_comma : (ds : Decs) (ms : List (List ℕ)) (p : Place) (s : Spoken) (x : ℕ) → sh.ShapedDeclarators (ht.site_of_place p) s.told ms ds → sh.are_no_declarators ds ≡ false → (g : ℕ) → hg.height_declarators ds ≤ g → suc (ht.place_depth p) + g ≤ 200 → (rest : List SymbolAt) → walk (sign sy.Comma x ∷ rest) (stand (behind_decs p s ds) (names_in s.told ds ms)) ≡ walk rest (stand (Next (so_far p s ds) x) (sh.declared s.told ds ms))
 decs_comma no_declarators ms p s x t e g i l rest = cc
 decs_comma (declarators_and ds c (named n at) f ats v) ms p s x t e g i l rest =
     dec_comma v (sh.declared s.told ds ms) ms p s ds c n at f ats x t.6 t.2 g (omega (arith, i)) (omega (arith, i, needs_le (sh.declared s.told ds ms) (ht.site_of_place p) s.told f v t.2 t.6)) (omega (arith, i)) l refl rest
 
 -- what stands behind the name
-rest_read : (ms : List (List ℕ)) (p : Place) (s : Spoken) (ds : Decs) (c : Option ℕ) (n : List ℕ) (at : ℕ) (f : Form) (ats : Ats) (v : Initial) (t : sh.ShapedDeclarators (ht.site_of_place p) s.told ms (declarators_and ds c (named n at) f ats v)) (g : ℕ) → hg.height_declarators (declarators_and ds c (named n at) f ats v) ≤ g → suc (ht.place_depth p) + g ≤ 200 → (rest : List Sign) → walk (spell_form f (spell_attributes ats (spell_initial v rest))) (stand (Behind (mk.declared_plain (so_far p s ds) c n at)) (sh.declared s.told ds ms)) ≡ walk rest (stand (behind_initial (entire p s ds c n at f ats) v) (sh.declared s.told ds ms))
+rest_read : (ms : List (List ℕ)) (p : Place) (s : Spoken) (ds : Decs) (c : Option ℕ) (n : List ℕ) (at : ℕ) (f : Form) (ats : Ats) (v : Initial) (t : sh.ShapedDeclarators (ht.site_of_place p) s.told ms (declarators_and ds c (named n at) f ats v)) (g : ℕ) → hg.height_declarators (declarators_and ds c (named n at) f ats v) ≤ g → suc (ht.place_depth p) + g ≤ 200 → (rest : List SymbolAt) → walk (spell_form f (spell_attributes ats (spell_initial v rest))) (stand (Behind (mk.declared_plain (so_far p s ds) c n at)) (sh.declared s.told ds ms)) ≡ walk rest (stand (behind_initial (entire p s ds c n at f ats) v) (sh.declared s.told ds ms))
 rest_read ms p s ds c n at f ats v t g i l rest =
     let ns = sh.declared s.told ds ms in
     let w = needs_le ns (ht.site_of_place p) s.told f v t.2 t.6 in
@@ -139,13 +139,13 @@ rest_read ms p s ds c n at f ats v t g i l rest =
 plain_low : (p : Place) (s : Spoken) (ds : Decs) (c : Option ℕ) (n : List ℕ) (at g : ℕ) → 1 ≤ g → suc (ht.place_depth p) + g ≤ 200 → low (Behind (mk.declared_plain (so_far p s ds) c n at)) ≤ 200
 plain_low p s ds c n at g i l = declared_low (mk.declared_plain (so_far p s ds) c n at) 0 g (omega (arith, i)) (omega (arith, i)) l
 
-pub first_name : (ns : List (List ℕ)) (p : Place) (s : Spoken) (n : List ℕ) (at : ℕ) → sh.has ns n ≡ false → is_typed s.told.typing ≡ true → (rest : List Sign) → low (Behind (mk.declared_plain (so_far p s no_declarators) None n at)) ≤ 200 → walk (b.name_sign n at ∷ rest) (stand (Specifiers s (aroundPlace p)) ns) ≡ walk rest (stand (Behind (mk.declared_plain (so_far p s no_declarators) None n at)) ns)
+pub first_name : (ns : List (List ℕ)) (p : Place) (s : Spoken) (n : List ℕ) (at : ℕ) → sh.has ns n ≡ false → is_typed s.told.typing ≡ true → (rest : List SymbolAt) → low (Behind (mk.declared_plain (so_far p s no_declarators) None n at)) ≤ 200 → walk (b.name_sign n at ∷ rest) (stand (Specifiers s (aroundPlace p)) ns) ≡ walk rest (stand (Behind (mk.declared_plain (so_far p s no_declarators) None n at)) ns)
 first_name ns p s n at h y rest l =
     go (b.name_sign n at) rest (Specifiers s (aroundPlace p)) (Behind (mk.declared_plain (so_far p s no_declarators) None n at)) ns ns
     (ap (λ q. kept ns (sp.step_kind (if q then spTypedef n else spOther) (sy.Name n) at s (aroundPlace p))) h
     ∙ ap (kept ns) (if_true (is_typed s.told.typing) (sp.behind_words (sy.Name n) at s (aroundPlace p)) None y)) l
 
-decs_read : (ds : Decs) (ms : List (List ℕ)) (p : Place) (s : Spoken) → sh.ShapedDeclarators (ht.site_of_place p) s.told ms ds → is_typed s.told.typing ≡ true → (g : ℕ) → hg.height_declarators ds ≤ g → suc (ht.place_depth p) + g ≤ 200 → (rest : List Sign) → walk (spell_declarators ds rest) (stand (Specifiers s (aroundPlace p)) ms) ≡ walk rest (stand (behind_decs p s ds) (names_in s.told ds ms))
+decs_read : (ds : Decs) (ms : List (List ℕ)) (p : Place) (s : Spoken) → sh.ShapedDeclarators (ht.site_of_place p) s.told ms ds → is_typed s.told.typing ≡ true → (g : ℕ) → hg.height_declarators ds ≤ g → suc (ht.place_depth p) + g ≤ 200 → (rest : List SymbolAt) → walk (spell_declarators ds rest) (stand (Specifiers s (aroundPlace p)) ms) ≡ walk rest (stand (behind_decs p s ds) (names_in s.told ds ms))
 decs_read no_declarators ms p s t y g i l rest = refl
 decs_read (declarators_and no_declarators None (named n at) f ats v) ms p s t y g i l rest =
     first_name ms p s n at t.3 y (spell_form f (spell_attributes ats (spell_initial v rest))) (plain_low p s no_declarators None n at g (omega (arith, i)) l)
@@ -165,7 +165,7 @@ ended_low placeFile s ds x g i j l = omega (arith, i, j, l, above_is s.height (o
 ended_low (placeBlock o) s ds x g i j l = omega (arith, l)
 ended_low (placeFor m y a o) s ds x g i j l = omega (arith, l)
 
-end_read : (ds : Decs) (ms : List (List ℕ)) (p : Place) (s : Spoken) (x : ℕ) → sh.ShapedDeclarators (ht.site_of_place p) s.told ms ds → sh.may_end s.told ds ≡ true → is_typed s.told.typing ≡ true → (g : ℕ) → hg.height_declarators ds ≤ g → suc s.height ≤ g → suc (ht.place_depth p) + g ≤ 200 → (rest : List Sign) → walk (sign sy.Semicolon x ∷ rest) (stand (behind_decs p s ds) (names_in s.told ds ms)) ≡ walk rest (stand (ex.ended (so_far p s ds) x) (sh.declared s.told ds ms))
+end_read : (ds : Decs) (ms : List (List ℕ)) (p : Place) (s : Spoken) (x : ℕ) → sh.ShapedDeclarators (ht.site_of_place p) s.told ms ds → sh.may_end s.told ds ≡ true → is_typed s.told.typing ≡ true → (g : ℕ) → hg.height_declarators ds ≤ g → suc s.height ≤ g → suc (ht.place_depth p) + g ≤ 200 → (rest : List SymbolAt) → walk (sign sy.Semicolon x ∷ rest) (stand (behind_decs p s ds) (names_in s.told ds ms)) ≡ walk rest (stand (ex.ended (so_far p s ds) x) (sh.declared s.told ds ms))
 end_read no_declarators ms p s x t m y g i j l rest =
     go (sign sy.Semicolon x) rest (Specifiers s (aroundPlace p)) (ex.ended (so_far p s no_declarators) x) ms ms
     (ap (kept ms) (if_true (is_typed s.told.typing) (sp.behind_words sy.Semicolon x s (aroundPlace p)) None y)
@@ -174,7 +174,7 @@ end_read (declarators_and ds c (named n at) f ats v) ms p s x t m y g i j l rest
     dec_end v (sh.declared s.told ds ms) ms p s ds c n at f ats x t.6 t.2 g (omega (arith, i)) (omega (arith, i, needs_le (sh.declared s.told ds ms) (ht.site_of_place p) s.told f v t.2 t.6)) (omega (arith, i)) l (ended_low p s (declarators_and ds c (named n at) f ats v) x g i j l) rest
 
 -- behind the words of a declaration
-pub declared_read : (ws : Words) (ds : Decs) (x : ℕ) (ms : List (List ℕ)) (p : Place) (f : sh.ShapedDeclares (ht.site_of_place p) ms ws ds) → ht.place_depth p + suc (max (suc (height_words ws)) (hg.height_declarators ds)) ≤ 200 → (rest : List Sign) → walk (spell_declarators ds (sign sy.Semicolon x ∷ rest)) (stand (Specifiers (worded ws f.specs.told) (aroundPlace p)) ms) ≡ walk rest (stand (ex.ended (so_far p (worded ws f.specs.told) ds) x) (sh.declared f.specs.told ds ms))
+pub declared_read : (ws : Words) (ds : Decs) (x : ℕ) (ms : List (List ℕ)) (p : Place) (f : sh.ShapedDeclares (ht.site_of_place p) ms ws ds) → ht.place_depth p + suc (max (suc (height_words ws)) (hg.height_declarators ds)) ≤ 200 → (rest : List SymbolAt) → walk (spell_declarators ds (sign sy.Semicolon x ∷ rest)) (stand (Specifiers (worded ws f.specs.told) (aroundPlace p)) ms) ≡ walk rest (stand (ex.ended (so_far p (worded ws f.specs.told) ds) x) (sh.declared f.specs.told ds ms))
 declared_read ws ds x ms p f l rest =
     let g = max (suc (height_words ws)) (hg.height_declarators ds) in
     let s = worded ws f.specs.told in

@@ -3,7 +3,7 @@ use Rattle.std.proofs.Common.{◌≡◌, ℕ, suc, ◌≤◌, ◌+◌, max, List
 use Rattle.c_tree.specs.declared.symbol.AssignOp.TheVariants as to
 use Rattle.c_tree.specs.declared.symbol.Bracket.TheVariants as br
 use Rattle.c_tree.specs.declared.symbol.Symbol.TheVariants as sy
-use Rattle.c_tree.specs.declared.symbol.Sign.{Sign}
+use Rattle.c_tree.specs.declared.symbol.SymbolAt.{SymbolAt}
 use Rattle.c_tree.specs.declared.known.Site.{Site}
 use Rattle.c_tree.specs.declared.known.Known.{Known}
 use Rattle.c_tree.specs.Symbols.{sign}
@@ -77,7 +77,7 @@ may_attribute s k (fArray a (Some e) c) (iValue at x) h = cc
 may_attribute s k (fArray a (Some e) c) (iList at x es d y) h = and_left (not (is_void k.typing)) (not (is_typedef k.storage)) h
 may_attribute s k (fFunction ps) i h = refl
 
-pub attributes_read : (ats : Ats) (ns : List (List ℕ)) (p : Place) (s : Spoken) (ds : Decs) (c : Option ℕ) (n : List ℕ) (at : ℕ) (f : Form) → sh.ShapedAttributes ats → (ht.is_function f || not (is_void s.told.typing)) ≡ true → (g : ℕ) → suc (max (hg.height_form f) (hg.height_attributes ats)) ≤ g → suc (ht.form_needs f) ≤ g → suc (ht.place_depth p) + g ≤ 200 → (rest : List Sign) → walk (spell_attributes ats rest) (stand (Behind (entire p s ds c n at f no_attributes)) ns) ≡ walk rest (stand (Behind (entire p s ds c n at f ats)) ns)
+pub attributes_read : (ats : Ats) (ns : List (List ℕ)) (p : Place) (s : Spoken) (ds : Decs) (c : Option ℕ) (n : List ℕ) (at : ℕ) (f : Form) → sh.ShapedAttributes ats → (ht.is_function f || not (is_void s.told.typing)) ≡ true → (g : ℕ) → suc (max (hg.height_form f) (hg.height_attributes ats)) ≤ g → suc (ht.form_needs f) ≤ g → suc (ht.place_depth p) + g ≤ 200 → (rest : List SymbolAt) → walk (spell_attributes ats rest) (stand (Behind (entire p s ds c n at f no_attributes)) ns) ≡ walk rest (stand (Behind (entire p s ds c n at f ats)) ns)
 attributes_read no_attributes ns p s ds c n at f t m g i j l rest = refl
 attributes_read (attributes_and ats x) ns p s ds c n at f t m g i j l rest =
     let d = entire p s ds c n at f ats in
@@ -101,7 +101,7 @@ function_place (placeFor m a x o) k ps iNothing h = cc
 function_place p k ps (iValue at e) h = cc
 function_place p k ps (iList at a es c x) h = cc
 
-pub form_read : (f : Form) (ns : List (List ℕ)) (p : Place) (s : Spoken) (ds : Decs) (c : Option ℕ) (n : List ℕ) (at : ℕ) (i : Initial) → sh.ShapedForm ns f → sh.may_declare (ht.site_of_place p) s.told f i ≡ true → (g : ℕ) → suc (hg.height_form f) ≤ g → suc (ht.form_needs f) ≤ g → suc (ht.place_depth p) + g ≤ 200 → (rest : List Sign) → walk (spell_form f rest) (stand (Behind (mk.declared_plain (so_far p s ds) c n at)) ns) ≡ walk rest (stand (Behind (entire p s ds c n at f no_attributes)) ns)
+pub form_read : (f : Form) (ns : List (List ℕ)) (p : Place) (s : Spoken) (ds : Decs) (c : Option ℕ) (n : List ℕ) (at : ℕ) (i : Initial) → sh.ShapedForm ns f → sh.may_declare (ht.site_of_place p) s.told f i ≡ true → (g : ℕ) → suc (hg.height_form f) ≤ g → suc (ht.form_needs f) ≤ g → suc (ht.place_depth p) + g ≤ 200 → (rest : List SymbolAt) → walk (spell_form f rest) (stand (Behind (mk.declared_plain (so_far p s ds) c n at)) ns) ≡ walk rest (stand (Behind (entire p s ds c n at f no_attributes)) ns)
 form_read fPlain ns p s ds c n at i t m g a j l rest = refl
 form_read (fArray x None y) ns p s ds c n at i t m g a j l rest =
     let d = mk.declared_plain (so_far p s ds) c n at in
@@ -139,7 +139,7 @@ part_high : (d : Declared) (x a : ℕ) (es : Parts) (c : Option ℕ) (h g : ℕ)
 part_high d x a es c h g i j l =
     subst (λ z. ht.declared_high d z ≤ 200) (sym (above_is (max h 1) (omega (arith, i, l)))) (declared_low d (suc (max h 1)) g i j l)
 
-list_some : (es : Parts) (c : Option ℕ) (e : Ex) (d : Declared) (x a : ℕ) (ns : List (List ℕ)) → sh.ShapedParts ns es → sh.IsComma (sh.are_no_parts es) c → sh.Shaped ns e → (g : ℕ) → suc (max d.form.height (suc (max (max (height_parts es) (height e)) 1))) ≤ g → suc (ht.form_needs d.form.value) ≤ g → suc (ht.place_depth d.around.place) + g ≤ 200 → (rest : List Sign) → walk (spell_parts es (comma c (spell e rest))) (stand (Operand (part_at d x a no_parts None)) ns) ≡ walk (spell e rest) (stand (Operand (part_at d x a es c)) ns)
+list_some : (es : Parts) (c : Option ℕ) (e : Ex) (d : Declared) (x a : ℕ) (ns : List (List ℕ)) → sh.ShapedParts ns es → sh.IsComma (sh.are_no_parts es) c → sh.Shaped ns e → (g : ℕ) → suc (max d.form.height (suc (max (max (height_parts es) (height e)) 1))) ≤ g → suc (ht.form_needs d.form.value) ≤ g → suc (ht.place_depth d.around.place) + g ≤ 200 → (rest : List SymbolAt) → walk (spell_parts es (comma c (spell e rest))) (stand (Operand (part_at d x a no_parts None)) ns) ≡ walk (spell e rest) (stand (Operand (part_at d x a es c)) ns)
 list_some no_parts None e d x a ns s t u g i j l rest = refl
 list_some no_parts (Some at) e d x a ns s t u g i j l rest = absurd t
 list_some (parts_and es c y) None e d x a ns s t u g i j l rest = absurd t
@@ -153,7 +153,7 @@ list_some (parts_and es c y) (Some at) e d x a ns s t u g i j l rest =
     ∙ ap (kept ns) (when_true (leb 1 (level_of y)) (Maybe (part_at d x a (parts_and es c y) (Some at))) (le-leb _ _ s.1))) (part_high d x a (parts_and es c y) (Some at) 0 g (omega (arith, i)) j l)
     ∙ first_maybe ns (part_at d x a (parts_and es c y) (Some at)) e u rest
 
-list_close : (es : Parts) (c0 : Option ℕ) (e : Ex) (c : Option ℕ) (y : ℕ) (d : Declared) (x a : ℕ) (ns : List (List ℕ)) → sh.Shaped ns e → 1 ≤ level_of e → (g : ℕ) → suc (max d.form.height (suc (max (max (height_parts es) (height e)) 1))) ≤ g → suc (ht.form_needs d.form.value) ≤ g → suc (ht.place_depth d.around.place) + g ≤ 200 → low (Listed (mk.with_initial d (iList x a (parts_and es c0 e) c y) (suc (height_parts (parts_and es c0 e))))) ≤ 200 → (rest : List Sign) → walk (comma c (closing br.Curly y ∷ rest)) (stand (valued (opened e (part_at d x a es c0))) ns) ≡ walk rest (stand (Listed (mk.with_initial d (iList x a (parts_and es c0 e) c y) (suc (height_parts (parts_and es c0 e))))) ns)
+list_close : (es : Parts) (c0 : Option ℕ) (e : Ex) (c : Option ℕ) (y : ℕ) (d : Declared) (x a : ℕ) (ns : List (List ℕ)) → sh.Shaped ns e → 1 ≤ level_of e → (g : ℕ) → suc (max d.form.height (suc (max (max (height_parts es) (height e)) 1))) ≤ g → suc (ht.form_needs d.form.value) ≤ g → suc (ht.place_depth d.around.place) + g ≤ 200 → low (Listed (mk.with_initial d (iList x a (parts_and es c0 e) c y) (suc (height_parts (parts_and es c0 e))))) ≤ 200 → (rest : List SymbolAt) → walk (comma c (closing br.Curly y ∷ rest)) (stand (valued (opened e (part_at d x a es c0))) ns) ≡ walk rest (stand (Listed (mk.with_initial d (iList x a (parts_and es c0 e) c y) (suc (height_parts (parts_and es c0 e))))) ns)
 list_close es c0 e None y d x a ns t m g i j l o rest =
     let k = part_at d x a es c0 in
     let h : high k (height e) ≤ 200 = part_high d x a es c0 (height e) g (omega (arith, i)) j l in
@@ -174,7 +174,7 @@ list_close es c0 e (Some at) y d x a ns t m g i j l o rest =
 pub with_height : (d : Declared) (i : Initial) (h : ℕ) → max (max d.form.height (hg.height_attributes d.attributes)) h ≤ 200 → mk.with_initial d i h ≡ mk.declaring d.around.place d.around.spoken (tall (declarators_and d.around.before.value d.comma (named d.name d.at) d.form.value d.attributes i) (max d.around.before.height (suc (max (max d.form.height (hg.height_attributes d.attributes)) h))))
 with_height d i h p = ap (λ z. mk.declaring d.around.place d.around.spoken (tall (declarators_and d.around.before.value d.comma (named d.name d.at) d.form.value d.attributes i) (max d.around.before.height z))) (above_is (max (max d.form.height (hg.height_attributes d.attributes)) h) p)
 
-pub initial_read : (i : Initial) (ns : List (List ℕ)) (p : Place) (s : Spoken) (ds : Decs) (c : Option ℕ) (n : List ℕ) (at : ℕ) (f : Form) (ats : Ats) → sh.ShapedInitial ns i → sh.may_declare (ht.site_of_place p) s.told f i ≡ true → (g : ℕ) → suc (max (max (hg.height_form f) (hg.height_attributes ats)) (hg.height_initial i)) ≤ g → suc (ht.form_needs f) ≤ g → hg.height_declarators ds ≤ g → suc (ht.place_depth p) + g ≤ 200 → (rest : List Sign) → walk (spell_initial i rest) (stand (Behind (entire p s ds c n at f ats)) ns) ≡ walk rest (stand (behind_initial (entire p s ds c n at f ats) i) ns)
+pub initial_read : (i : Initial) (ns : List (List ℕ)) (p : Place) (s : Spoken) (ds : Decs) (c : Option ℕ) (n : List ℕ) (at : ℕ) (f : Form) (ats : Ats) → sh.ShapedInitial ns i → sh.may_declare (ht.site_of_place p) s.told f i ≡ true → (g : ℕ) → suc (max (max (hg.height_form f) (hg.height_attributes ats)) (hg.height_initial i)) ≤ g → suc (ht.form_needs f) ≤ g → hg.height_declarators ds ≤ g → suc (ht.place_depth p) + g ≤ 200 → (rest : List SymbolAt) → walk (spell_initial i rest) (stand (Behind (entire p s ds c n at f ats)) ns) ≡ walk rest (stand (behind_initial (entire p s ds c n at f ats) i) ns)
 initial_read iNothing ns p s ds c n at f ats t m g i j y l rest = refl
 initial_read (iValue x e) ns p s ds c n at fPlain ats t m g i j y l rest =
     let d = entire p s ds c n at fPlain ats in

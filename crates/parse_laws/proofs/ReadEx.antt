@@ -7,7 +7,7 @@ use Rattle.c_tree.specs.declared.symbol.Bracket.TheVariants as br
 use Rattle.c_tree.specs.declared.symbol.AttributeWord.{AttributeWord}
 use Rattle.c_tree.specs.declared.symbol.Symbol.{Symbol}
 use Rattle.c_tree.specs.declared.symbol.Symbol.TheVariants as sy
-use Rattle.c_tree.specs.declared.symbol.Sign.{Sign}
+use Rattle.c_tree.specs.declared.symbol.SymbolAt.{SymbolAt}
 use Rattle.c_tree.specs.declared.tree.PrefixOp.{PrefixOp}
 use Rattle.c_tree.specs.declared.tree.PrefixOp.TheVariants as pre
 use Rattle.c_tree.specs.declared.known.Site.{Site}
@@ -42,7 +42,7 @@ is_open_curly (sy.Open br.Curly) = true
 is_open_curly _ = false
 
 -- no `{` follows
-abbrev pub NoOpen : List Sign → Type 0
+abbrev pub NoOpen : List SymbolAt → Type 0
 NoOpen [] = ⊥
 NoOpen (t ∷ ts) = is_open_curly t.symbol ≡ false
 
@@ -66,12 +66,12 @@ tagged_on names (sy.Open br.Curly) at x n y s w h = cc
 tagged_on names _ at x n y s w h = refl
 
 -- behind a tag
-pub tagged_reads : (ns : List (List ℕ)) (x : ℕ) (n : List ℕ) (y : ℕ) (s : Spoken) (w : Around) (rest : List Sign) → NoOpen rest → walk rest (stand (Tagged x n y s w) ns) ≡ walk rest (stand (Specifiers (mk.said s s.told (wTag x n y) 1) w) ns)
+pub tagged_reads : (ns : List (List ℕ)) (x : ℕ) (n : List ℕ) (y : ℕ) (s : Spoken) (w : Around) (rest : List SymbolAt) → NoOpen rest → walk rest (stand (Tagged x n y s w) ns) ≡ walk rest (stand (Specifiers (mk.said s s.told (wTag x n y) 1) w) ns)
 tagged_reads ns x n y s w [] h = absurd h
 tagged_reads ns x n y s w (t ∷ ts) h = ap (λ o. walk ts (limit (kept ns o))) (tagged_on ns t.symbol t.at x n y s w h)
 
 -- tokens that are kept as they stand
-skip_on : (ns : List (List ℕ)) (w : AttributeWord) (x a : ℕ) (r : Raw) (t : Sign) (n m : ℕ) (y : Attributed) (rest : List Sign) → skip_of br.Round t.symbol n ≡ skipOn m → ht.attributed_high y ≤ 200 → walk (t ∷ rest) (stand (Attribute w x a r n y) ns) ≡ walk rest (stand (Attribute w x a (raw_and r t) m y) ns)
+skip_on : (ns : List (List ℕ)) (w : AttributeWord) (x a : ℕ) (r : Raw) (t : SymbolAt) (n m : ℕ) (y : Attributed) (rest : List SymbolAt) → skip_of br.Round t.symbol n ≡ skipOn m → ht.attributed_high y ≤ 200 → walk (t ∷ rest) (stand (Attribute w x a r n y) ns) ≡ walk rest (stand (Attribute w x a (raw_and r t) m y) ns)
 skip_on ns w x a r t n m y rest e h = go t rest (Attribute w x a r n y) (Attribute w x a (raw_and r t) m y) ns ns (ap (λ k. kept ns (steps.attribute_skip k t w x a r y)) e) h
 
 pub some_nat : (a c : ℕ) → Some a ≡ Some c → a ≡ c
@@ -98,14 +98,14 @@ pub depth_before : (c : Bracket) (s : Symbol) (o : Option ℕ) (m : ℕ) → sh.
 depth_before c s None m h = cc
 depth_before c s (Some n) m h = record { depth = n; was = refl; gives = h }
 
-raw_reads : (ns : List (List ℕ)) (w : AttributeWord) (x a : ℕ) (r : Raw) (m : ℕ) (y : Attributed) (rest : List Sign) → sh.depth_of br.Round r ≡ Some m → ht.attributed_high y ≤ 200 → walk (spell_raw r rest) (stand (Attribute w x a no_raw 0 y) ns) ≡ walk rest (stand (Attribute w x a r m y) ns)
+raw_reads : (ns : List (List ℕ)) (w : AttributeWord) (x a : ℕ) (r : Raw) (m : ℕ) (y : Attributed) (rest : List SymbolAt) → sh.depth_of br.Round r ≡ Some m → ht.attributed_high y ≤ 200 → walk (spell_raw r rest) (stand (Attribute w x a no_raw 0 y) ns) ≡ walk rest (stand (Attribute w x a r m y) ns)
 raw_reads ns w x a no_raw m y rest d h = ap (λ n. walk rest (stand (Attribute w x a no_raw n y) ns)) (some_nat 0 m d)
 raw_reads ns w x a (raw_and r t) m y rest d h =
     let z = depth_before br.Round t.symbol (sh.depth_of br.Round r) m d in
     raw_reads ns w x a r z.depth y (t ∷ rest) z.was h ∙ skip_on ns w x a r t z.depth m y rest (skip_depth t.symbol z.depth m z.gives) h
 
 -- an attribute
-pub attribute_reads : (ns : List (List ℕ)) (x : At) (y : Attributed) (rest : List Sign) (m : Mode) → sh.ShapedAttribute x → ((w : AttributeWord) (at : ℕ) → steps.next ns (sign (sy.Attribute w) at) m ≡ stand (Wait (waitAttribute w at y)) ns) → ht.attributed_high y ≤ 200 → low (steps.with_attribute y x) ≤ 200 → walk (spell_attribute x rest) (stand m ns) ≡ walk rest (stand (steps.with_attribute y x) ns)
+pub attribute_reads : (ns : List (List ℕ)) (x : At) (y : Attributed) (rest : List SymbolAt) (m : Mode) → sh.ShapedAttribute x → ((w : AttributeWord) (at : ℕ) → steps.next ns (sign (sy.Attribute w) at) m ≡ stand (Wait (waitAttribute w at y)) ns) → ht.attributed_high y ≤ 200 → low (steps.with_attribute y x) ≤ 200 → walk (spell_attribute x rest) (stand m ns) ≡ walk rest (stand (steps.with_attribute y x) ns)
 attribute_reads ns (attribute w at a r z) y rest m d e h g =
     go (sign (sy.Attribute w) at) (opening br.Round a ∷ spell_raw r (closing br.Round z ∷ rest)) m (Wait (waitAttribute w at y)) ns ns (e w at) h
     ∙ go (opening br.Round a) (spell_raw r (closing br.Round z ∷ rest)) (Wait (waitAttribute w at y)) (Attribute w at a no_raw 0 y) ns ns refl h
@@ -128,7 +128,7 @@ enum_high w s h = around_high w (max s.height (suc h))
 
 -- `sizeof`
 
-pub first_sizeof : (ns : List (List ℕ)) (x : ℕ) (k : Inner) (e : Ex) → sh.Shaped ns e → 14 ≤ level_of e → high (inBind (bPrefix pre.Sizeof x) k) (height e) ≤ 200 → (rest : List Sign) → walk (spell e rest) (stand (Sizeof x k) ns) ≡ walk (spell e rest) (stand (Operand (inBind (bPrefix pre.Sizeof x) k)) ns)
+pub first_sizeof : (ns : List (List ℕ)) (x : ℕ) (k : Inner) (e : Ex) → sh.Shaped ns e → 14 ≤ level_of e → high (inBind (bPrefix pre.Sizeof x) k) (height e) ≤ 200 → (rest : List SymbolAt) → walk (spell e rest) (stand (Sizeof x k) ns) ≡ walk (spell e rest) (stand (Operand (inBind (bPrefix pre.Sizeof x) k)) ns)
 first_sizeof ns x k (eName n at) s l h rest = refl
 first_sizeof ns x k (eNumber v f at) s l h rest = refl
 first_sizeof ns x k (eLetter v at) s l h rest = refl
@@ -158,14 +158,14 @@ first_sizeof ns x k (eComma es) s l h rest = absurd (omega (arith, l))
 
 -- Brackets.
 
-pub paren_opens : (ns : List (List ℕ)) (a : ℕ) (k : Inner) (e : Ex) (c : Bool) → leb (least k) 13 ≡ c → sh.Shaped ns e → high (inOpen (oParen a) k) (height e) ≤ 200 → (rest : List Sign) → walk (opening br.Round a ∷ spell e rest) (stand (Operand k) ns) ≡ walk (spell e rest) (stand (Operand (inOpen (oParen a) k)) ns)
+pub paren_opens : (ns : List (List ℕ)) (a : ℕ) (k : Inner) (e : Ex) (c : Bool) → leb (least k) 13 ≡ c → sh.Shaped ns e → high (inOpen (oParen a) k) (height e) ≤ 200 → (rest : List SymbolAt) → walk (opening br.Round a ∷ spell e rest) (stand (Operand k) ns) ≡ walk (spell e rest) (stand (Operand (inOpen (oParen a) k)) ns)
 paren_opens ns a k e true q s h rest =
     go (opening br.Round a) (spell e rest) (Operand k) (Either (forkCast a k) []) ns ns (ap (λ c. stand (if c then Either (forkCast a k) [] else Operand (inOpen (oParen a) k)) ns) q) (fork_low_first (forkCast a k) (height e) (height_some e) h)
     ∙ first_fork ns (forkCast a k) [] e s h rest
 paren_opens ns a k e false q s h rest =
     go (opening br.Round a) (spell e rest) (Operand k) (Operand (inOpen (oParen a) k)) ns ns (ap (λ c. stand (if c then Either (forkCast a k) [] else Operand (inOpen (oParen a) k)) ns) q) (lower (inOpen (oParen a) k) 1 (height e) h (height_some e))
 
-pub prefix_opens : (ns : List (List ℕ)) (o : PrefixOp) (at : ℕ) (k : Inner) (e : Ex) → sh.Shaped ns e → operand_level o ≤ level_of e → high (inBind (bPrefix o at) k) (height e) ≤ 200 → high k (suc (height e)) ≤ 200 → (rest : List Sign) → walk (sign (prefix_symbol o) at ∷ spell e rest) (stand (Operand k) ns) ≡ walk (spell e rest) (stand (Operand (inBind (bPrefix o at) k)) ns)
+pub prefix_opens : (ns : List (List ℕ)) (o : PrefixOp) (at : ℕ) (k : Inner) (e : Ex) → sh.Shaped ns e → operand_level o ≤ level_of e → high (inBind (bPrefix o at) k) (height e) ≤ 200 → high k (suc (height e)) ≤ 200 → (rest : List SymbolAt) → walk (sign (prefix_symbol o) at ∷ spell e rest) (stand (Operand k) ns) ≡ walk (spell e rest) (stand (Operand (inBind (bPrefix o at) k)) ns)
 prefix_opens ns pre.Increment at k e s l h g rest = go (sign (prefix_symbol pre.Increment) at) (spell e rest) (Operand k) (Operand (inBind (bPrefix pre.Increment at) k)) ns ns refl (lower (inBind (bPrefix pre.Increment at) k) 1 (height e) h (height_some e))
 prefix_opens ns pre.Decrement at k e s l h g rest = go (sign (prefix_symbol pre.Decrement) at) (spell e rest) (Operand k) (Operand (inBind (bPrefix pre.Decrement at) k)) ns ns refl (lower (inBind (bPrefix pre.Decrement at) k) 1 (height e) h (height_some e))
 prefix_opens ns pre.Plus at k e s l h g rest = go (sign (prefix_symbol pre.Plus) at) (spell e rest) (Operand k) (Operand (inBind (bPrefix pre.Plus at) k)) ns ns refl (lower (inBind (bPrefix pre.Plus at) k) 1 (height e) h (height_some e))

@@ -5,7 +5,7 @@ use Rattle.c_tree.specs.declared.symbol.Bracket.TheVariants as br
 use Rattle.c_tree.specs.declared.symbol.StatementWord.TheVariants as key
 use Rattle.c_tree.specs.declared.symbol.Symbol.{Symbol}
 use Rattle.c_tree.specs.declared.symbol.Symbol.TheVariants as sy
-use Rattle.c_tree.specs.declared.symbol.Sign.{Sign}
+use Rattle.c_tree.specs.declared.symbol.SymbolAt.{SymbolAt}
 use Rattle.c_tree.specs.declared.tree.PrefixOp.TheVariants as pre
 use Rattle.c_tree.specs.declared.known.Site.{Site}
 use Rattle.c_tree.specs.declared.known.Site.TheVariants as site
@@ -116,11 +116,11 @@ is_plain_start (sy.Statement key.Else) = false
 is_plain_start _ = true
 
 -- it is no `else` and begins no attribute
-abbrev pub Heads : List Sign → Type 0
+abbrev pub Heads : List SymbolAt → Type 0
 Heads [] = ⊥
 Heads (t ∷ ts) = is_plain_start t.symbol ≡ true
 
-abbrev pub NoElse : List Sign → Type 0
+abbrev pub NoElse : List SymbolAt → Type 0
 NoElse [] = ⊥
 NoElse (t ∷ ts) = is_else t.symbol ≡ false
 
@@ -128,7 +128,7 @@ plain_no_else : (t : Symbol) → is_plain_start t ≡ true → is_else t ≡ fal
 plain_no_else (sy.Statement key.Else) h = cc
 plain_no_else _ h = refl
 
-pub heads_no_else : (ts : List Sign) → Heads ts → NoElse ts
+pub heads_no_else : (ts : List SymbolAt) → Heads ts → NoElse ts
 heads_no_else [] h = absurd h
 heads_no_else (t ∷ ts) h = plain_no_else t.symbol h
 
@@ -137,7 +137,7 @@ several_some no_parts h = cc
 several_some (parts_and es c e) h = refl
 
 mutual
-  ex_heads : (ns : List (List ℕ)) (e : Ex) → sh.Shaped ns e → (rest : List Sign) → Heads (spell e rest)
+  ex_heads : (ns : List (List ℕ)) (e : Ex) → sh.Shaped ns e → (rest : List SymbolAt) → Heads (spell e rest)
   ex_heads ns (eName n at) s rest = refl
   ex_heads ns (eNumber v f at) s rest = refl
   ex_heads ns (eLetter v at) s rest = refl
@@ -160,14 +160,14 @@ mutual
   ex_heads ns (eAssign a o at c) s rest = ex_heads ns a s.2 _
   ex_heads ns (eComma es) s rest = parts_heads ns es (several_some es s.0) s.1 rest
 
-  parts_heads : (ns : List (List ℕ)) (es : Parts) → sh.are_no_parts es ≡ false → sh.ShapedParts ns es → (rest : List Sign) → Heads (spell_parts es rest)
+  parts_heads : (ns : List (List ℕ)) (es : Parts) → sh.are_no_parts es ≡ false → sh.ShapedParts ns es → (rest : List SymbolAt) → Heads (spell_parts es rest)
   parts_heads ns no_parts h s rest = cc
   parts_heads ns (parts_and no_parts None e) h s rest = ex_heads ns e s.3 rest
   parts_heads ns (parts_and no_parts (Some at) e) h s rest = absurd s.0
   parts_heads ns (parts_and (parts_and es d x) None e) h s rest = absurd s.0
   parts_heads ns (parts_and es (Some at) e) h s rest = parts_heads ns es (some_not (sh.are_no_parts es) at s.0) s.2 _
 
-pub st_heads : (s : St) (ns : List (List ℕ)) → sh.ShapedStatement s ns → sh.IsStatement s → (rest : List Sign) → Heads (spell_statement s rest)
+pub st_heads : (s : St) (ns : List (List ℕ)) → sh.ShapedStatement s ns → sh.IsStatement s → (rest : List SymbolAt) → Heads (spell_statement s rest)
 st_heads (sDeclaration d) ns t i rest = absurd i
 st_heads (sExpr e at) ns t i rest = ex_heads ns e t _
 st_heads (sIf (head x y e z) s) ns t i rest = refl
@@ -186,7 +186,7 @@ st_heads (sBreak at c) ns t i rest = refl
 st_heads (sContinue at c) ns t i rest = refl
 st_heads (sReturn at e c) ns t i rest = refl
 
-word_no_else : (x : Word) (rest : List Sign) → NoElse (spell_word x rest)
+word_no_else : (x : Word) (rest : List SymbolAt) → NoElse (spell_word x rest)
 word_no_else (wType x at) rest = refl
 word_no_else (wStorage x at) rest = refl
 word_no_else (wConst x at) rest = refl
@@ -197,15 +197,15 @@ word_no_else (wTag at n y) rest = refl
 word_no_else (wEnum at a es c y) rest = refl
 word_no_else (wTagEnum at n x a es c y) rest = refl
 
-words_no_else : (ws : Words) (x : Word) (rest : List Sign) → NoElse (spell_words ws (spell_word x rest))
+words_no_else : (ws : Words) (x : Word) (rest : List SymbolAt) → NoElse (spell_words ws (spell_word x rest))
 words_no_else no_words x rest = word_no_else x rest
 words_no_else (words_and ws y) x rest = words_no_else ws y (spell_word x rest)
 
-pub typed_no_else : (s : Site) (ws : Words) → sh.AreSpecs s ws → (rest : List Sign) → NoElse (spell_words ws rest)
+pub typed_no_else : (s : Site) (ws : Words) → sh.AreSpecs s ws → (rest : List SymbolAt) → NoElse (spell_words ws rest)
 typed_no_else s no_words f rest = let n : nothing_known ≡ f.told = some_same nothing_known f.told f.together in let r : false ≡ true = ap (λ z. is_typed z.typing) n ∙ f.typed in cc
 typed_no_else s (words_and ws x) f rest = words_no_else ws x rest
 
-pub st_no_else : (s : St) (ns : List (List ℕ)) → sh.ShapedStatement s ns → (rest : List Sign) → NoElse (spell_statement s rest)
+pub st_no_else : (s : St) (ns : List (List ℕ)) → sh.ShapedStatement s ns → (rest : List SymbolAt) → NoElse (spell_statement s rest)
 st_no_else (sDeclaration (declares ws ds x)) ns t rest = typed_no_else site.Block ws t.specs _
 st_no_else (sBlock a ss c) ns t rest = heads_no_else (spell_statement (sBlock a ss c) rest) (st_heads (sBlock a ss c) ns t tt rest)
 st_no_else (sEmpty at) ns t rest = heads_no_else (spell_statement (sEmpty at) rest) (st_heads (sEmpty at) ns t tt rest)
@@ -225,7 +225,7 @@ st_no_else (sContinue at c) ns t rest = heads_no_else (spell_statement (sContinu
 st_no_else (sReturn at e c) ns t rest = heads_no_else (spell_statement (sReturn at e c) rest) (st_heads (sReturn at e c) ns t tt rest)
 
 -- behind a label
-pub label_token : (ns : List (List ℕ)) (n : List ℕ) (x y : ℕ) (ats : Ats) (o : Outer) (ts : List Sign) → Heads ts → walk ts (stand (Label n x y ats o) ns) ≡ walk ts (stand (Begin (outWrap (wLabel n x y ats) o)) ns)
+pub label_token : (ns : List (List ℕ)) (n : List ℕ) (x y : ℕ) (ats : Ats) (o : Outer) (ts : List SymbolAt) → Heads ts → walk ts (stand (Label n x y ats o) ns) ≡ walk ts (stand (Begin (outWrap (wLabel n x y ats) o)) ns)
 label_token ns n x y ats o [] h = absurd h
 label_token ns n x y ats o (t ∷ ts) h = ap (λ z. walk ts (limit z)) (label_at ns t.symbol t.at n x y ats o h)
   where
@@ -234,11 +234,11 @@ label_token ns n x y ats o (t ∷ ts) h = ap (λ z. walk ts (limit z)) (label_at
     label_at ns _ at n x y ats o h = refl
 
 -- behind a statement in a block, and in a `do`
-pub block_next : (l : Left) (o : Outer) (ms : List (List ℕ)) (ts : List Sign) → settle_left l ≡ stt.inBlock o ms → NoElse ts → walk ts (ended_left l) ≡ walk ts (stand (Begin o) ms)
+pub block_next : (l : Left) (o : Outer) (ms : List (List ℕ)) (ts : List SymbolAt) → settle_left l ≡ stt.inBlock o ms → NoElse ts → walk ts (ended_left l) ≡ walk ts (stand (Begin o) ms)
 block_next l o ms [] e h = absurd h
 block_next l o ms (t ∷ ts) e h = ap (λ z. walk ts (limit z)) (if_false (is_else t.symbol) _ (stt.step_settled t.symbol t.at (settle_left l)) h ∙ ap (stt.step_settled t.symbol t.at) e)
 
-pub do_next : (l : Left) (x : ℕ) (s : St) (o : Outer) (ms : List (List ℕ)) (ts : List Sign) → settle_left l ≡ stt.inDo x s o ms → NoElse ts → walk ts (ended_left l) ≡ walk ts (stand (Wait (waitWhile x s o)) ms)
+pub do_next : (l : Left) (x : ℕ) (s : St) (o : Outer) (ms : List (List ℕ)) (ts : List SymbolAt) → settle_left l ≡ stt.inDo x s o ms → NoElse ts → walk ts (ended_left l) ≡ walk ts (stand (Wait (waitWhile x s o)) ms)
 do_next l x s o ms [] e h = absurd h
 do_next l x s o ms (t ∷ ts) e h = ap (λ z. walk ts (limit z)) (if_false (is_else t.symbol) _ (stt.step_settled t.symbol t.at (settle_left l)) h ∙ ap (stt.step_settled t.symbol t.at) e)
 
@@ -272,15 +272,15 @@ begin_plain ns o e (sy.Bang) at h = ap (λ q0. kept ns (if q0 then stt.step_eith
 begin_plain ns o e (sy.Extension) at h = ap (λ q0. kept ns (if q0 then stt.step_either ns (sy.Extension) at (forkBlock o) [] else ex.step_operand ns (prefix_of (sy.Extension)) at (inBase (baseStatement o)))) e
 begin_plain ns o e _ at h = absurd h
 
-begin_at : (ns : List (List ℕ)) (o : Outer) (e : Ex) (c : Bool) → is_list o ≡ c → sh.Shaped ns e → depth o + suc (height e) ≤ 200 → (rest : List Sign) → walk (spell e rest) (stand (Begin o) ns) ≡ walk (spell e rest) (stand (Operand (inBase (baseStatement o))) ns)
+begin_at : (ns : List (List ℕ)) (o : Outer) (e : Ex) (c : Bool) → is_list o ≡ c → sh.Shaped ns e → depth o + suc (height e) ≤ 200 → (rest : List SymbolAt) → walk (spell e rest) (stand (Begin o) ns) ≡ walk (spell e rest) (stand (Operand (inBase (baseStatement o))) ns)
 begin_at ns o e true q s h rest = first ns (Begin o) (Either (forkBlock o) []) (begin_fork ns o q) e s rest ∙ first_fork ns (forkBlock o) [] e s (omega (arith, h)) rest
 begin_at ns o e false q s h rest = first ns (Begin o) (Operand (inBase (baseStatement o))) (begin_plain ns o q) e s rest
 
 -- an expression where a statement is to come
-pub begin_reads : (ns : List (List ℕ)) (o : Outer) (e : Ex) → sh.Shaped ns e → depth o + suc (height e) ≤ 200 → (rest : List Sign) → walk (spell e rest) (stand (Begin o) ns) ≡ walk rest (stand (valued (opened e (inBase (baseStatement o)))) ns)
+pub begin_reads : (ns : List (List ℕ)) (o : Outer) (e : Ex) → sh.Shaped ns e → depth o + suc (height e) ≤ 200 → (rest : List SymbolAt) → walk (spell e rest) (stand (Begin o) ns) ≡ walk rest (stand (valued (opened e (inBase (baseStatement o)))) ns)
 begin_reads ns o e s h rest = begin_at ns o e (is_list o) refl s h rest ∙ reads e (inBase (baseStatement o)) ns s (omega arith) (omega (arith, h)) rest
 
-begin_word_token : (ns : List (List ℕ)) (o : Outer) (x : Word) (rest : List Sign) → is_list o ≡ true → walk (spell_word x rest) (stand (Begin o) ns) ≡ walk (spell_word x rest) (stand (Either (forkBlock o) []) ns)
+begin_word_token : (ns : List (List ℕ)) (o : Outer) (x : Word) (rest : List SymbolAt) → is_list o ≡ true → walk (spell_word x rest) (stand (Begin o) ns) ≡ walk (spell_word x rest) (stand (Either (forkBlock o) []) ns)
 begin_word_token ns o (wType x at) rest e = ap (λ q0. walk (rest) (limit (kept ns (if q0 then stt.step_either ns (sy.Type x) at (forkBlock o) [] else ex.step_operand ns (prefix_of (sy.Type x)) at (inBase (baseStatement o)))))) e
 begin_word_token ns o (wStorage x at) rest e = ap (λ q0. walk (rest) (limit (kept ns (if q0 then stt.step_either ns (sy.Storage x) at (forkBlock o) [] else ex.step_operand ns (prefix_of (sy.Storage x)) at (inBase (baseStatement o)))))) e
 begin_word_token ns o (wConst x at) rest e = ap (λ q0. walk (rest) (limit (kept ns (if q0 then stt.step_either ns (sy.Const x) at (forkBlock o) [] else ex.step_operand ns (prefix_of (sy.Const x)) at (inBase (baseStatement o)))))) e
@@ -291,15 +291,15 @@ begin_word_token ns o (wTag at n y) rest e = ap (λ q0. walk (sign (sy.Name n) y
 begin_word_token ns o (wEnum at a es c y) rest e = ap (λ q0. walk (opening br.Curly a ∷ spell_enumerators es (comma c (closing br.Curly y ∷ rest))) (limit (kept ns (if q0 then stt.step_either ns (sy.Enum) at (forkBlock o) [] else ex.step_operand ns (prefix_of (sy.Enum)) at (inBase (baseStatement o)))))) e
 begin_word_token ns o (wTagEnum at n x a es c y) rest e = ap (λ q0. walk (sign (sy.Name n) x ∷ opening br.Curly a ∷ spell_enumerators es (comma c (closing br.Curly y ∷ rest))) (limit (kept ns (if q0 then stt.step_either ns (sy.Enum) at (forkBlock o) [] else ex.step_operand ns (prefix_of (sy.Enum)) at (inBase (baseStatement o)))))) e
 
-begin_words : (ns : List (List ℕ)) (o : Outer) (ws : Words) (x : Word) (rest : List Sign) → is_list o ≡ true → walk (spell_words ws (spell_word x rest)) (stand (Begin o) ns) ≡ walk (spell_words ws (spell_word x rest)) (stand (Either (forkBlock o) []) ns)
+begin_words : (ns : List (List ℕ)) (o : Outer) (ws : Words) (x : Word) (rest : List SymbolAt) → is_list o ≡ true → walk (spell_words ws (spell_word x rest)) (stand (Begin o) ns) ≡ walk (spell_words ws (spell_word x rest)) (stand (Either (forkBlock o) []) ns)
 begin_words ns o no_words x rest e = begin_word_token ns o x rest e
 begin_words ns o (words_and ws y) x rest e = begin_words ns o ws y (spell_word x rest) e
 
-pub begin_typed : (ns : List (List ℕ)) (o : Outer) (s : Site) (ws : Words) → sh.AreSpecs s ws → (rest : List Sign) → is_list o ≡ true → walk (spell_words ws rest) (stand (Begin o) ns) ≡ walk (spell_words ws rest) (stand (Either (forkBlock o) []) ns)
+pub begin_typed : (ns : List (List ℕ)) (o : Outer) (s : Site) (ws : Words) → sh.AreSpecs s ws → (rest : List SymbolAt) → is_list o ≡ true → walk (spell_words ws rest) (stand (Begin o) ns) ≡ walk (spell_words ws rest) (stand (Either (forkBlock o) []) ns)
 begin_typed ns o s no_words f rest e = let n : nothing_known ≡ f.told = some_same nothing_known f.told f.together in let r : false ≡ true = ap (λ z. is_typed z.typing) n ∙ f.typed in cc
 begin_typed ns o s (words_and ws x) f rest e = begin_words ns o ws x rest e
 
-pub decs_no_open : (ds : Decs) (rest : List Sign) → NoOpen rest → NoOpen (spell_declarators ds rest)
+pub decs_no_open : (ds : Decs) (rest : List SymbolAt) → NoOpen rest → NoOpen (spell_declarators ds rest)
 decs_no_open no_declarators rest h = h
 decs_no_open (declarators_and ds None (named n at) f ats v) rest h = decs_no_open ds _ refl
 decs_no_open (declarators_and ds (Some x) (named n at) f ats v) rest h = decs_no_open ds _ refl
@@ -309,7 +309,7 @@ decs_no_open (declarators_and ds (Some x) (named n at) f ats v) rest h = decs_no
 pub fold_end : (ns : List (List ℕ)) (e : Ex) (x : Base) → sh.Shaped ns e → high (inBase x) (height e) ≤ 200 → refold 0 (opened e (inBase x)) ≡ ex.held (whole e) (inBase x)
 fold_end ns e x s h = folded ns e (inBase x) 0 s (omega arith) (omega arith) h tt
 
-pub head_read : (ns : List (List ℕ)) (t : Test) (h : Head) (o : Outer) → sh.ShapedHead ns h → depth o + suc (hg.height_head h) ≤ 200 → depth o + 2 ≤ 200 → (rest : List Sign) → walk (spell_head (b.test_word t) h rest) (stand (Begin o) ns) ≡ walk rest (stand (Begin (outWrap (mk.tested t h) o)) ns)
+pub head_read : (ns : List (List ℕ)) (t : Test) (h : Head) (o : Outer) → sh.ShapedHead ns h → depth o + suc (hg.height_head h) ≤ 200 → depth o + 2 ≤ 200 → (rest : List SymbolAt) → walk (spell_head (b.test_word t) h rest) (stand (Begin o) ns) ≡ walk rest (stand (Begin (outWrap (mk.tested t h) o)) ns)
 head_read ns testIf (head at a e c) o s l m rest =
     let k = inBase (baseTest testIf at a o) in
     let i : high k (height e) ≤ 200 = omega (arith, l) in
@@ -337,7 +337,7 @@ for_low o m at a h [] = omega (arith, h)
 for_low o m at a h (x ∷ ats) = omega (arith, h)
 
 -- `for`
-for_start_read : (ns : List (List ℕ)) (s : ForStart) (m at a : ℕ) (o : Outer) → sh.ShapedForStart ns s → depth o + suc (hg.height_for_start s) ≤ 200 → depth o + 2 ≤ 200 → (rest : List Sign) → walk (spell_for_start s rest) (stand (Either (forkFor m at a o) []) ns) ≡ walk rest (stand (Maybe (inBase (baseMore m at a s o))) (sh.start_names s ns))
+for_start_read : (ns : List (List ℕ)) (s : ForStart) (m at a : ℕ) (o : Outer) → sh.ShapedForStart ns s → depth o + suc (hg.height_for_start s) ≤ 200 → depth o + 2 ≤ 200 → (rest : List SymbolAt) → walk (spell_for_start s rest) (stand (Either (forkFor m at a o) []) ns) ≡ walk rest (stand (Maybe (inBase (baseMore m at a s o))) (sh.start_names s ns))
 for_start_read ns (forExpr None y) m at a o t l n rest = go (sign sy.Semicolon y) rest (Either (forkFor m at a o) []) (Maybe (inBase (baseMore m at a (forExpr None y) o))) ns ns refl (omega (arith, n))
 for_start_read ns (forExpr (Some e) y) m at a o t l n rest =
     let k = inBase (baseStart m at a o) in
@@ -354,7 +354,7 @@ for_start_read ns (forDeclares (declares ws ds x)) m at a o t l n rest =
     ∙ declared_read ws ds x ns p t (omega (arith, l)) rest
     ∙ ap (λ q. walk rest (stand (Maybe (inBase (baseMore m at a (forDeclares (declares ws ds x)) o))) (sh.declared_with q ds ns))) (sym t.specs.together)
 
-for_test : (ms : List (List ℕ)) (e : Option Ex) (m at a : ℕ) (s : ForStart) (o : Outer) (x : ℕ) → sh.ShapedOption ms 0 e → depth o + suc (hg.height_option e) ≤ 200 → depth o + 2 ≤ 200 → (rest : List Sign) → walk (spell_option e (sign sy.Semicolon x ∷ rest)) (stand (Maybe (inBase (baseMore m at a s o))) ms) ≡ walk rest (stand (Maybe (inBase (baseStep m at a s e x o))) ms)
+for_test : (ms : List (List ℕ)) (e : Option Ex) (m at a : ℕ) (s : ForStart) (o : Outer) (x : ℕ) → sh.ShapedOption ms 0 e → depth o + suc (hg.height_option e) ≤ 200 → depth o + 2 ≤ 200 → (rest : List SymbolAt) → walk (spell_option e (sign sy.Semicolon x ∷ rest)) (stand (Maybe (inBase (baseMore m at a s o))) ms) ≡ walk rest (stand (Maybe (inBase (baseStep m at a s e x o))) ms)
 for_test ms None m at a s o x t l n rest = go (sign sy.Semicolon x) rest (Maybe (inBase (baseMore m at a s o))) (Maybe (inBase (baseStep m at a s None x o))) ms ms refl (omega (arith, n))
 for_test ms (Some e) m at a s o x t l n rest =
     let k = inBase (baseMore m at a s o) in
@@ -363,7 +363,7 @@ for_test ms (Some e) m at a s o x t l n rest =
     ∙ reads e k ms t.1 (omega arith) i (sign sy.Semicolon x ∷ rest)
     ∙ go (sign sy.Semicolon x) rest (valued (opened e k)) (Maybe (inBase (baseStep m at a s (Some e) x o))) ms ms (ap (λ z. kept ms (ex.step_held tok.sufSemicolon x z)) (fold_end ms e (baseMore m at a s o) t.1 i)) (omega (arith, n))
 
-for_step : (ms : List (List ℕ)) (i : Option Ex) (m at a : ℕ) (s : ForStart) (e : Option Ex) (x : ℕ) (o : Outer) (c : ℕ) → sh.ShapedOption ms 0 i → depth o + suc (hg.height_option i) ≤ 200 → depth o + 2 ≤ 200 → (rest : List Sign) → walk (spell_option i (closing br.Round c ∷ rest)) (stand (Maybe (inBase (baseStep m at a s e x o))) ms) ≡ walk rest (stand (Begin (outWrap (wFor m (for_head at a s e x i c)) o)) ms)
+for_step : (ms : List (List ℕ)) (i : Option Ex) (m at a : ℕ) (s : ForStart) (e : Option Ex) (x : ℕ) (o : Outer) (c : ℕ) → sh.ShapedOption ms 0 i → depth o + suc (hg.height_option i) ≤ 200 → depth o + 2 ≤ 200 → (rest : List SymbolAt) → walk (spell_option i (closing br.Round c ∷ rest)) (stand (Maybe (inBase (baseStep m at a s e x o))) ms) ≡ walk rest (stand (Begin (outWrap (wFor m (for_head at a s e x i c)) o)) ms)
 for_step ms None m at a s e x o c t l n rest = go (closing br.Round c) rest (Maybe (inBase (baseStep m at a s e x o))) (Begin (outWrap (wFor m (for_head at a s e x None c)) o)) ms ms refl (omega (arith, n))
 for_step ms (Some v) m at a s e x o c t l n rest =
     let k = inBase (baseStep m at a s e x o) in
@@ -372,7 +372,7 @@ for_step ms (Some v) m at a s e x o c t l n rest =
     ∙ reads v k ms t.1 (omega arith) i (closing br.Round c ∷ rest)
     ∙ go (closing br.Round c) rest (valued (opened v k)) (Begin (outWrap (wFor m (for_head at a s e x (Some v) c)) o)) ms ms (ap (λ z. kept ms (ex.step_held (tok.sufClose br.Round) c z)) (fold_end ms v (baseStep m at a s e x o) t.1 i)) (omega (arith, n))
 
-pub for_head_read : (ns : List (List ℕ)) (h : ForHead) (o : Outer) → sh.ShapedForHead ns h → depth o + suc (hg.height_for_head h) ≤ 200 → depth o + 2 ≤ 200 → (rest : List Sign) → walk (spell_for_head h rest) (stand (Begin o) ns) ≡ walk rest (stand (Begin (outWrap (wFor (length ns) h) o)) (sh.for_names h ns))
+pub for_head_read : (ns : List (List ℕ)) (h : ForHead) (o : Outer) → sh.ShapedForHead ns h → depth o + suc (hg.height_for_head h) ≤ 200 → depth o + 2 ≤ 200 → (rest : List SymbolAt) → walk (spell_for_head h rest) (stand (Begin o) ns) ≡ walk rest (stand (Begin (outWrap (wFor (length ns) h) o)) (sh.for_names h ns))
 for_head_read ns (for_head at a s e x i c) o t l n rest =
     let m = length ns in
     let ms = sh.start_names s ns in

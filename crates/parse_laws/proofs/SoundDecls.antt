@@ -5,7 +5,7 @@ use Rattle.c_tree.specs.declared.symbol.Bracket.TheVariants as br
 use Rattle.c_tree.specs.declared.symbol.TypeWord.TheVariants as type
 use Rattle.c_tree.specs.declared.symbol.Symbol.{Symbol}
 use Rattle.c_tree.specs.declared.symbol.Symbol.TheVariants as sy
-use Rattle.c_tree.specs.declared.symbol.Sign.{Sign}
+use Rattle.c_tree.specs.declared.symbol.SymbolAt.{SymbolAt}
 use Rattle.c_tree.specs.declared.known.Known.{Known}
 use Rattle.c_tree.specs.Symbols.{sign}
 use Rattle.c_tree.specs.Spelling.{opening, comma, spell_words, spell_params}
@@ -29,7 +29,7 @@ use Rattle.parse_laws.proofs.SoundSpecs.{parameters_end_good, parameters_more_go
 use Rattle.parse_machine.specs.Declarations.{Turn, turn, kept}
 
 abbrev Reader : Type 0
-Reader = List Sign → List Sign
+Reader = List SymbolAt → List SymbolAt
 
 tested_turn : (file : List (List ℕ)) (p : Reader) (c : Bool) (u : Turn) → (c ≡ true → GoodTurn file p (Some u)) → GoodTurn file p (ex.when c u)
 tested_turn file p true u h = h refl

@@ -4,7 +4,7 @@ use Rattle.c_tree.specs.declared.symbol.AssignOp.TheVariants as to
 use Rattle.c_tree.specs.declared.symbol.Bracket.TheVariants as br
 use Rattle.c_tree.specs.declared.symbol.Symbol.{Symbol}
 use Rattle.c_tree.specs.declared.symbol.Symbol.TheVariants as sy
-use Rattle.c_tree.specs.declared.symbol.Sign.{Sign}
+use Rattle.c_tree.specs.declared.symbol.SymbolAt.{SymbolAt}
 use Rattle.c_tree.specs.declared.known.Site.{Site}
 use Rattle.c_tree.specs.declared.known.Known.{Known}
 use Rattle.c_tree.specs.Symbols.{sign}
@@ -28,7 +28,7 @@ use Rattle.parse_laws.proofs.SoundEx.{operand_good, binary_good, assign_good, qu
 use Rattle.parse_machine.specs.Specifiers as sp
 
 abbrev Reader : Type 0
-Reader = List Sign → List Sign
+Reader = List SymbolAt → List SymbolAt
 
 -- A declaration is whole.
 
@@ -45,13 +45,13 @@ ended_good file d at f m = ended_at_good file d.place d.spoken d.before at (mk.d
 
 -- Behind a bare name.
 
-formed : (g : Form) (ats : Ats) (f : Form) (r : List Sign) → (decl.is_plain g && decl.are_no_attributes ats) ≡ true → spell_form f (spell_attributes ats r) ≡ spell_form g (spell_attributes ats (spell_form f r))
+formed : (g : Form) (ats : Ats) (f : Form) (r : List SymbolAt) → (decl.is_plain g && decl.are_no_attributes ats) ≡ true → spell_form f (spell_attributes ats r) ≡ spell_form g (spell_attributes ats (spell_form f r))
 formed fPlain no_attributes f r h = refl
 formed fPlain (attributes_and ats a) f r h = cc
 formed (fArray a e c) ats f r h = cc
 formed (fFunction ps) ats f r h = cc
 
-pub formed_reads : (d : Declared) (f : Tall Form) → decl.is_bare d ≡ true → (r : List Sign) → b.declared (mk.with_form d f) r ≡ b.declared d (spell_form f.value r)
+pub formed_reads : (d : Declared) (f : Tall Form) → decl.is_bare d ≡ true → (r : List SymbolAt) → b.declared (mk.with_form d f) r ≡ b.declared d (spell_form f.value r)
 formed_reads d f h r = ap (λ x. b.declaring d.around (comma d.comma (b.name_sign d.name d.at ∷ x))) (formed d.form.value d.attributes f.value r h)
 
 pub with_form_fits : (file : List (List ℕ)) (d : Declared) (f : Tall Form) → FitDeclared file d → sh.ShapedForm (declared_names file d) f.value → FitForm d.around f.value → FitDeclared file (mk.with_form d f)
@@ -59,7 +59,7 @@ with_form_fits file d f w s g = record { around = w.around; comma = w.comma; nam
 
 -- Round brackets.
 
-pub called_good : (file : List (List ℕ)) (p : Reader) (f : Part) (a : ℕ) (es : Tall Parts) (at : ℕ) (k : Inner) → (15 ≤ level_of f.value) → sh.Shaped (inner_names file k) f.value → sh.ShapedParts (inner_names file k) es.value → FitInner file k → ((r : List Sign) → b.inner k (spell f.value (opening br.Round a ∷ spell_parts es.value (closing br.Round at ∷ r))) ≡ p r) → GoodMode file (inner_names file k) p (Some (ex.called f a es at k))
+pub called_good : (file : List (List ℕ)) (p : Reader) (f : Part) (a : ℕ) (es : Tall Parts) (at : ℕ) (k : Inner) → (15 ≤ level_of f.value) → sh.Shaped (inner_names file k) f.value → sh.ShapedParts (inner_names file k) es.value → FitInner file k → ((r : List SymbolAt) → b.inner k (spell f.value (opening br.Round a ∷ spell_parts es.value (closing br.Round at ∷ r))) ≡ p r) → GoodMode file (inner_names file k) p (Some (ex.called f a es at k))
 called_good file p f a es at k l s t i g = value_made file p 15 _ (eCall f.value a es.value at) k (omega (arith, least_le k)) refl (l, s, t) i g
 
 close_round_open_good : (file ns : List (List ℕ)) (p : Reader) (at : ℕ) (e : Part) (x : Opened) (k : Inner) → GoodHeld file ns p (ex.held e (inOpen x k)) → GoodMode file ns (λ r. p (closing br.Round at ∷ r)) (ex.close_round_open at e x k)
@@ -71,7 +71,7 @@ close_round_open_good file ns p at e (oArgument f a es c) k g =
     (called_good file _ f a (mk.one_more es c e) at k g.around.0.0 g.around.0.1 (parts_more _ es.value c e g.around.0.2 g.around.0.3 (leb-true _ _ h) g.fits) g.around.1 (λ r. refl)))
 close_round_open_good file ns p at e _ k g = tt
 
-test_good : (file ns : List (List ℕ)) (p : Reader) (t : Test) (x a : ℕ) (v : Ex) (at : ℕ) (o : Outer) → ns ≡ scope file o → sh.Shaped (scope file o) v → FitOuter file o → ((r : List Sign) → b.outer o (word (b.test_word t) x ∷ opening br.Round a ∷ spell v r) ≡ p r) → GoodMode file ns (λ r. p (closing br.Round at ∷ r)) (Some (Begin (outWrap (mk.tested t (head x a v at)) o)))
+test_good : (file ns : List (List ℕ)) (p : Reader) (t : Test) (x a : ℕ) (v : Ex) (at : ℕ) (o : Outer) → ns ≡ scope file o → sh.Shaped (scope file o) v → FitOuter file o → ((r : List SymbolAt) → b.outer o (word (b.test_word t) x ∷ opening br.Round a ∷ spell v r) ≡ p r) → GoodMode file ns (λ r. p (closing br.Round at ∷ r)) (Some (Begin (outWrap (mk.tested t (head x a v at)) o)))
 test_good file ns p testIf x a v at o e s f g = λ l. (e, (s, f), λ r. g (closing br.Round at ∷ r))
 test_good file ns p testWhile x a v at o e s f g = λ l. (e, (s, f), λ r. g (closing br.Round at ∷ r))
 test_good file ns p testSwitch x a v at o e s f g = λ l. (e, (s, f), λ r. g (closing br.Round at ∷ r))
@@ -116,15 +116,15 @@ enum_shaped : (ns : List (List ℕ)) (h : EnumHead) (es : Ens) (c : Option ℕ) 
 enum_shaped ns (headBare x a) es c at f e s = (e, s)
 enum_shaped ns (headTagged x m y a) es c at f e s = (f, e, s)
 
-enum_reads : (h : EnumHead) (es : Ens) (c : Option ℕ) (at : ℕ) (r : List Sign) → spell_word (mk.enumeration h es c at) r ≡ b.enum_head h (spell_enumerators es (comma c (closing br.Curly at ∷ r)))
+enum_reads : (h : EnumHead) (es : Ens) (c : Option ℕ) (at : ℕ) (r : List SymbolAt) → spell_word (mk.enumeration h es c at) r ≡ b.enum_head h (spell_enumerators es (comma c (closing br.Curly at ∷ r)))
 enum_reads (headBare x a) es c at r = refl
 enum_reads (headTagged x m y a) es c at r = refl
 
-pub enumerated_good : (file : List (List ℕ)) (p : Reader) (l : Listing) (es : Tall Ens) (c : Option ℕ) (at : ℕ) → FitAround file l.around → FitNamed (sp.site_of l.around) (around_names file l.around) l.spoken → FitHead (around_names file l.around) l.head → sh.are_no_enumerators es.value ≡ false → sh.ShapedEnumerators (around_names file l.around) es.value → ((r : List Sign) → b.said l.spoken l.around (b.enum_head l.head (spell_enumerators es.value (comma c (closing br.Curly at ∷ r)))) ≡ p r) → GoodMode file (around_names file l.around) p (Some (ex.enumerated l es c at))
+pub enumerated_good : (file : List (List ℕ)) (p : Reader) (l : Listing) (es : Tall Ens) (c : Option ℕ) (at : ℕ) → FitAround file l.around → FitNamed (sp.site_of l.around) (around_names file l.around) l.spoken → FitHead (around_names file l.around) l.head → sh.are_no_enumerators es.value ≡ false → sh.ShapedEnumerators (around_names file l.around) es.value → ((r : List SymbolAt) → b.said l.spoken l.around (b.enum_head l.head (spell_enumerators es.value (comma c (closing br.Curly at ∷ r)))) ≡ p r) → GoodMode file (around_names file l.around) p (Some (ex.enumerated l es c at))
 enumerated_good file p l es c at f w h e s g = λ z.
     (refl, (record { told = enum_known _ l.head es.value c at l.spoken.words w.before _ w.told w.named; shaped = (w.shaped, enum_shaped _ l.head es.value c at h e s) }, f), λ r. ap (b.said l.spoken l.around) (enum_reads l.head es.value c at r) ∙ g r)
 
-pub listed_good : (file ns : List (List ℕ)) (p : Reader) (d : Declared) (x a : ℕ) (es : Tall Parts) (c : Option ℕ) (at : ℕ) → ns ≡ declared_names file d → FitDeclared file d → IsArray d.form.value → decl.is_object d.around.spoken.told ≡ true → sh.are_no_parts es.value ≡ false → sh.ShapedParts (declared_names file d) es.value → ((r : List Sign) → b.declared d (sign (sy.Assign to.Plain) x ∷ opening br.Curly a ∷ spell_parts es.value (comma c (closing br.Curly at ∷ r))) ≡ p r) → GoodMode file ns p (Some (ex.listed d x a es c at))
+pub listed_good : (file ns : List (List ℕ)) (p : Reader) (d : Declared) (x a : ℕ) (es : Tall Parts) (c : Option ℕ) (at : ℕ) → ns ≡ declared_names file d → FitDeclared file d → IsArray d.form.value → decl.is_object d.around.spoken.told ≡ true → sh.are_no_parts es.value ≡ false → sh.ShapedParts (declared_names file d) es.value → ((r : List SymbolAt) → b.declared d (sign (sy.Assign to.Plain) x ∷ opening br.Curly a ∷ spell_parts es.value (comma c (closing br.Curly at ∷ r))) ≡ p r) → GoodMode file ns p (Some (ex.listed d x a es c at))
 listed_good file ns p d x a es c at e f i o n s g = λ z.
     (e ∙ object_with_names file d (iList x a es.value c at) (above es.height) o, (with_initial_fits file d (iList x a es.value c at) (above es.height) f (may_list _ _ d.form.value x a es.value c at o i) (n, s), refl), g)
 

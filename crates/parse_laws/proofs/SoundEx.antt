@@ -7,7 +7,7 @@ use Rattle.c_tree.specs.declared.symbol.Crement.TheVariants as cr
 use Rattle.c_tree.specs.declared.symbol.Bracket.TheVariants as br
 use Rattle.c_tree.specs.declared.symbol.Symbol.{Symbol}
 use Rattle.c_tree.specs.declared.symbol.Symbol.TheVariants as sy
-use Rattle.c_tree.specs.declared.symbol.Sign.{Sign}
+use Rattle.c_tree.specs.declared.symbol.SymbolAt.{SymbolAt}
 use Rattle.c_tree.specs.declared.tree.PrefixOp.TheVariants as pre
 use Rattle.c_tree.specs.declared.known.Site.{Site}
 use Rattle.c_tree.specs.declared.known.Known.{Known}
@@ -30,7 +30,7 @@ use Rattle.parse_laws.proofs.Good.{GoodMode, tested, not_true, both_left, both_r
 use Rattle.parse_machine.specs.Declarations as decl
 
 abbrev Reader : Type 0
-Reader = List Sign → List Sign
+Reader = List SymbolAt → List SymbolAt
 
 -- Where an operand is to come.
 
@@ -186,7 +186,7 @@ comma_good file ns p at e (inConstant w s y es c n x a) g =
 
 -- Behind a colon.
 
-label_good : (file ns : List (List ℕ)) (p : Reader) (at : ℕ) (v : Ex) (o : Outer) → ns ≡ scope file o → sh.Shaped (scope file o) v → FitOuter file o → ((r : List Sign) → b.outer o (spell v r) ≡ p r) → GoodMode file ns (λ r. p (sign sy.Colon at ∷ r)) (ex.label at v o)
+label_good : (file ns : List (List ℕ)) (p : Reader) (at : ℕ) (v : Ex) (o : Outer) → ns ≡ scope file o → sh.Shaped (scope file o) v → FitOuter file o → ((r : List SymbolAt) → b.outer o (spell v r) ≡ p r) → GoodMode file ns (λ r. p (sign sy.Colon at ∷ r)) (ex.label at v o)
 label_good file ns p at (eName n x) o e s f g = λ l. (e, (s, tt, f), λ r. g (sign sy.Colon at ∷ r))
 label_good file ns p at _ o e s f g = tt
 

@@ -3,7 +3,7 @@ use Rattle.std.proofs.Common.{◌≡◌, ℕ, ◌≤◌, List, [], ◌∷◌, �
 use Rattle.c_tree.specs.declared.symbol.StorageWord.TheVariants as storage
 use Rattle.c_tree.specs.declared.symbol.Symbol.{Symbol}
 use Rattle.c_tree.specs.declared.symbol.Symbol.TheVariants as sy
-use Rattle.c_tree.specs.declared.symbol.Sign.{Sign}
+use Rattle.c_tree.specs.declared.symbol.SymbolAt.{SymbolAt}
 use Rattle.c_tree.specs.declared.known.Site.TheVariants as site
 use Rattle.c_tree.specs.declared.known.Known.{Known}
 use Rattle.c_tree.specs.Symbols.{sign}
@@ -34,13 +34,13 @@ use Rattle.parse_laws.proofs.Externs.{Out, OutTurn, extern_out, next_out}
 use Rattle.c_tree.specs.declared.known.Storage.TheVariants as sto
 
 abbrev Reader : Type 0
-Reader = List Sign → List Sign
+Reader = List SymbolAt → List SymbolAt
 
 -- What stands before the first `;`, `=` or `{`.
 
 -- the tokens of an item, of which nothing, only `__extension__`, or so much has come that it is no item to be skipped
 abbrev Begun : Mode → Reader → Type 0
-Begun m here = ((m ≡ File) × ((r : List Sign) → here r ≡ r)) ⊎ (((x : ℕ) × (m ≡ Specifiers (mk.said mk.unspoken nothing_known (wExtension x) 0) (aroundPlace placeFile)) × ((r : List Sign) → here r ≡ sign sy.Extension x ∷ r)) ⊎ ((r : List Sign) → sh.is_unlisted (here r) ≡ true))
+Begun m here = ((m ≡ File) × ((r : List SymbolAt) → here r ≡ r)) ⊎ (((x : ℕ) × (m ≡ Specifiers (mk.said mk.unspoken nothing_known (wExtension x) 0) (aroundPlace placeFile)) × ((r : List SymbolAt) → here r ≡ sign sy.Extension x ∷ r)) ⊎ ((r : List SymbolAt) → sh.is_unlisted (here r) ≡ true))
 
 -- an item that is skipped is no such item
 abbrev Started : Mode → Reader → Type 0
@@ -56,18 +56,18 @@ started (Ended (tSkipped x a r c) h) here g = tt
 started m here g = g
 
 -- the first token
-first_unlisted : (t : Symbol) (at : ℕ) (r : List Sign) → ma.opens t at File ≡ None → (t ≡ sy.Extension → ⊥) → sh.is_unlisted (sign t at ∷ r) ≡ true
+first_unlisted : (t : Symbol) (at : ℕ) (r : List SymbolAt) → ma.opens t at File ≡ None → (t ≡ sy.Extension → ⊥) → sh.is_unlisted (sign t at ∷ r) ≡ true
 first_unlisted (sy.Storage storage.Extern) at r e n = cc
 first_unlisted sy.Extension at r e n = absurd (n refl)
 first_unlisted _ at r e n = refl
 
 -- a token behind `__extension__`
-second_unlisted : (x : ℕ) (t : Symbol) (at : ℕ) (r : List Sign) → ma.opens t at (Specifiers (mk.said mk.unspoken nothing_known (wExtension x) 0) (aroundPlace placeFile)) ≡ None → sh.is_unlisted (sign sy.Extension x ∷ sign t at ∷ r) ≡ true
+second_unlisted : (x : ℕ) (t : Symbol) (at : ℕ) (r : List SymbolAt) → ma.opens t at (Specifiers (mk.said mk.unspoken nothing_known (wExtension x) 0) (aroundPlace placeFile)) ≡ None → sh.is_unlisted (sign sy.Extension x ∷ sign t at ∷ r) ≡ true
 second_unlisted x (sy.Storage storage.Extern) at r e = cc
 second_unlisted x _ at r e = refl
 
 -- behind the first token
-fresh_next : (names : List (List ℕ)) (here : Reader) (t : Symbol) (at : ℕ) (u : Turn) → ((r : List Sign) → here r ≡ r) → ma.opens t at File ≡ None → steps.next names (sign t at) File ≡ Some u → Begun u.mode (λ r. here (sign t at ∷ r))
+fresh_next : (names : List (List ℕ)) (here : Reader) (t : Symbol) (at : ℕ) (u : Turn) → ((r : List SymbolAt) → here r ≡ r) → ma.opens t at File ≡ None → steps.next names (sign t at) File ≡ Some u → Begun u.mode (λ r. here (sign t at ∷ r))
 fresh_next names here (sy.Storage storage.Extern) at u h e n = cc
 fresh_next names here sy.Extension at u h e n = inr (inl (at, sym (ap (λ o. mode_of o) n), λ r. h (sign sy.Extension at ∷ r)))
   where
@@ -76,7 +76,7 @@ fresh_next names here sy.Extension at u h e n = inr (inl (at, sym (ap (λ o. mod
     mode_of (Some u) = u.mode
 fresh_next names here t at u h e n = inr (inr (λ r. ap sh.is_unlisted (h (sign t at ∷ r)) ∙ first_unlisted t at r e (λ x. cc)))
 
-begun_next : (names : List (List ℕ)) (here : Reader) (t : Sign) (m : Mode) (u : Turn) → Begun m here → ma.opens t.symbol t.at m ≡ None → steps.next names t m ≡ Some u → Begun u.mode (λ r. here (t ∷ r))
+begun_next : (names : List (List ℕ)) (here : Reader) (t : SymbolAt) (m : Mode) (u : Turn) → Begun m here → ma.opens t.symbol t.at m ≡ None → steps.next names t m ≡ Some u → Begun u.mode (λ r. here (t ∷ r))
 begun_next names here t m u (inl g) e n = fresh_next names here t.symbol t.at u g.1 (subst (λ z. ma.opens t.symbol t.at z ≡ None) g.0 e) (subst (λ z. steps.next names t z ≡ Some u) g.0 n)
 begun_next names here t m u (inr (inl g)) e n = inr (inr (λ r. ap sh.is_unlisted (g.2 (t ∷ r)) ∙ second_unlisted g.0 t.symbol t.at r (subst (λ z. ma.opens t.symbol t.at z ≡ None) g.1 e)))
 begun_next names here t m u (inr (inr g)) e n = inr (inr (λ r. g (t ∷ r)))
@@ -94,7 +94,7 @@ either_false false false h = (refl, refl)
 stop_false : (c : Bool) (x : Bool) (y : Bool) → c ≡ false → (if c then x else y) ≡ y
 stop_false c x y h = rw h refl
 
-raw_unlisted : (r : Raw) (ts : List Sign) → sh.has_listed r ≡ false → sh.has_stop r ≡ false → sh.has_no_listed ts ≡ true → sh.has_no_listed (spell_raw r ts) ≡ true
+raw_unlisted : (r : Raw) (ts : List SymbolAt) → sh.has_listed r ≡ false → sh.has_stop r ≡ false → sh.has_no_listed ts ≡ true → sh.has_no_listed (spell_raw r ts) ≡ true
 raw_unlisted no_raw ts a c h = h
 raw_unlisted (raw_and r s) ts a c h =
     let x = either_false (sh.is_listed s.symbol) (sh.has_listed r) a in
@@ -102,11 +102,11 @@ raw_unlisted (raw_and r s) ts a c h =
     let z : sh.has_no_listed (s ∷ ts) ≡ true = stop_false (sh.is_stop s.symbol) true (not (sh.is_listed s.symbol) && sh.has_no_listed ts) y.0 ∙ ap (λ q. not q && sh.has_no_listed ts) x.0 ∙ h in
     raw_unlisted r (s ∷ ts) x.1 y.1 z
 
-extern_unlisted : (o : Option ℕ) (at : ℕ) (ts : List Sign) → sh.has_no_listed ts ≡ true → sh.is_unlisted (extension o (sign (sy.Storage storage.Extern) at ∷ ts)) ≡ true
+extern_unlisted : (o : Option ℕ) (at : ℕ) (ts : List SymbolAt) → sh.has_no_listed ts ≡ true → sh.is_unlisted (extension o (sign (sy.Storage storage.Extern) at ∷ ts)) ≡ true
 extern_unlisted None at ts h = h
 extern_unlisted (Some x) at ts h = h
 
-stop_ends : (t : Sign) (r : List Sign) → sh.is_stop t.symbol ≡ true → sh.has_no_listed (t ∷ r) ≡ true
+stop_ends : (t : SymbolAt) (r : List SymbolAt) → sh.is_stop t.symbol ≡ true → sh.has_no_listed (t ∷ r) ≡ true
 stop_ends t r h = rw h refl
 
 -- the state of a machine that reads the item beside, where its trees are not too high
@@ -133,7 +133,7 @@ abbrev GoodPlain : List (List ℕ) → List (List ℕ) → Reader → Mode → T
 GoodPlain file names here m = (low m ≤ 200) × (names ≡ names_of file m) × Fit file m × Reads m here × Started m here
 
 pub record GoodExtern (file names : List (List ℕ)) (here : Reader) (x : Extern) : Type 0 where
-  pub tokens : (r : List Sign) → extern_tokens x r ≡ here r
+  pub tokens : (r : List SymbolAt) → extern_tokens x r ≡ here r
   pub outside : names ≡ file
   pub no_stop : sh.has_stop x.raw ≡ false
 
@@ -146,7 +146,7 @@ GoodPhase file names here Above = Unit {0}
 pub record GoodState (p : Reader) (s : State) : Type 0 where
   pub shaped : sh.ShapedItems s.items
   pub here : Reader
-  pub split : (r : List Sign) → spell_items s.items (here r) ≡ p r
+  pub split : (r : List SymbolAt) → spell_items s.items (here r) ≡ p r
   pub phase : GoodPhase (sh.file_names s.items) s.names here s.phase
 
 -- unless its trees are too high
@@ -156,7 +156,7 @@ GoodNext p (Some s) = ma.phase_low s.phase ≤ 200 → GoodState p s
 
 -- An item is whole.
 
-item_shaped : (file : List (List ℕ)) (here : Reader) (i : Item) (h : ℕ) → FitItem file i → ((r : List Sign) → spell_item i r ≡ here r) → Started (Ended i h) here → sh.ShapedItem i file
+item_shaped : (file : List (List ℕ)) (here : Reader) (i : Item) (h : ℕ) → FitItem file i → ((r : List SymbolAt) → spell_item i r ≡ here r) → Started (Ended i h) here → sh.ShapedItem i file
 item_shaped file here (tSkipped x a r c) h f e g = f
 item_shaped file here (tEmpty at) h f e g = tt
 item_shaped file here (tFunction ws n ps ats y) h f e (inl g) = cc
@@ -166,7 +166,7 @@ item_shaped file here (tDeclaration d) h f e (inl g) = cc
 item_shaped file here (tDeclaration d) h f e (inr (inl g)) = let z = g.1 in cc
 item_shaped file here (tDeclaration d) h f e (inr (inr g)) = (f, ap sh.is_unlisted (e []) ∙ g [])
 
-filed_good : (p : Reader) (is : Items) (names : List (List ℕ)) (x : Phase) (here : Reader) → sh.ShapedItems is → ((r : List Sign) → spell_items is (here r) ≡ p r) → GoodPhase (sh.file_names is) names here x → GoodState p (ma.filed is names x)
+filed_good : (p : Reader) (is : Items) (names : List (List ℕ)) (x : Phase) (here : Reader) → sh.ShapedItems is → ((r : List SymbolAt) → spell_items is (here r) ≡ p r) → GoodPhase (sh.file_names is) names here x → GoodState p (ma.filed is names x)
 filed_good p is names (Plain (Ended i h)) here s e g = record {
   shaped = (s, item_shaped (sh.file_names is) here i h g.2 g.3 g.4);
   here = λ r. r;
@@ -177,11 +177,11 @@ filed_good p is names x here s e g = record { shaped = s; here = here; split = e
 
 -- Steps.
 
-started_next : (names : List (List ℕ)) (here : Reader) (t : Sign) (m : Mode) (u : Turn) → Started m here → ma.opens t.symbol t.at m ≡ None → steps.next names t m ≡ Some u → Started u.mode (λ r. here (t ∷ r))
+started_next : (names : List (List ℕ)) (here : Reader) (t : SymbolAt) (m : Mode) (u : Turn) → Started m here → ma.opens t.symbol t.at m ≡ None → steps.next names t m ≡ Some u → Started u.mode (λ r. here (t ∷ r))
 started_next names here t (Ended i h) u g e n = cc
 started_next names here t m u g e n = started u.mode (λ r. here (t ∷ r)) (begun_next names here t m u g e n)
 
-plain_good : (p : Reader) (is : Items) (here : Reader) (o : Option Turn) → sh.ShapedItems is → ((r : List Sign) → spell_items is (here r) ≡ p r) → GoodTurn (sh.file_names is) here o → ((u : Turn) → o ≡ Some u → Started u.mode here) → GoodNext p (ma.plain is o)
+plain_good : (p : Reader) (is : Items) (here : Reader) (o : Option Turn) → sh.ShapedItems is → ((r : List SymbolAt) → spell_items is (here r) ≡ p r) → GoodTurn (sh.file_names is) here o → ((u : Turn) → o ≡ Some u → Started u.mode here) → GoodNext p (ma.plain is o)
 plain_good p is here None s e g n = tt
 plain_good p is here (Some u) s e g n = λ l. let x = g l in record { shaped = s; here = here; split = e; phase = (l, x.0, x.1, x.2, n u refl) }
 
@@ -190,11 +190,11 @@ some_same a c h = cc
 
 -- what `extern` opens
 pub record Opens (file : List (List ℕ)) (at : ℕ) (m : Mode) (here : Reader) (x : Extern) : Type 0 where
-  pub tokens : (r : List Sign) → extern_tokens x r ≡ here (sign (sy.Storage storage.Extern) at ∷ r)
+  pub tokens : (r : List SymbolAt) → extern_tokens x r ≡ here (sign (sy.Storage storage.Extern) at ∷ r)
   pub raw : x.raw ≡ no_raw
   pub outside : names_of file m ≡ file
 
-opened_words : (file : List (List ℕ)) (at : ℕ) (s : Spoken) (ws : Words) (here : Reader) (x : Extern) → ((r : List Sign) → spell_words ws r ≡ here r) → ma.opens_words ws at ≡ Some x → Opens file at (Specifiers s (aroundPlace placeFile)) here x
+opened_words : (file : List (List ℕ)) (at : ℕ) (s : Spoken) (ws : Words) (here : Reader) (x : Extern) → ((r : List SymbolAt) → spell_words ws r ≡ here r) → ma.opens_words ws at ≡ Some x → Opens file at (Specifiers s (aroundPlace placeFile)) here x
 opened_words file at s (words_and no_words (wExtension y)) here x g e =
     subst (Opens file at (Specifiers s (aroundPlace placeFile)) here) (some_same _ _ e) (record { tokens = λ r. g (sign (sy.Storage storage.Extern) at ∷ r); raw = refl; outside = refl })
 opened_words file at s _ here x g e = cc
@@ -209,35 +209,35 @@ opened_at : (file : List (List ℕ)) (t : Symbol) (at : ℕ) (m : Mode) (here : 
 opened_at file (sy.Storage storage.Extern) at m here x g e = (opened_mode file at m here x g e, refl)
 opened_at file _ at m here x g e = cc
 
-pub next_reads : (file names : List (List ℕ)) (t : Sign) (m : Mode) (here : Reader) → names ≡ names_of file m → Fit file m → low m ≤ 200 → Reads m here → GoodTurn file (λ r. here (t ∷ r)) (steps.next names t m)
+pub next_reads : (file names : List (List ℕ)) (t : SymbolAt) (m : Mode) (here : Reader) → names ≡ names_of file m → Fit file m → low m ≤ 200 → Reads m here → GoodTurn file (λ r. here (t ∷ r)) (steps.next names t m)
 next_reads file names t Finished here e f l g = tt
 next_reads file names t m here e f l g = same_turn file _ _ (steps.next names t m) (λ r. g (t ∷ r)) (next_good file names t m e f l)
 
-go_reads : (file names : List (List ℕ)) (t : Sign) (o : Option Mode) (high : Bool) (here : Reader) → GoodBoth file names here high o → high ≡ false → GoodTurn file (λ r. here (t ∷ r)) (ma.go names t o)
+go_reads : (file names : List (List ℕ)) (t : SymbolAt) (o : Option Mode) (high : Bool) (here : Reader) → GoodBoth file names here high o → high ≡ false → GoodTurn file (λ r. here (t ∷ r)) (ma.go names t o)
 go_reads file names t None high here g h = tt
 go_reads file names t (Some m) high here g h = let x = g.1 h in next_reads file names t m here x.names_are x.fits x.low x.reads
 
-go_out : (file names : List (List ℕ)) (t : Sign) (o : Option Mode) (high : Bool) (here : Reader) → GoodBoth file names here high o → sh.is_stop t.symbol ≡ false → OutTurn names (ma.go names t o)
+go_out : (file names : List (List ℕ)) (t : SymbolAt) (o : Option Mode) (high : Bool) (here : Reader) → GoodBoth file names here high o → sh.is_stop t.symbol ≡ false → OutTurn names (ma.go names t o)
 go_out file names t None high here g h = tt
 go_out file names t (Some m) high here g h = next_out names t m g.0 h
 
-extern_more : (file names : List (List ℕ)) (here : Reader) (x : Extern) (t : Sign) → GoodExtern file names here x → sh.is_stop t.symbol ≡ false → GoodExtern file names (λ r. here (t ∷ r)) (ma.more x t)
+extern_more : (file names : List (List ℕ)) (here : Reader) (x : Extern) (t : SymbolAt) → GoodExtern file names here x → sh.is_stop t.symbol ≡ false → GoodExtern file names (λ r. here (t ∷ r)) (ma.more x t)
 extern_more file names here x t g e = record { tokens = λ r. g.tokens (t ∷ r); outside = g.outside; no_stop = ap (λ q. q || sh.has_stop x.raw) e ∙ g.no_stop }
 
 -- the item can't be skipped any more
-settled_at : (p : Reader) (is : Items) (here : Reader) (o : Option Turn) (high : Bool) → sh.ShapedItems is → ((r : List Sign) → spell_items is (here r) ≡ p r) → ((r : List Sign) → sh.is_unlisted (here r) ≡ true) → (high ≡ false → GoodTurn (sh.file_names is) here o) → GoodNext p (ma.settled high is o)
+settled_at : (p : Reader) (is : Items) (here : Reader) (o : Option Turn) (high : Bool) → sh.ShapedItems is → ((r : List SymbolAt) → spell_items is (here r) ≡ p r) → ((r : List SymbolAt) → sh.is_unlisted (here r) ≡ true) → (high ≡ false → GoodTurn (sh.file_names is) here o) → GoodNext p (ma.settled high is o)
 settled_at p is here None high s e u h = tt
 settled_at p is here (Some w) true s e u h = λ l. absurd (omega (arith, l))
 settled_at p is here (Some w) false s e u h = λ l. let y = h refl l in record { shaped = s; here = here; split = e; phase = (l, y.0, y.1, y.2, started w.mode here (inr (inr u))) }
 
-settled_good : (p : Reader) (is : Items) (names : List (List ℕ)) (here : Reader) (x : Extern) (m : Option Mode) (high : Bool) (t : Sign) → sh.ShapedItems is → ((r : List Sign) → spell_items is (here r) ≡ p r) → GoodPhase (sh.file_names is) names here (Both x m high) → sh.is_stop t.symbol ≡ true → GoodNext (λ r. p (t ∷ r)) (ma.settled high is (ma.go names t m))
+settled_good : (p : Reader) (is : Items) (names : List (List ℕ)) (here : Reader) (x : Extern) (m : Option Mode) (high : Bool) (t : SymbolAt) → sh.ShapedItems is → ((r : List SymbolAt) → spell_items is (here r) ≡ p r) → GoodPhase (sh.file_names is) names here (Both x m high) → sh.is_stop t.symbol ≡ true → GoodNext (λ r. p (t ∷ r)) (ma.settled high is (ma.go names t m))
 settled_good p is names here x m high t s e g k =
     settled_at (λ r. p (t ∷ r)) is (λ r. here (t ∷ r)) (ma.go names t m) high s (λ r. e (t ∷ r))
     (λ r. ap sh.is_unlisted (sym (g.0.tokens (t ∷ r))) ∙ extern_unlisted x.extension x.at _ (raw_unlisted x.raw (t ∷ r) g.1 g.0.no_stop (stop_ends t r k)))
     (λ h. go_reads (sh.file_names is) names t m high here g.2 h)
 
 -- one token more beside
-both_state : (p : Reader) (is : Items) (names : List (List ℕ)) (here : Reader) (x : Extern) (high : Bool) (o : Option Turn) → sh.ShapedItems is → ((r : List Sign) → spell_items is (here r) ≡ p r) → GoodExtern (sh.file_names is) names here x → sh.has_listed x.raw ≡ false → OutTurn names o → (high ≡ false → GoodTurn (sh.file_names is) here o) → GoodNext p (Some (ma.both is names x high o))
+both_state : (p : Reader) (is : Items) (names : List (List ℕ)) (here : Reader) (x : Extern) (high : Bool) (o : Option Turn) → sh.ShapedItems is → ((r : List SymbolAt) → spell_items is (here r) ≡ p r) → GoodExtern (sh.file_names is) names here x → sh.has_listed x.raw ≡ false → OutTurn names o → (high ≡ false → GoodTurn (sh.file_names is) here o) → GoodNext p (Some (ma.both is names x high o))
 both_state p is names here x high None s e g n w h = λ l. record { shaped = s; here = here; split = e; phase = (g, n, tt) }
 both_state p is names here x high (Some u) s e g n w h = λ l. record {
   shaped = s;
@@ -257,7 +257,7 @@ both_state p is names here x high (Some u) s e g n w h = λ l. record {
   );
 }
 
-both_pick : (p : Reader) (is : Items) (names : List (List ℕ)) (here : Reader) (x : Extern) (m : Option Mode) (high : Bool) (t : Sign) (c d : Bool) → sh.is_stop t.symbol ≡ c → sh.is_listed t.symbol ≡ d → sh.ShapedItems is → ((r : List Sign) → spell_items is (here r) ≡ p r) → GoodPhase (sh.file_names is) names here (Both x m high) → GoodNext (λ r. p (t ∷ r)) (ma.step_both (if c then stopRole else (if d then listedRole else otherRole)) is names t x m high)
+both_pick : (p : Reader) (is : Items) (names : List (List ℕ)) (here : Reader) (x : Extern) (m : Option Mode) (high : Bool) (t : SymbolAt) (c d : Bool) → sh.is_stop t.symbol ≡ c → sh.is_listed t.symbol ≡ d → sh.ShapedItems is → ((r : List SymbolAt) → spell_items is (here r) ≡ p r) → GoodPhase (sh.file_names is) names here (Both x m high) → GoodNext (λ r. p (t ∷ r)) (ma.step_both (if c then stopRole else (if d then listedRole else otherRole)) is names t x m high)
 both_pick p is names here x m high t true d k n s e g = settled_good p is names here x m high t s e g k
 both_pick p is names here x m high t false true k n s e g = λ l.
     record { shaped = s; here = λ r. here (t ∷ r); split = λ r. e (t ∷ r); phase = (extern_more (sh.file_names is) names here x t g.0 k, ap (λ q. q || sh.has_listed x.raw) n) }
@@ -265,18 +265,18 @@ both_pick p is names here x m high t false false k n s e g =
     both_state (λ r. p (t ∷ r)) is names (λ r. here (t ∷ r)) (ma.more x t) high (ma.go names t m) s (λ r. e (t ∷ r)) (extern_more (sh.file_names is) names here x t g.0 k) (ap (λ q. q || sh.has_listed x.raw) n ∙ g.1)
     (go_out (sh.file_names is) names t m high here g.2 k) (λ h. go_reads (sh.file_names is) names t m high here g.2 h)
 
-both_good : (p : Reader) (is : Items) (names : List (List ℕ)) (here : Reader) (x : Extern) (m : Option Mode) (high : Bool) (t : Symbol) (at : ℕ) → sh.ShapedItems is → ((r : List Sign) → spell_items is (here r) ≡ p r) → GoodPhase (sh.file_names is) names here (Both x m high) → GoodNext (λ r. p (sign t at ∷ r)) (ma.step_both (ma.role t) is names (sign t at) x m high)
+both_good : (p : Reader) (is : Items) (names : List (List ℕ)) (here : Reader) (x : Extern) (m : Option Mode) (high : Bool) (t : Symbol) (at : ℕ) → sh.ShapedItems is → ((r : List SymbolAt) → spell_items is (here r) ≡ p r) → GoodPhase (sh.file_names is) names here (Both x m high) → GoodNext (λ r. p (sign t at ∷ r)) (ma.step_both (ma.role t) is names (sign t at) x m high)
 both_good p is names here x m high sy.Semicolon at s e g = settled_good p is names here x m high (sign sy.Semicolon at) s e g refl
 both_good p is names here x m high t at s e g = both_pick p is names here x m high (sign t at) (sh.is_stop t) (sh.is_listed t) refl refl s e g
 
-skip_pick : (p : Reader) (is : Items) (names : List (List ℕ)) (here : Reader) (x : Extern) (t : Sign) (c d : Bool) → sh.is_stop t.symbol ≡ c → sh.ShapedItems is → ((r : List Sign) → spell_items is (here r) ≡ p r) → GoodPhase (sh.file_names is) names here (Skipping x) → GoodNext (λ r. p (t ∷ r)) (ma.step_skipping (if c then stopRole else (if d then listedRole else otherRole)) is names t x)
+skip_pick : (p : Reader) (is : Items) (names : List (List ℕ)) (here : Reader) (x : Extern) (t : SymbolAt) (c d : Bool) → sh.is_stop t.symbol ≡ c → sh.ShapedItems is → ((r : List SymbolAt) → spell_items is (here r) ≡ p r) → GoodPhase (sh.file_names is) names here (Skipping x) → GoodNext (λ r. p (t ∷ r)) (ma.step_skipping (if c then stopRole else (if d then listedRole else otherRole)) is names t x)
 skip_pick p is names here x t true d k s e g = tt
 skip_pick p is names here x t false true k s e g = λ l.
     record { shaped = s; here = λ r. here (t ∷ r); split = λ r. e (t ∷ r); phase = (extern_more (sh.file_names is) names here x t g.0 k, or_true (sh.is_listed t.symbol) (sh.has_listed x.raw) g.1) }
 skip_pick p is names here x t false false k s e g = λ l.
     record { shaped = s; here = λ r. here (t ∷ r); split = λ r. e (t ∷ r); phase = (extern_more (sh.file_names is) names here x t g.0 k, or_true (sh.is_listed t.symbol) (sh.has_listed x.raw) g.1) }
 
-skip_good : (p : Reader) (is : Items) (names : List (List ℕ)) (here : Reader) (x : Extern) (t : Symbol) (at : ℕ) → sh.ShapedItems is → ((r : List Sign) → spell_items is (here r) ≡ p r) → GoodPhase (sh.file_names is) names here (Skipping x) → GoodNext (λ r. p (sign t at ∷ r)) (ma.step_skipping (ma.role t) is names (sign t at) x)
+skip_good : (p : Reader) (is : Items) (names : List (List ℕ)) (here : Reader) (x : Extern) (t : Symbol) (at : ℕ) → sh.ShapedItems is → ((r : List SymbolAt) → spell_items is (here r) ≡ p r) → GoodPhase (sh.file_names is) names here (Skipping x) → GoodNext (λ r. p (sign t at ∷ r)) (ma.step_skipping (ma.role t) is names (sign t at) x)
 skip_good p is names here x sy.Semicolon at s e g = λ l. record {
   shaped = s;
   here = λ r. here (sign sy.Semicolon at ∷ r);
@@ -302,7 +302,7 @@ opened_out : (file names : List (List ℕ)) (t : Symbol) (at : ℕ) (m : Mode) (
 opened_out file names (sy.Storage storage.Extern) at m x f e = opened_mode_out file names at m x f e
 opened_out file names _ at m x f e = cc
 
-plain_step : (p : Reader) (is : Items) (names : List (List ℕ)) (here : Reader) (t : Sign) (m : Mode) (o : Option Extern) → ma.opens t.symbol t.at m ≡ o → sh.ShapedItems is → ((r : List Sign) → spell_items is (here r) ≡ p r) → GoodPlain (sh.file_names is) names here m → GoodNext (λ r. p (t ∷ r)) (ma.step_plain o is names t m)
+plain_step : (p : Reader) (is : Items) (names : List (List ℕ)) (here : Reader) (t : SymbolAt) (m : Mode) (o : Option Extern) → ma.opens t.symbol t.at m ≡ o → sh.ShapedItems is → ((r : List SymbolAt) → spell_items is (here r) ≡ p r) → GoodPlain (sh.file_names is) names here m → GoodNext (λ r. p (t ∷ r)) (ma.step_plain o is names t m)
 plain_step p is names here t m None k s e g =
     plain_good (λ r. p (t ∷ r)) is (λ r. here (t ∷ r)) (steps.next names t m) s (λ r. e (t ∷ r)) (next_reads (sh.file_names is) names t m here g.1 g.2 g.0 g.3) (λ u n. started_next names here t m u g.4 k n)
 plain_step p is names here t m (Some x) k s e g =
@@ -311,13 +311,13 @@ plain_step p is names here t m (Some x) k s e g =
     (record { tokens = λ r. q.0.tokens r ∙ ap (λ z. here (sign z t.at ∷ r)) (sym q.1); outside = g.1 ∙ q.0.outside; no_stop = ap sh.has_stop q.0.raw }) (ap sh.has_listed q.0.raw)
     (opened_out (sh.file_names is) names t.symbol t.at m x g.2 k) (λ h. next_reads (sh.file_names is) names t m here g.1 g.2 g.0 g.3)
 
-phase_good : (p : Reader) (is : Items) (names : List (List ℕ)) (here : Reader) (t : Sign) (x : Phase) → sh.ShapedItems is → ((r : List Sign) → spell_items is (here r) ≡ p r) → GoodPhase (sh.file_names is) names here x → GoodNext (λ r. p (t ∷ r)) (ma.step_phase is names t x)
+phase_good : (p : Reader) (is : Items) (names : List (List ℕ)) (here : Reader) (t : SymbolAt) (x : Phase) → sh.ShapedItems is → ((r : List SymbolAt) → spell_items is (here r) ≡ p r) → GoodPhase (sh.file_names is) names here x → GoodNext (λ r. p (t ∷ r)) (ma.step_phase is names t x)
 phase_good p is names here t (Plain m) s e g = plain_step p is names here t m (ma.opens t.symbol t.at m) refl s e g
 phase_good p is names here t (Both x u high) s e g = both_good p is names here x u high t.symbol t.at s e g
 phase_good p is names here t (Skipping x) s e g = skip_good p is names here x t.symbol t.at s e g
 phase_good p is names here t Above s e g = tt
 
-step_good : (p : Reader) (t : Sign) (s : State) → GoodState p s → GoodNext (λ r. p (t ∷ r)) (ma.step t s)
+step_good : (p : Reader) (t : SymbolAt) (s : State) → GoodState p s → GoodNext (λ r. p (t ∷ r)) (ma.step t s)
 step_good p t s g =
     let f = filed_good p s.items s.names s.phase g.here g.shaped g.split g.phase in
     let z = ma.filed s.items s.names s.phase in
@@ -333,14 +333,14 @@ abbrev GoodCourse : Reader → Course → Type 0
 GoodCourse p (Going s) = GoodState p s
 GoodCourse p (Over r) = IsNoTree r
 
-refusal_good : (t : Sign) → IsNoTree (ma.refusal t)
+refusal_good : (t : SymbolAt) → IsNoTree (ma.refusal t)
 refusal_good t = pick_good (tok.is_unsupported t.symbol)
   where
     pick_good : (c : Bool) → IsNoTree (if c then Unsupported t.at else Syntax t.at)
     pick_good true = tt
     pick_good false = tt
 
-limited_good : (p : Reader) (t : Sign) (o : Option State) → GoodNext p o → GoodCourse p (ma.course t (ma.limited o))
+limited_good : (p : Reader) (t : SymbolAt) (o : Option State) → GoodNext p o → GoodCourse p (ma.course t (ma.limited o))
 limited_good p t None g = refusal_good t
 limited_good p t (Some s) g = pick_good (leb (ma.phase_low s.phase) 200) (λ h. g (leb-true _ _ h))
   where
@@ -348,11 +348,11 @@ limited_good p t (Some s) g = pick_good (leb (ma.phase_low s.phase) 200) (λ h. 
     pick_good true h = h refl
     pick_good false h = tt
 
-advance_good : (p : Reader) (t : Sign) (c : Course) → GoodCourse p c → GoodCourse (λ r. p (t ∷ r)) (ma.advance t c)
+advance_good : (p : Reader) (t : SymbolAt) (c : Course) → GoodCourse p c → GoodCourse (λ r. p (t ∷ r)) (ma.advance t c)
 advance_good p t (Going s) g = limited_good (λ r. p (t ∷ r)) t (ma.step t s) (step_good p t s g)
 advance_good p t (Over r) g = g
 
-run_good : (ts : List Sign) (p : Reader) (c : Course) → GoodCourse p c → GoodCourse (λ r. p (ts ++ r)) (ma.run ts c)
+run_good : (ts : List SymbolAt) (p : Reader) (c : Course) → GoodCourse p c → GoodCourse (λ r. p (ts ++ r)) (ma.run ts c)
 run_good [] p c g = g
 run_good (t ∷ ts) p c g = run_good ts (λ r. p (t ∷ r)) (ma.advance t c) (advance_good p t c g)
 
@@ -360,7 +360,7 @@ start_good : GoodState (λ r. r) ma.start
 start_good = record { shaped = tt; here = λ r. r; split = λ r. refl; phase = (omega arith, refl, tt, (λ r. refl), inl (refl, λ r. refl)) }
 
 -- what a state that has come to the end answers
-finished : (ts : List Sign) (is : Items) (names : List (List ℕ)) (x : Phase) (here : Reader) (tree : Items) → sh.ShapedItems is → ((r : List Sign) → spell_items is (here r) ≡ ts ++ r) → GoodPhase (sh.file_names is) names here x → ma.finish_phase is x ≡ Tree tree → IsSpelled ts tree
+finished : (ts : List SymbolAt) (is : Items) (names : List (List ℕ)) (x : Phase) (here : Reader) (tree : Items) → sh.ShapedItems is → ((r : List SymbolAt) → spell_items is (here r) ≡ ts ++ r) → GoodPhase (sh.file_names is) names here x → ma.finish_phase is x ≡ Tree tree → IsSpelled ts tree
 finished ts is names (Plain Finished) here tree s e g h =
     subst (IsSpelled ts) (tree_same is tree h) (record { shaped = s; end = g.3.0; spelled = ap (spell_items is) (g.3.1 []) ∙ e [] ∙ append-nil ts })
   where
@@ -368,10 +368,10 @@ finished ts is names (Plain Finished) here tree s e g h =
     tree_same a c h = cc
 finished ts is names _ here tree s e g h = cc
 
-answered : (ts : List Sign) (c : Course) (tree : Items) → GoodCourse (λ r. ts ++ r) c → ma.outcome c ≡ Tree tree → IsSpelled ts tree
+answered : (ts : List SymbolAt) (c : Course) (tree : Items) → GoodCourse (λ r. ts ++ r) c → ma.outcome c ≡ Tree tree → IsSpelled ts tree
 answered ts (Going s) tree g h = finished ts s.items s.names s.phase g.here tree g.shaped g.split g.phase h
 answered ts (Over r) tree g h = absurd (subst IsNoTree h g)
 
 -- What the machine answers is shaped, and spells the tokens.
-pub sound : (ts : List Sign) (tree : Items) → ma.parse_of ts ≡ Tree tree → IsSpelled ts tree
+pub sound : (ts : List SymbolAt) (tree : Items) → ma.parse_of ts ≡ Tree tree → IsSpelled ts tree
 sound ts tree h = answered ts (ma.run ts (Going ma.start)) tree (run_good ts (λ r. r) (Going ma.start) start_good) h

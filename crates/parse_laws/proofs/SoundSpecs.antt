@@ -4,7 +4,7 @@ use Rattle.c_tree.specs.declared.symbol.AssignOp.TheVariants as to
 use Rattle.c_tree.specs.declared.symbol.Bracket.TheVariants as br
 use Rattle.c_tree.specs.declared.symbol.Symbol.{Symbol}
 use Rattle.c_tree.specs.declared.symbol.Symbol.TheVariants as sy
-use Rattle.c_tree.specs.declared.symbol.Sign.{Sign}
+use Rattle.c_tree.specs.declared.symbol.SymbolAt.{SymbolAt}
 use Rattle.c_tree.specs.declared.known.Site.{Site}
 use Rattle.c_tree.specs.declared.known.Known.{Known}
 use Rattle.c_tree.specs.Symbols.{sign}
@@ -24,7 +24,7 @@ use Rattle.parse_machine.specs.Specifiers as sp
 use Rattle.parse_laws.proofs.SoundEnds.{ended_good, formed_reads, with_form_fits, enumerated_good, comma_not_empty}
 
 abbrev Reader : Type 0
-Reader = List Sign → List Sign
+Reader = List SymbolAt → List SymbolAt
 
 -- One word more.
 
@@ -34,7 +34,7 @@ known_more s ws x k n e h = rw e (sym h)
 pub said_fits : (s : Site) (ns : List (List ℕ)) (x : Spoken) (w : Word) (k : Known) (h : ℕ) → FitSpoken s ns x → Some k ≡ with_word s w x.told → sh.ShapedWord ns w → FitSpoken s ns (mk.said x k w h)
 said_fits s ns x w k h f e g = record { told = known_more s x.words w x.told k f.told e; shaped = (f.shaped, g) }
 
-word_good : (file : List (List ℕ)) (s : Spoken) (w : Around) (x : Word) (c : Sign) (o : Option Known) → FitWords file s w → o ≡ with_word (sp.site_of w) x s.told → sh.ShapedWord (around_names file w) x → ((r : List Sign) → spell_word x r ≡ c ∷ r) → GoodMode file (around_names file w) (λ r. b.said s w (c ∷ r)) (sp.with_word_said s w x o)
+word_good : (file : List (List ℕ)) (s : Spoken) (w : Around) (x : Word) (c : SymbolAt) (o : Option Known) → FitWords file s w → o ≡ with_word (sp.site_of w) x s.told → sh.ShapedWord (around_names file w) x → ((r : List SymbolAt) → spell_word x r ≡ c ∷ r) → GoodMode file (around_names file w) (λ r. b.said s w (c ∷ r)) (sp.with_word_said s w x o)
 word_good file s w x c None f e g h = tt
 word_good file s w x c (Some k) f e g h = λ l. (refl, (said_fits (sp.site_of w) (around_names file w) s x k 0 f.0 e g, f.1), λ r. ap (b.said s w) (h r))
 
@@ -56,12 +56,12 @@ behind_sizeof_good : (file : List (List ℕ)) (t : Symbol) (at : ℕ) (s : Spoke
 behind_sizeof_good file (sy.Close br.Round) at s x a k f y = value_made file _ 14 (above (above s.height)) (eSizeof x a s.words at) k (least_le k) refl (specs_of _ _ s f.0 y, f.0.shaped) f.1 (λ r. refl)
 behind_sizeof_good file _ at s x a k f y = tt
 
-pub parameters_end_good : (file : List (List ℕ)) (p : Reader) (d : Declared) (a : ℕ) (ps : Tall Params) (at : ℕ) → FitFunction file d → sh.are_no_params ps.value ≡ false → sh.ShapedParams (declared_names file d) ps.value → ((r : List Sign) → b.declared d (opening br.Round a ∷ spell_params ps.value (closing br.Round at ∷ r)) ≡ p r) → GoodMode file (declared_names file d) p (Some (sp.parameters_end d a ps at))
+pub parameters_end_good : (file : List (List ℕ)) (p : Reader) (d : Declared) (a : ℕ) (ps : Tall Params) (at : ℕ) → FitFunction file d → sh.are_no_params ps.value ≡ false → sh.ShapedParams (declared_names file d) ps.value → ((r : List SymbolAt) → b.declared d (opening br.Round a ∷ spell_params ps.value (closing br.Round at ∷ r)) ≡ p r) → GoodMode file (declared_names file d) p (Some (sp.parameters_end d a ps at))
 parameters_end_good file p d a ps at f n s g = λ l.
     let x = tall (fFunction (pSome a ps.value at)) (above ps.height) in
     (refl, with_form_fits file d x f.declared (n, s) (f.place, f.storage), λ r. formed_reads d x f.bare r ∙ g r)
 
-pub parameters_more_good : (file : List (List ℕ)) (p : Reader) (d : Declared) (a : ℕ) (ps : Tall Params) (at : ℕ) → FitFunction file d → sh.are_no_params ps.value ≡ false → sh.ShapedParams (declared_names file d) ps.value → ((r : List Sign) → b.declared d (opening br.Round a ∷ spell_params ps.value (sign sy.Comma at ∷ r)) ≡ p r) → GoodMode file (declared_names file d) p (Some (sp.parameters_more d a ps at))
+pub parameters_more_good : (file : List (List ℕ)) (p : Reader) (d : Declared) (a : ℕ) (ps : Tall Params) (at : ℕ) → FitFunction file d → sh.are_no_params ps.value ≡ false → sh.ShapedParams (declared_names file d) ps.value → ((r : List SymbolAt) → b.declared d (opening br.Round a ∷ spell_params ps.value (sign sy.Comma at ∷ r)) ≡ p r) → GoodMode file (declared_names file d) p (Some (sp.parameters_more d a ps at))
 parameters_more_good file p d a ps at f n s g = λ l. (refl, (record { told = refl; shaped = tt }, (f, s, comma_some _ at n)), g)
 
 behind_parameter_good : (file : List (List ℕ)) (t : Symbol) (at : ℕ) (s : Spoken) (d : Declared) (a : ℕ) (ps : Tall Params) (c : Option ℕ) → FitWords file s (aroundParameter d a ps c) → is_typed s.told.typing ≡ true → NameFree (declared_names file d) t → GoodMode file (declared_names file d) (λ r. b.said s (aroundParameter d a ps c) (sign t at ∷ r)) (sp.behind_parameter t at s d a ps c)
@@ -111,7 +111,7 @@ specs_good file t at s w f = guarded file _ _ (is_typed s.told.typing) _ (λ h. 
 
 -- Enumerations.
 
-start_good : (file : List (List ℕ)) (p : Reader) (s : Spoken) (w : Around) (h : EnumHead) → FitNamed (sp.site_of w) (around_names file w) s → FitAround file w → FitHead (around_names file w) h → ((r : List Sign) → b.said s w (b.enum_head h r) ≡ p r) → GoodMode file (around_names file w) p (Some (sp.list_start s w h))
+start_good : (file : List (List ℕ)) (p : Reader) (s : Spoken) (w : Around) (h : EnumHead) → FitNamed (sp.site_of w) (around_names file w) s → FitAround file w → FitHead (around_names file w) h → ((r : List SymbolAt) → b.said s w (b.enum_head h r) ≡ p r) → GoodMode file (around_names file w) p (Some (sp.list_start s w h))
 start_good file p s w h f g e q = λ l. (refl, record { around = g; named = f; head = e; before = tt; comma = tt }, q)
 
 pub enumeration_good : (file : List (List ℕ)) (t : Symbol) (at x : ℕ) (s : Spoken) (w : Around) → Fit file (Enumeration x s w) → GoodMode file (around_names file w) (λ r. b.said s w (sign sy.Enum x ∷ sign t at ∷ r)) (sp.step_enumeration (around_names file w) t at x s w)

@@ -6,7 +6,7 @@ use Rattle.c_tree.specs.declared.symbol.StatementWord.{StatementWord}
 use Rattle.c_tree.specs.declared.symbol.StatementWord.TheVariants as key
 use Rattle.c_tree.specs.declared.symbol.Symbol.{Symbol}
 use Rattle.c_tree.specs.declared.symbol.Symbol.TheVariants as sy
-use Rattle.c_tree.specs.declared.symbol.Sign.{Sign}
+use Rattle.c_tree.specs.declared.symbol.SymbolAt.{SymbolAt}
 use Rattle.c_tree.specs.declared.tree.PrefixOp.TheVariants as pre
 use Rattle.c_tree.specs.declared.known.Site.{Site}
 use Rattle.c_tree.specs.Symbols.{sign}
@@ -32,7 +32,7 @@ use Rattle.parse_machine.specs.Tokens.{Awaited, awaitOpen, awaitClose, awaitSemi
 use Rattle.parse_laws.proofs.Scopes.{left_block, left_for}
 
 abbrev Reader : Type 0
-Reader = List Sign → List Sign
+Reader = List SymbolAt → List SymbolAt
 
 -- Words or an expression.
 
@@ -48,7 +48,7 @@ fork_inner_names file (forkSizeof at a k) = refl
 fork_inner_names file (forkBlock o) = refl
 fork_inner_names file (forkFor m at a o) = refl
 
-fork_inner_reads : (f : Fork) (r : List Sign) → b.inner (stt.fork_inner f) r ≡ b.fork f r
+fork_inner_reads : (f : Fork) (r : List SymbolAt) → b.inner (stt.fork_inner f) r ≡ b.fork f r
 fork_inner_reads (forkCast a k) r = refl
 fork_inner_reads (forkSizeof at a k) r = refl
 fork_inner_reads (forkBlock o) r = refl
@@ -62,7 +62,7 @@ binds_names : (file : List (List ℕ)) (ats : List ℕ) (k : Inner) → inner_na
 binds_names file [] k = refl
 binds_names file (x ∷ ats) k = binds_names file ats (inBind (bPrefix pre.Extension x) k)
 
-binds_read : (ats : List ℕ) (k : Inner) (r : List Sign) → b.inner (stt.extension_binds ats k) r ≡ b.inner k (b.extensions ats r)
+binds_read : (ats : List ℕ) (k : Inner) (r : List SymbolAt) → b.inner (stt.extension_binds ats k) r ≡ b.inner k (b.extensions ats r)
 binds_read [] k r = refl
 binds_read (x ∷ ats) k r = binds_read ats (inBind (bPrefix pre.Extension x) k) r
 
@@ -78,7 +78,7 @@ fork_around_names file (forkSizeof at a k) = refl
 fork_around_names file (forkBlock o) = refl
 fork_around_names file (forkFor m at a o) = refl
 
-fork_around_reads : (f : Fork) (r : List Sign) → b.around (stt.fork_around f) r ≡ b.fork f r
+fork_around_reads : (f : Fork) (r : List SymbolAt) → b.around (stt.fork_around f) r ≡ b.fork f r
 fork_around_reads (forkCast a k) r = refl
 fork_around_reads (forkSizeof at a k) r = refl
 fork_around_reads (forkBlock o) r = refl
@@ -88,11 +88,11 @@ words_fit : (s : Site) (ns : List (List ℕ)) (ats : List ℕ) (x : Spoken) → 
 words_fit s ns [] x f = f
 words_fit s ns (at ∷ ats) x f = words_fit s ns ats (mk.said x x.told (wExtension at) 0) (said_fits s ns x (wExtension at) x.told 0 f refl tt)
 
-words_read : (ats : List ℕ) (x : Spoken) (r : List Sign) → spell_words (mk.extension_words ats x).words r ≡ spell_words x.words (b.extensions ats r)
+words_read : (ats : List ℕ) (x : Spoken) (r : List SymbolAt) → spell_words (mk.extension_words ats x).words r ≡ spell_words x.words (b.extensions ats r)
 words_read [] x r = refl
 words_read (at ∷ ats) x r = words_read ats (mk.said x x.told (wExtension at) 0) r
 
-extensions_more : (ats : List ℕ) (at : ℕ) (r : List Sign) → b.extensions (ats ++ at ∷ []) r ≡ b.extensions ats (sign sy.Extension at ∷ r)
+extensions_more : (ats : List ℕ) (at : ℕ) (r : List SymbolAt) → b.extensions (ats ++ at ∷ []) r ≡ b.extensions ats (sign sy.Extension at ∷ r)
 extensions_more [] at r = refl
 extensions_more (x ∷ ats) at r = ap (λ y. sign sy.Extension x ∷ y) (extensions_more ats at r)
 
@@ -270,7 +270,7 @@ wrapped_names (wCase at e c) s ns = refl
 wrapped_names (wDefault at c) s ns = refl
 wrapped_names (wLabel n at c ats) s ns = refl
 
-wrapped_reads : (w : Wrap) (s : St) (r : List Sign) → spell_statement (mk.wrapped w s) r ≡ b.wrap w (spell_statement s r)
+wrapped_reads : (w : Wrap) (s : St) (r : List SymbolAt) → spell_statement (mk.wrapped w s) r ≡ b.wrap w (spell_statement s r)
 wrapped_reads (wThen h) s r = refl
 wrapped_reads (wElse h a at) s r = refl
 wrapped_reads (wWhile h) s r = refl
@@ -281,10 +281,10 @@ wrapped_reads (wDefault at c) s r = refl
 wrapped_reads (wLabel n at c ats) s r = refl
 
 abbrev GoodSettled : List (List ℕ) → Reader → stt.Settled → Type 0
-GoodSettled file p (stt.inBlock o names) = (names ≡ scope file o) × FitOuter file o × ((r : List Sign) → b.outer o r ≡ p r)
-GoodSettled file p (stt.inDo x s o names) = (names ≡ scope file o) × sh.IsStatement s × sh.ShapedStatement s (scope file o) × FitOuter file o × ((r : List Sign) → b.outer o (word key.Do x ∷ spell_statement s r) ≡ p r)
+GoodSettled file p (stt.inBlock o names) = (names ≡ scope file o) × FitOuter file o × ((r : List SymbolAt) → b.outer o r ≡ p r)
+GoodSettled file p (stt.inDo x s o names) = (names ≡ scope file o) × sh.IsStatement s × sh.ShapedStatement s (scope file o) × FitOuter file o × ((r : List SymbolAt) → b.outer o (word key.Do x ∷ spell_statement s r) ≡ p r)
 
-same_settled : (file : List (List ℕ)) (p q : Reader) (x : stt.Settled) → ((r : List Sign) → p r ≡ q r) → GoodSettled file p x → GoodSettled file q x
+same_settled : (file : List (List ℕ)) (p q : Reader) (x : stt.Settled) → ((r : List SymbolAt) → p r ≡ q r) → GoodSettled file p x → GoodSettled file q x
 same_settled file p q (stt.inBlock o names) e g = (g.0, g.1, λ r. g.2 r ∙ e r)
 same_settled file p q (stt.inDo x s o names) e g = (g.0, g.1, g.2, g.3, λ r. g.4 r ∙ e r)
 

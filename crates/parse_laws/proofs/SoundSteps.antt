@@ -5,7 +5,7 @@ use Rattle.c_tree.specs.declared.symbol.Bracket.TheVariants as br
 use Rattle.c_tree.specs.declared.symbol.AttributeWord.{AttributeWord}
 use Rattle.c_tree.specs.declared.symbol.Symbol.{Symbol}
 use Rattle.c_tree.specs.declared.symbol.Symbol.TheVariants as sy
-use Rattle.c_tree.specs.declared.symbol.Sign.{Sign}
+use Rattle.c_tree.specs.declared.symbol.SymbolAt.{SymbolAt}
 use Rattle.c_tree.specs.Symbols.{sign}
 use Rattle.c_tree.specs.Spelling.{opening, closing, spell_raw}
 use Rattle.c_tree.specs.Shape as sh
@@ -31,11 +31,11 @@ use Rattle.parse_machine.specs.Steps as steps
 use Rattle.parse_laws.proofs.SoundSt.{either_good, function_fits, begin_good, goto_good, label_behind_good, wait_good, whole_good}
 
 abbrev Reader : Type 0
-Reader = List Sign → List Sign
+Reader = List SymbolAt → List SymbolAt
 
 -- Tokens that are kept as they stand.
 
-more_depth : (c : Bracket) (r : Raw) (t : Sign) (n : ℕ) (o : Option ℕ) → sh.depth_of c r ≡ Some n → sh.depth_behind c t.symbol n ≡ o → sh.depth_of c (raw_and r t) ≡ o
+more_depth : (c : Bracket) (r : Raw) (t : SymbolAt) (n : ℕ) (o : Option ℕ) → sh.depth_of c r ≡ Some n → sh.depth_behind c t.symbol n ≡ o → sh.depth_of c (raw_and r t) ≡ o
 more_depth c r t n o e f = ap (sh.depth_on c t.symbol) e ∙ f
 
 -- an attribute
@@ -45,7 +45,7 @@ with_attribute_good file w x a r at (onDeclared e) f d = λ l.
     (refl, record { around = f.around; comma = f.comma; name = f.name; shaped = f.shaped; attributes = (f.attributes, d); form = f.form }, λ q. refl)
 with_attribute_good file w x a r at (onLabel n y c ats o) f d = λ l. (refl, (f.0, (f.1, d), f.2), λ q. refl)
 
-attribute_on : (file : List (List ℕ)) (w : AttributeWord) (x a : ℕ) (r : Raw) (t : Sign) (n m : ℕ) (y : Attributed) → FitAttributed file y → sh.depth_of br.Round r ≡ Some n → sh.depth_behind br.Round t.symbol n ≡ Some m → GoodMode file (attributed_names file y) (λ q. b.attributed y (sign (sy.Attribute w) x ∷ opening br.Round a ∷ spell_raw r (t ∷ q))) (Some (Attribute w x a (raw_and r t) m y))
+attribute_on : (file : List (List ℕ)) (w : AttributeWord) (x a : ℕ) (r : Raw) (t : SymbolAt) (n m : ℕ) (y : Attributed) → FitAttributed file y → sh.depth_of br.Round r ≡ Some n → sh.depth_behind br.Round t.symbol n ≡ Some m → GoodMode file (attributed_names file y) (λ q. b.attributed y (sign (sy.Attribute w) x ∷ opening br.Round a ∷ spell_raw r (t ∷ q))) (Some (Attribute w x a (raw_and r t) m y))
 attribute_on file w x a r t n m y f d e = λ l. (refl, (f, more_depth br.Round r t n (Some m) d e), λ q. refl)
 
 attribute_close : (file : List (List ℕ)) (w : AttributeWord) (x a : ℕ) (r : Raw) (at : ℕ) (n : ℕ) (y : Attributed) → FitAttributed file y → sh.depth_of br.Round r ≡ Some n → GoodMode file (attributed_names file y) (λ q. b.attributed y (sign (sy.Attribute w) x ∷ opening br.Round a ∷ spell_raw r (closing br.Round at ∷ q))) (steps.attribute_skip (skip_of br.Round (sy.Close br.Round) n) (closing br.Round at) w x a r y)
@@ -63,7 +63,7 @@ attribute_good file sy.End at w x a r n y f d = tt
 attribute_good file t at w x a r n y f d = attribute_on file w x a r (sign t at) n n y f d refl
 
 -- a block that is skipped
-body_on : (file : List (List ℕ)) (h : Header) (a : ℕ) (r : Raw) (t : Sign) (n m : ℕ) → Fit file (Skipped h a r n) → sh.depth_behind br.Curly t.symbol n ≡ Some m → GoodMode file file (λ q. b.header h (opening br.Curly a ∷ spell_raw r (t ∷ q))) (Some (Skipped h a (raw_and r t) m))
+body_on : (file : List (List ℕ)) (h : Header) (a : ℕ) (r : Raw) (t : SymbolAt) (n m : ℕ) → Fit file (Skipped h a r n) → sh.depth_behind br.Curly t.symbol n ≡ Some m → GoodMode file file (λ q. b.header h (opening br.Curly a ∷ spell_raw r (t ∷ q))) (Some (Skipped h a (raw_and r t) m))
 body_on file h a r t n m f e = λ l. (refl, (f.0, f.1, more_depth br.Curly r t n (Some m) f.2 e), λ q. refl)
 
 body_close : (file : List (List ℕ)) (h : Header) (a : ℕ) (r : Raw) (at n : ℕ) → Fit file (Skipped h a r n) → GoodMode file file (λ q. b.header h (opening br.Curly a ∷ spell_raw r (closing br.Curly at ∷ q))) (steps.body_skip (skip_of br.Curly (sy.Close br.Curly) n) (closing br.Curly at) h a r)
@@ -116,5 +116,5 @@ next_at file t at (Whole s o) f l = whole_good file t at s o f
 next_at file t at Finished f l = tt
 
 -- A mode that fits and is not too high fits behind any token, and has read it.
-pub next_good : (file names : List (List ℕ)) (t : Sign) (m : Mode) → names ≡ names_of file m → Fit file m → low m ≤ 200 → GoodTurn file (λ r. b.mode m (t ∷ r)) (steps.next names t m)
+pub next_good : (file names : List (List ℕ)) (t : SymbolAt) (m : Mode) → names ≡ names_of file m → Fit file m → low m ≤ 200 → GoodTurn file (λ r. b.mode m (t ∷ r)) (steps.next names t m)
 next_good file names t m e f l = subst (λ n. GoodTurn file (λ r. b.mode m (t ∷ r)) (steps.next n t m)) (sym e) (next_at file t.symbol t.at m f l)

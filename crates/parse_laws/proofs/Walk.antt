@@ -1,6 +1,6 @@
 -- The modes that the machine goes through, as long as the tree is not too high.
 use Rattle.std.proofs.Common.{◌≡◌, ℕ, suc, ◌≤◌, ◌<◌, max, List, [], ◌∷◌, Option, None, Some, Bool, true, false, ◌&&◌, if◌then◌else◌, leb, refl, ap, ◌∙◌, arith, le-leb, leb-false, leb-true, le_trans}
-use Rattle.c_tree.specs.declared.symbol.Sign.{Sign}
+use Rattle.c_tree.specs.declared.symbol.SymbolAt.{SymbolAt}
 use Rattle.c_tree.specs.declared.tree.PrefixOp.{PrefixOp}
 use Rattle.c_tree.specs.declared.tree.PrefixOp.TheVariants as pre
 use Rattle.c_tree.specs.Spelling.{level, operand_level, level_of}
@@ -22,11 +22,11 @@ abbrev pub limit : Option Turn → Option Turn
 limit None = None
 limit (Some u) = if leb (low u.mode) 200 then Some u else None
 
-abbrev pub move : Sign → Option Turn → Option Turn
+abbrev pub move : SymbolAt → Option Turn → Option Turn
 move t None = None
 move t (Some u) = limit (steps.next u.names t u.mode)
 
-abbrev pub walk : List Sign → Option Turn → Option Turn
+abbrev pub walk : List SymbolAt → Option Turn → Option Turn
 walk [] o = o
 walk (t ∷ ts) o = walk ts (move t o)
 
@@ -43,7 +43,7 @@ pub low_stands : (m : Mode) (ns : List (List ℕ)) → low m ≤ 200 → limit (
 low_stands m ns h = if_true (leb (low m) 200) (stand m ns) None (le-leb _ _ h)
 
 -- one token
-pub go : (t : Sign) (ts : List Sign) (m n : Mode) (ns ms : List (List ℕ)) → steps.next ns t m ≡ stand n ms → low n ≤ 200 → walk (t ∷ ts) (stand m ns) ≡ walk ts (stand n ms)
+pub go : (t : SymbolAt) (ts : List SymbolAt) (m n : Mode) (ns ms : List (List ℕ)) → steps.next ns t m ≡ stand n ms → low n ≤ 200 → walk (t ∷ ts) (stand m ns) ≡ walk ts (stand n ms)
 go t ts m n ns ms e h = ap (λ o. walk ts (limit o)) e ∙ ap (walk ts) (low_stands n ms h)
 
 pub when_true : (c : Bool) (m : Mode) → c ≡ true → ex.when c m ≡ Some m

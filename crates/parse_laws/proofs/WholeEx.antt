@@ -3,7 +3,7 @@ use Rattle.std.proofs.Common.{◌≡◌, ℕ, suc, ◌≤◌, max, List, [], ◌
 use Rattle.c_tree.specs.declared.symbol.AssignOp.TheVariants as to
 use Rattle.c_tree.specs.declared.symbol.Bracket.TheVariants as br
 use Rattle.c_tree.specs.declared.symbol.Symbol.TheVariants as sy
-use Rattle.c_tree.specs.declared.symbol.Sign.{Sign}
+use Rattle.c_tree.specs.declared.symbol.SymbolAt.{SymbolAt}
 use Rattle.c_tree.specs.declared.known.Site.{Site}
 use Rattle.c_tree.specs.declared.known.Known.{Known}
 use Rattle.c_tree.specs.Symbols.{sign}
@@ -107,7 +107,7 @@ fork_typed_at ws k f (Some ats) q e t =
 pub fork_typed : (ws : Words) (k : Known) (f : Fork) → known (sp.site_of (stt.fork_around f)) ws ≡ Some k → is_typed k.typing ≡ true → fork_mode (exts ws) ws k f ≡ Specifiers (worded ws k) (stt.fork_around f)
 fork_typed ws k f e t = fork_typed_at ws k f (exts ws) refl e t
 
-pub word_no_open : (x : Word) (rest : List Sign) → NoOpen (spell_word x rest)
+pub word_no_open : (x : Word) (rest : List SymbolAt) → NoOpen (spell_word x rest)
 word_no_open (wType x at) rest = refl
 word_no_open (wStorage x at) rest = refl
 word_no_open (wConst x at) rest = refl
@@ -119,7 +119,7 @@ word_no_open (wEnum at a es c y) rest = refl
 word_no_open (wTagEnum at n x a es c y) rest = refl
 
 -- the first token of a word that is no `__extension__`
-fork_first : (x : Word) (f : Fork) (ats : List ℕ) (ns : List (List ℕ)) → exts (words_and no_words x) ≡ None → sh.ShapedWord ns x → (rest : List Sign) → walk (spell_word x rest) (stand (Either f ats) ns) ≡ walk (spell_word x rest) (stand (Specifiers (mk.extension_words ats mk.unspoken) (stt.fork_around f)) ns)
+fork_first : (x : Word) (f : Fork) (ats : List ℕ) (ns : List (List ℕ)) → exts (words_and no_words x) ≡ None → sh.ShapedWord ns x → (rest : List SymbolAt) → walk (spell_word x rest) (stand (Either f ats) ns) ≡ walk (spell_word x rest) (stand (Specifiers (mk.extension_words ats mk.unspoken) (stt.fork_around f)) ns)
 fork_first (wType x at) f ats ns q g rest = refl
 fork_first (wStorage x at) f ats ns q g rest = refl
 fork_first (wConst x at) f ats ns q g rest = refl
@@ -130,17 +130,17 @@ fork_first (wTag at n y) f ats ns q g rest = refl
 fork_first (wEnum at a es c y) f ats ns q g rest = refl
 fork_first (wTagEnum at n x a es c y) f ats ns q g rest = refl
 
-abbrev Reading : Word → Around → List (List ℕ) → List Sign → Type 0
+abbrev Reading : Word → Around → List (List ℕ) → List SymbolAt → Type 0
 Reading x w ns rest = (s : Spoken) (k : Known) → with_word (sp.site_of w) x s.told ≡ Some k → around_high w (max s.height (height_word x)) ≤ 200 → walk (spell_word x rest) (stand (Specifiers s w) ns) ≡ walk rest (stand (Specifiers (mk.said s k x (height_word x)) w) ns)
 
-fork_other : (x : Word) (ws : Words) (f : Fork) (ns : List (List ℕ)) (z k : Known) (ats : List ℕ) → exts (words_and no_words x) ≡ None → exts ws ≡ Some ats → known (sp.site_of (stt.fork_around f)) ws ≡ Some z → with_word (sp.site_of (stt.fork_around f)) x z ≡ Some k → sh.ShapedWord ns x → around_high (stt.fork_around f) (max (height_words ws) (height_word x)) ≤ 200 → (rest : List Sign) → Reading x (stt.fork_around f) ns rest → walk (spell_word x rest) (stand (Either f ats) ns) ≡ walk rest (stand (Specifiers (worded (words_and ws x) k) (stt.fork_around f)) ns)
+fork_other : (x : Word) (ws : Words) (f : Fork) (ns : List (List ℕ)) (z k : Known) (ats : List ℕ) → exts (words_and no_words x) ≡ None → exts ws ≡ Some ats → known (sp.site_of (stt.fork_around f)) ws ≡ Some z → with_word (sp.site_of (stt.fork_around f)) x z ≡ Some k → sh.ShapedWord ns x → around_high (stt.fork_around f) (max (height_words ws) (height_word x)) ≤ 200 → (rest : List SymbolAt) → Reading x (stt.fork_around f) ns rest → walk (spell_word x rest) (stand (Either f ats) ns) ≡ walk rest (stand (Specifiers (worded (words_and ws x) k) (stt.fork_around f)) ns)
 fork_other x ws f ns z k ats q e b0 v g h rest read =
     let n : nothing_known ≡ z = some_same nothing_known z (sym (ext_known (sp.site_of (stt.fork_around f)) ws ats e) ∙ b0) in
     fork_first x f ats ns q g rest
     ∙ ap (λ y. walk (spell_word x rest) (stand (Specifiers y (stt.fork_around f)) ns)) (ext_worded ws ats e ∙ ap (worded ws) n)
     ∙ read (worded ws z) k v h
 
-fork_word : (x : Word) (ws : Words) (f : Fork) (ns : List (List ℕ)) (z k : Known) (o : Option (List ℕ)) → exts ws ≡ o → known (sp.site_of (stt.fork_around f)) ws ≡ Some z → with_word (sp.site_of (stt.fork_around f)) x z ≡ Some k → sh.ShapedWord ns x → around_high (stt.fork_around f) (max (height_words ws) (height_word x)) ≤ 200 → ((ats : List ℕ) → ht.fork_high f ats ≤ 200) → (rest : List Sign) → Reading x (stt.fork_around f) ns rest → walk (spell_word x rest) (stand (fork_mode o ws z f) ns) ≡ walk rest (stand (fork_mode (exts (words_and ws x)) (words_and ws x) k f) ns)
+fork_word : (x : Word) (ws : Words) (f : Fork) (ns : List (List ℕ)) (z k : Known) (o : Option (List ℕ)) → exts ws ≡ o → known (sp.site_of (stt.fork_around f)) ws ≡ Some z → with_word (sp.site_of (stt.fork_around f)) x z ≡ Some k → sh.ShapedWord ns x → around_high (stt.fork_around f) (max (height_words ws) (height_word x)) ≤ 200 → ((ats : List ℕ) → ht.fork_high f ats ≤ 200) → (rest : List SymbolAt) → Reading x (stt.fork_around f) ns rest → walk (spell_word x rest) (stand (fork_mode o ws z f) ns) ≡ walk rest (stand (fork_mode (exts (words_and ws x)) (words_and ws x) k f) ns)
 fork_word x ws f ns z k None e b0 v g h l rest read = read (worded ws z) k v h ∙ ap (λ q. walk rest (stand (fork_mode q (words_and ws x) k f) ns)) (sym (exts_none ws x e))
 fork_word (wExtension at) ws f ns z k (Some ats) e b0 v g h l rest read =
     go (sign sy.Extension at) rest (Either f ats) (Either f (ats ++ at ∷ [])) ns ns refl (l (ats ++ at ∷ []))
@@ -193,7 +193,7 @@ constant_folds ns e m w s h es c n x a t l q i = fold_opened ns e t (inConstant 
 valued_same : (es : Ens) (c : Option ℕ) (n : List ℕ) (x a : ℕ) (e : Ex) → height e ≤ 200 → tall (valued_and es c n x a e) (max (height_enumerators es) (above (height e))) ≡ tall (valued_and es c n x a e) (height_enumerators (valued_and es c n x a e))
 valued_same es c n x a e h = ap (λ z. tall (valued_and es c n x a e) (max (height_enumerators es) z)) (above_is (height e) h)
 
-constants_comma : (es : Ens) (w : Around) (s : Spoken) (h : EnumHead) (ns : List (List ℕ)) (c : Option ℕ) → sh.IsComma (sh.are_no_enumerators es) c → ConstantLevel ns es → (g : ℕ) → 1 ≤ g → height_enumerators es ≤ g → around_high w (max s.height (suc g)) ≤ 200 → (rest : List Sign) → walk (comma c rest) (stand (behind_constant w s h es) ns) ≡ walk rest (stand (Constant (list_at w s h es c)) ns)
+constants_comma : (es : Ens) (w : Around) (s : Spoken) (h : EnumHead) (ns : List (List ℕ)) (c : Option ℕ) → sh.IsComma (sh.are_no_enumerators es) c → ConstantLevel ns es → (g : ℕ) → 1 ≤ g → height_enumerators es ≤ g → around_high w (max s.height (suc g)) ≤ 200 → (rest : List SymbolAt) → walk (comma c rest) (stand (behind_constant w s h es) ns) ≡ walk rest (stand (Constant (list_at w s h es c)) ns)
 constants_comma no_enumerators w s h ns None t v g o i l rest = refl
 constants_comma no_enumerators w s h ns (Some at) t v g o i l rest = absurd t
 constants_comma (plain_and es d n x) w s h ns None t v g o i l rest = absurd t
@@ -210,7 +210,7 @@ constants_comma (valued_and es d n x a e) w s h ns (Some at) t v g o i l rest =
 enum_ends : (w : Around) (s : Spoken) (h : EnumHead) (es : Ens) (c : Option ℕ) (b0 : ℕ) (ns : List (List ℕ)) → height_enumerators es ≤ 200 → stand (Specifiers (mk.said s s.told (mk.enumeration h es c b0) (above (height_enumerators es))) w) ns ≡ stand (Specifiers (mk.said s s.told (mk.enumeration h es c b0) (suc (height_enumerators es))) w) ns
 enum_ends w s h es c b0 ns i = ap (λ z. stand (Specifiers (mk.said s s.told (mk.enumeration h es c b0) z) w) ns) (above_is (height_enumerators es) i)
 
-constants_close : (es : Ens) (w : Around) (s : Spoken) (h : EnumHead) (ns : List (List ℕ)) (c : Option ℕ) (b0 : ℕ) → sh.are_no_enumerators es ≡ false → ConstantLevel ns es → around_high w (max s.height (suc (height_enumerators es))) ≤ 200 → (rest : List Sign) → walk (comma c (closing br.Curly b0 ∷ rest)) (stand (behind_constant w s h es) ns) ≡ walk rest (stand (Specifiers (mk.said s s.told (mk.enumeration h es c b0) (suc (height_enumerators es))) w) ns)
+constants_close : (es : Ens) (w : Around) (s : Spoken) (h : EnumHead) (ns : List (List ℕ)) (c : Option ℕ) (b0 : ℕ) → sh.are_no_enumerators es ≡ false → ConstantLevel ns es → around_high w (max s.height (suc (height_enumerators es))) ≤ 200 → (rest : List SymbolAt) → walk (comma c (closing br.Curly b0 ∷ rest)) (stand (behind_constant w s h es) ns) ≡ walk rest (stand (Specifiers (mk.said s s.told (mk.enumeration h es c b0) (suc (height_enumerators es))) w) ns)
 constants_close es w s h ns (Some at) b0 e v l rest =
     let o = some_constant es e in
     let u = wide_under w s.height (height_enumerators es) l in
@@ -230,7 +230,7 @@ constants_close (valued_and es d n x a e0) w s h ns None b0 e v l rest =
     ∙ enum_ends w s h (valued_and es d n x a e0) None b0 ns (omega (arith, u))) l
 
 mutual
-  pub reads : (e : Ex) (k : Inner) (ns : List (List ℕ)) → sh.Shaped ns e → least k ≤ level_of e → high k (height e) ≤ 200 → (rest : List Sign) → walk (spell e rest) (stand (Operand k) ns) ≡ walk rest (stand (valued (opened e k)) ns)
+  pub reads : (e : Ex) (k : Inner) (ns : List (List ℕ)) → sh.Shaped ns e → least k ≤ level_of e → high k (height e) ≤ 200 → (rest : List SymbolAt) → walk (spell e rest) (stand (Operand k) ns) ≡ walk rest (stand (valued (opened e k)) ns)
   reads (eName n at) k ns s l h rest = go (sign (sy.Name n) at) rest (Operand k) (Value (whole (eName n at)) k) ns ns (ap (λ c. kept ns (ex.when (not c) (ex.operand (eName n at) k))) s) h
   reads (eNumber v f at) k ns s l h rest = go (sign (sy.Number v f) at) rest (Operand k) (Value (whole (eNumber v f at)) k) ns ns refl h
   reads (eLetter v at) k ns s l h rest = go (sign (sy.Letter v) at) rest (Operand k) (Value (whole (eLetter v at)) k) ns ns refl h
@@ -322,7 +322,7 @@ mutual
   reads (eComma es) k ns s l h rest = reads_comma es k ns s.0 s.1 l h rest
 
   -- the arguments of a call, and its `)`
-  reads_call : (es : Parts) (f : Ex) (a : ℕ) (k : Inner) (ns : List (List ℕ)) (c : ℕ) → sh.ShapedParts ns es → high k (suc (max (height f) (height_parts es))) ≤ 200 → (rest : List Sign) → walk (spell_parts es (closing br.Round c ∷ rest)) (stand (Maybe (argument f a no_parts None k)) ns) ≡ walk rest (stand (Value (whole (eCall f a es c)) k) ns)
+  reads_call : (es : Parts) (f : Ex) (a : ℕ) (k : Inner) (ns : List (List ℕ)) (c : ℕ) → sh.ShapedParts ns es → high k (suc (max (height f) (height_parts es))) ≤ 200 → (rest : List SymbolAt) → walk (spell_parts es (closing br.Round c ∷ rest)) (stand (Maybe (argument f a no_parts None k)) ns) ≡ walk rest (stand (Value (whole (eCall f a es c)) k) ns)
   reads_call no_parts f a k ns c s h rest =
       go (closing br.Round c) rest (Maybe (argument f a no_parts None k)) (Value (whole (eCall f a no_parts c)) k) ns ns (value_is ns k 15 (above (max (height f) 0)) (eCall f a no_parts c) refl (above_is (max (height f) 0) (under k (max (height f) 0) h)) (le_trans (high_ge k (suc (max (height f) 0))) h)) h
   reads_call (parts_and es d e) f a k ns c s h rest =
@@ -336,7 +336,7 @@ mutual
       ∙ value_is ns k 15 (above (max (height f) (max (height_parts es) (height e)))) (eCall f a (parts_and es d e) c) refl (above_is (max (height f) (max (height_parts es) (height e))) (under k (max (height f) (max (height_parts es) (height e))) h)) (le_trans (high_ge k (suc (max (height f) (max (height_parts es) (height e))))) h)) h
 
   -- the arguments before one
-  reads_some : (es : Parts) (d : Option ℕ) (e : Ex) (f : Ex) (a : ℕ) (k : Inner) (ns : List (List ℕ)) → sh.ShapedParts ns es → sh.IsComma (sh.are_no_parts es) d → sh.Shaped ns e → high k (suc (max (height f) (max (height_parts es) (height e)))) ≤ 200 → (rest : List Sign) → walk (spell_parts es (comma d (spell e rest))) (stand (Maybe (argument f a no_parts None k)) ns) ≡ walk (spell e rest) (stand (Operand (argument f a es d k)) ns)
+  reads_some : (es : Parts) (d : Option ℕ) (e : Ex) (f : Ex) (a : ℕ) (k : Inner) (ns : List (List ℕ)) → sh.ShapedParts ns es → sh.IsComma (sh.are_no_parts es) d → sh.Shaped ns e → high k (suc (max (height f) (max (height_parts es) (height e)))) ≤ 200 → (rest : List SymbolAt) → walk (spell_parts es (comma d (spell e rest))) (stand (Maybe (argument f a no_parts None k)) ns) ≡ walk (spell e rest) (stand (Operand (argument f a es d k)) ns)
   reads_some no_parts None e f a k ns s c t h rest = first_maybe ns (argument f a no_parts None k) e t rest
   reads_some no_parts (Some at) e f a k ns s c t h rest = absurd c
   reads_some (parts_and es d x) None e f a k ns s c t h rest = absurd c
@@ -351,7 +351,7 @@ mutual
       (ap (λ z. kept ns (ex.step_held tok.sufComma at z)) (folded ns x q 1 s.3 (pull_one x s.1) (omega arith) i tt)
       ∙ ap (kept ns) (when_true (leb 1 (level_of x)) (Operand (argument f a (parts_and es d x) (Some at) k)) (le-leb _ _ s.1))) (lower (argument f a (parts_and es d x) (Some at) k) 1 (height e) j (height_some e))
 
-  reads_comma : (es : Parts) (k : Inner) (ns : List (List ℕ)) → sh.are_several es ≡ true → sh.ShapedParts ns es → least k ≤ 0 → high k (suc (height_parts es)) ≤ 200 → (rest : List Sign) → walk (spell_parts es rest) (stand (Operand k) ns) ≡ walk rest (stand (valued (opened_parts es k)) ns)
+  reads_comma : (es : Parts) (k : Inner) (ns : List (List ℕ)) → sh.are_several es ≡ true → sh.ShapedParts ns es → least k ≤ 0 → high k (suc (height_parts es)) ≤ 200 → (rest : List SymbolAt) → walk (spell_parts es rest) (stand (Operand k) ns) ≡ walk rest (stand (valued (opened_parts es k)) ns)
   reads_comma no_parts k ns m s l h rest = cc
   reads_comma (parts_and es None e) k ns m s l h rest = absurd (subst (λ q. sh.IsComma q None) (several_not (sh.are_no_parts es) m) s.0)
   reads_comma (parts_and es (Some at) e) k ns m s l h rest =
@@ -359,7 +359,7 @@ mutual
       ∙ reads e (inBind (bComma (tall es (height_parts es)) at) k) ns s.3 s.1 (pair_high k (height_parts es) (height e) h) rest
 
   -- the parts of a comma expression before the last
-  reads_sequence : (es : Parts) (at : ℕ) (k : Inner) (ns : List (List ℕ)) → sh.are_no_parts es ≡ false → sh.ShapedParts ns es → least k ≤ 0 → (g : ℕ) → 1 ≤ g → high k (suc (max (height_parts es) g)) ≤ 200 → (rest : List Sign) → walk (spell_parts es (sign sy.Comma at ∷ rest)) (stand (Operand k) ns) ≡ walk rest (stand (Operand (inBind (bComma (tall es (height_parts es)) at) k)) ns)
+  reads_sequence : (es : Parts) (at : ℕ) (k : Inner) (ns : List (List ℕ)) → sh.are_no_parts es ≡ false → sh.ShapedParts ns es → least k ≤ 0 → (g : ℕ) → 1 ≤ g → high k (suc (max (height_parts es) g)) ≤ 200 → (rest : List SymbolAt) → walk (spell_parts es (sign sy.Comma at ∷ rest)) (stand (Operand k) ns) ≡ walk rest (stand (Operand (inBind (bComma (tall es (height_parts es)) at) k)) ns)
   reads_sequence no_parts at k ns m s l g o h rest = cc
   reads_sequence (parts_and no_parts None e) at k ns m s l g o h rest =
       let q = inBind (bComma (tall (parts_and no_parts None e) (max 0 (height e))) at) k in
@@ -383,7 +383,7 @@ mutual
       ∙ ap (kept ns) (when_true (leb 1 (level_of e)) (Operand q) (le-leb _ _ s.1))) (lower q 1 g j o)
 
   -- words where an expression might stand too
-  pub fork_words : (ws : Words) (f : Fork) (ns : List (List ℕ)) (k : Known) → known (sp.site_of (stt.fork_around f)) ws ≡ Some k → sh.ShapedWords ns ws → around_high (stt.fork_around f) (height_words ws) ≤ 200 → ((ats : List ℕ) → ht.fork_high f ats ≤ 200) → (rest : List Sign) → NoOpen rest → walk (spell_words ws rest) (stand (Either f []) ns) ≡ walk rest (stand (fork_mode (exts ws) ws k f) ns)
+  pub fork_words : (ws : Words) (f : Fork) (ns : List (List ℕ)) (k : Known) → known (sp.site_of (stt.fork_around f)) ws ≡ Some k → sh.ShapedWords ns ws → around_high (stt.fork_around f) (height_words ws) ≤ 200 → ((ats : List ℕ) → ht.fork_high f ats ≤ 200) → (rest : List SymbolAt) → NoOpen rest → walk (spell_words ws rest) (stand (Either f []) ns) ≡ walk rest (stand (fork_mode (exts ws) ws k f) ns)
   fork_words no_words f ns k e s h l rest n = refl
   fork_words (words_and ws x) f ns k e s h l rest n =
       let z = known_before (sp.site_of (stt.fork_around f)) x (known (sp.site_of (stt.fork_around f)) ws) k e in
@@ -391,7 +391,7 @@ mutual
       ∙ fork_word x ws f ns z.told k (exts ws) refl z.was z.gives s.1 h l rest (λ y q r v. reads_word x y (stt.fork_around f) ns q r s.1 v rest n)
 
   -- one word more
-  pub reads_word : (x : Word) (s : Spoken) (w : Around) (ns : List (List ℕ)) (k : Known) → with_word (sp.site_of w) x s.told ≡ Some k → sh.ShapedWord ns x → around_high w (max s.height (height_word x)) ≤ 200 → (rest : List Sign) → NoOpen rest → walk (spell_word x rest) (stand (Specifiers s w) ns) ≡ walk rest (stand (Specifiers (mk.said s k x (height_word x)) w) ns)
+  pub reads_word : (x : Word) (s : Spoken) (w : Around) (ns : List (List ℕ)) (k : Known) → with_word (sp.site_of w) x s.told ≡ Some k → sh.ShapedWord ns x → around_high w (max s.height (height_word x)) ≤ 200 → (rest : List SymbolAt) → NoOpen rest → walk (spell_word x rest) (stand (Specifiers s w) ns) ≡ walk rest (stand (Specifiers (mk.said s k x (height_word x)) w) ns)
   reads_word (wType x at) s w ns k e g h rest n = go (sign (sy.Type x) at) rest (Specifiers s w) (Specifiers (mk.said s k (wType x at) 0) w) ns ns (ap (λ o. kept ns (sp.with_word_said s w (wType x at) o)) e) h
   reads_word (wStorage x at) s w ns k e g h rest n = go (sign (sy.Storage x) at) rest (Specifiers s w) (Specifiers (mk.said s k (wStorage x at) 0) w) ns ns (ap (λ o. kept ns (sp.with_word_said s w (wStorage x at) o)) e) h
   reads_word (wConst x at) s w ns k e g h rest n = go (sign (sy.Const x) at) rest (Specifiers s w) (Specifiers (mk.said s k (wConst x at) 0) w) ns ns (ap (λ o. kept ns (sp.with_word_said s w (wConst x at) o)) e) h
@@ -424,7 +424,7 @@ mutual
       ∙ constants_close es w z (headTagged at x y a) ns c b0 g.1 (constants_levels ns es g.2) h rest
 
   -- the constants of an enumeration
-  reads_constants : (es : Ens) (w : Around) (s : Spoken) (h : EnumHead) (ns : List (List ℕ)) → sh.ShapedEnumerators ns es → (g : ℕ) → 1 ≤ g → height_enumerators es ≤ g → around_high w (max s.height (suc g)) ≤ 200 → (rest : List Sign) → walk (spell_enumerators es rest) (stand (Constant (list_at w s h no_enumerators None)) ns) ≡ walk rest (stand (behind_constant w s h es) ns)
+  reads_constants : (es : Ens) (w : Around) (s : Spoken) (h : EnumHead) (ns : List (List ℕ)) → sh.ShapedEnumerators ns es → (g : ℕ) → 1 ≤ g → height_enumerators es ≤ g → around_high w (max s.height (suc g)) ≤ 200 → (rest : List SymbolAt) → walk (spell_enumerators es rest) (stand (Constant (list_at w s h no_enumerators None)) ns) ≡ walk rest (stand (behind_constant w s h es) ns)
   reads_constants no_enumerators w s h ns t g o i l rest = refl
   reads_constants (plain_and es c n at) w s h ns t g o i l rest =
       reads_constants es w s h ns t.2 g o (omega (arith, i)) l (comma c (sign (sy.Name n) at ∷ rest))

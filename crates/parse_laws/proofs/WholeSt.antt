@@ -3,7 +3,7 @@ use Rattle.std.proofs.Common.{◌≡◌, ℕ, suc, ◌≤◌, ◌+◌, List, ◌
 use Rattle.c_tree.specs.declared.symbol.Bracket.TheVariants as br
 use Rattle.c_tree.specs.declared.symbol.StatementWord.TheVariants as key
 use Rattle.c_tree.specs.declared.symbol.Symbol.TheVariants as sy
-use Rattle.c_tree.specs.declared.symbol.Sign.{Sign}
+use Rattle.c_tree.specs.declared.symbol.SymbolAt.{SymbolAt}
 use Rattle.c_tree.specs.declared.known.Site.TheVariants as site
 use Rattle.c_tree.specs.Symbols.{sign}
 use Rattle.c_tree.specs.Spelling.{level_of, opening, closing, word, spell, spell_attribute, spell_attributes, spell_declarators, spell_head, spell_statement, spell_statements}
@@ -50,7 +50,7 @@ st_some (sContinue at c) = omega arith
 st_some (sReturn at e c) = omega arith
 
 -- attributes of a label
-label_attributes : (ats : Ats) (ns : List (List ℕ)) (n : List ℕ) (x y : ℕ) (o : Outer) → sh.ShapedAttributes ats → depth o + 2 ≤ 200 → (rest : List Sign) → walk (spell_attributes ats rest) (stand (Label n x y no_attributes o) ns) ≡ walk rest (stand (Label n x y ats o) ns)
+label_attributes : (ats : Ats) (ns : List (List ℕ)) (n : List ℕ) (x y : ℕ) (o : Outer) → sh.ShapedAttributes ats → depth o + 2 ≤ 200 → (rest : List SymbolAt) → walk (spell_attributes ats rest) (stand (Label n x y no_attributes o) ns) ≡ walk rest (stand (Label n x y ats o) ns)
 label_attributes no_attributes ns n x y o t l rest = refl
 label_attributes (attributes_and ats z) ns n x y o t l rest =
     label_attributes ats ns n x y o t.0 l (spell_attribute z rest)
@@ -74,7 +74,7 @@ begin_low : (list : Sts → Outer) (d : ℕ) (l : List' list d) (ss : Sts) → d
 begin_low list d l ss h = subst (λ z. z ≤ 200) (sym (if_true (is_list (list ss)) (depth (list ss)) (suc (depth (list ss))) (l.is ss) ∙ l.deep ss)) h
 
 -- behind the condition of a `do`
-do_end : (ns : List (List ℕ)) (at : ℕ) (s : St) (h : Head) (c : ℕ) (o : Outer) → sh.ShapedHead ns h → depth o + suc (hg.height_head h) ≤ 200 → depth o + 2 ≤ 200 → (rest : List Sign) → walk (spell_head key.While h (sign sy.Semicolon c ∷ rest)) (stand (Wait (waitWhile at s o)) ns) ≡ walk rest (stand (Whole (sDo at s h c) o) ns)
+do_end : (ns : List (List ℕ)) (at : ℕ) (s : St) (h : Head) (c : ℕ) (o : Outer) → sh.ShapedHead ns h → depth o + suc (hg.height_head h) ≤ 200 → depth o + 2 ≤ 200 → (rest : List SymbolAt) → walk (spell_head key.While h (sign sy.Semicolon c ∷ rest)) (stand (Wait (waitWhile at s o)) ns) ≡ walk rest (stand (Whole (sDo at s h c) o) ns)
 do_end ns at s (head x a e y) c o t l n rest =
     let k = inBase (baseDo at s x a o) in
     let i : high k (height e) ≤ 200 = omega (arith, l) in
@@ -84,20 +84,20 @@ do_end ns at s (head x a e y) c o t l n rest =
     ∙ go (closing br.Round y) (sign sy.Semicolon c ∷ rest) (valued (opened e k)) (Wait (waitDone at s (head x a e y) o)) ns ns (ap (λ z. kept ns (ex.step_held (tok.sufClose br.Round) y z)) (fold_end ns e (baseDo at s x a o) t i)) (omega (arith, n))
     ∙ go (sign sy.Semicolon c) rest (Wait (waitDone at s (head x a e y) o)) (Whole (sDo at s (head x a e y) c) o) ns ns refl (omega (arith, n))
 
-while_no_else : (h : Head) (rest : List Sign) → NoElse (spell_head key.While h rest)
+while_no_else : (h : Head) (rest : List SymbolAt) → NoElse (spell_head key.While h rest)
 while_no_else (head x a e y) rest = refl
 
 plain_again : (s : St) (ns : List (List ℕ)) → sh.IsStatement s → sh.statement_names s ns ≡ ns
 plain_again (sDeclaration d) ns h = absurd h
 plain_again _ ns h = refl
 
-else_on : (ns : List (List ℕ)) (h : Head) (a : St) (at : ℕ) (o : Outer) (rest : List Sign) → sh.ShapedStatement a ns → sh.Closed a → sh.IsStatement a → depth o + 2 ≤ 200 → walk (word key.Else at ∷ rest) (ended_left (left_open a (outWrap (wThen h) o) ns)) ≡ walk rest (stand (Begin (outWrap (wElse h a at) o)) ns)
+else_on : (ns : List (List ℕ)) (h : Head) (a : St) (at : ℕ) (o : Outer) (rest : List SymbolAt) → sh.ShapedStatement a ns → sh.Closed a → sh.IsStatement a → depth o + 2 ≤ 200 → walk (word key.Else at ∷ rest) (ended_left (left_open a (outWrap (wThen h) o) ns)) ≡ walk rest (stand (Begin (outWrap (wElse h a at) o)) ns)
 else_on ns h a at o rest t c i l =
     ap (λ z. walk rest (limit z)) (goes_on a (outWrap (wThen h) o) ns at t c ∙ ap (stand (Begin (outWrap (wElse h a at) o))) (plain_again a ns i))
     ∙ ap (walk rest) (low_stands (Begin (outWrap (wElse h a at) o)) ns (omega (arith, l)))
 
 mutual
-  pub statement_read : (s : St) (o : Outer) (ns : List (List ℕ)) → sh.ShapedStatement s ns → Stands s o → depth o + height_statement s ≤ 200 → (rest : List Sign) → walk (spell_statement s rest) (stand (Begin o) ns) ≡ walk rest (ended_left (left_open s o ns))
+  pub statement_read : (s : St) (o : Outer) (ns : List (List ℕ)) → sh.ShapedStatement s ns → Stands s o → depth o + height_statement s ≤ 200 → (rest : List SymbolAt) → walk (spell_statement s rest) (stand (Begin o) ns) ≡ walk rest (ended_left (left_open s o ns))
   statement_read (sDeclaration (declares ws ds x)) o ns t k l rest =
       let p = placeBlock o in
       let u = above_is (height_words ws) (omega (arith, l)) in
@@ -175,7 +175,7 @@ mutual
       ∙ reads e q ns t.1 (omega arith) i (sign sy.Semicolon c ∷ rest)
       ∙ go (sign sy.Semicolon c) rest (valued (opened e q)) (Whole (sReturn at (Some e) c) o) ns ns (ap (λ z. kept ns (ex.step_held tok.sufSemicolon c z)) (fold_end ns e (baseReturn at o) t.1 i)) (omega (arith, l))
 
-  pub statements_read : (ss : Sts) (ns : List (List ℕ)) (list : Sts → Outer) (d : ℕ) (w : List' list d) → sh.ShapedStatements ss ns → d + height_statements ss ≤ 200 → (rest : List Sign) → NoElse rest → walk (spell_statements ss rest) (stand (Begin (list no_statements)) ns) ≡ walk rest (stand (Begin (list ss)) (sh.block_names ss ns))
+  pub statements_read : (ss : Sts) (ns : List (List ℕ)) (list : Sts → Outer) (d : ℕ) (w : List' list d) → sh.ShapedStatements ss ns → d + height_statements ss ≤ 200 → (rest : List SymbolAt) → NoElse rest → walk (spell_statements ss rest) (stand (Begin (list no_statements)) ns) ≡ walk rest (stand (Begin (list ss)) (sh.block_names ss ns))
   statements_read no_statements ns list d w t l rest n = refl
   statements_read (statements_and ss s) ns list d w t l rest n =
       let ms = sh.block_names ss ns in

@@ -3,7 +3,7 @@ use Rattle.std.specs.Prelude.{ℕ, leb, List, [], ◌∷◌, Option, None, Some,
 use Rattle.c_tree.specs.declared.symbol.StorageWord.TheVariants as storage
 use Rattle.c_tree.specs.declared.symbol.Symbol.{Symbol}
 use Rattle.c_tree.specs.declared.symbol.Symbol.TheVariants as sy
-use Rattle.c_tree.specs.declared.symbol.Sign.{Sign}
+use Rattle.c_tree.specs.declared.symbol.SymbolAt.{SymbolAt}
 use Rattle.c_tree.specs.Shape.{is_listed, is_stop}
 use Rattle.c_tree.specs.Tree.{Raw, no_raw, raw_and, Words, no_words, words_and, wExtension, tSkipped, Items, no_items, items_and}
 use Rattle.parse_machine.specs.Tokens.{is_unsupported}
@@ -75,14 +75,14 @@ abbrev pub role : Symbol → Role
 role sy.Semicolon = semicolonRole
 role s = if is_stop s then stopRole else (if is_listed s then listedRole else otherRole)
 
-abbrev pub more : Extern → Sign → Extern
+abbrev pub more : Extern → SymbolAt → Extern
 more x t = extern x.extension x.at (raw_and x.raw t)
 
 abbrev pub plain : Items → Option Turn → Option State
 plain is None = None
 plain is (Some u) = Some (state is u.names (Plain u.mode))
 
-abbrev pub go : List (List ℕ) → Sign → Option Mode → Option Turn
+abbrev pub go : List (List ℕ) → SymbolAt → Option Mode → Option Turn
 go names t None = None
 go names t (Some m) = next names t m
 
@@ -96,31 +96,31 @@ abbrev pub settled : Bool → Items → Option Turn → Option State
 settled high is None = None
 settled high is (Some u) = Some (state is u.names (if high then Above else Plain u.mode))
 
-abbrev pub step_both : Role → Items → List (List ℕ) → Sign → Extern → Option Mode → Bool → Option State
+abbrev pub step_both : Role → Items → List (List ℕ) → SymbolAt → Extern → Option Mode → Bool → Option State
 step_both listedRole is names t x m high = Some (state is names (Skipping (more x t)))
 step_both otherRole is names t x m high = Some (both is names (more x t) high (go names t m))
 step_both semicolonRole is names t x m high = settled high is (go names t m)
 step_both stopRole is names t x m high = settled high is (go names t m)
 
-abbrev pub step_skipping : Role → Items → List (List ℕ) → Sign → Extern → Option State
+abbrev pub step_skipping : Role → Items → List (List ℕ) → SymbolAt → Extern → Option State
 step_skipping semicolonRole is names t x = Some (state is names (Plain (Ended (tSkipped x.extension x.at x.raw t.at) 0)))
 step_skipping stopRole is names t x = None
 step_skipping _ is names t x = Some (state is names (Skipping (more x t)))
 
-abbrev pub step_plain : Option Extern → Items → List (List ℕ) → Sign → Mode → Option State
+abbrev pub step_plain : Option Extern → Items → List (List ℕ) → SymbolAt → Mode → Option State
 step_plain None is names t m = plain is (next names t m)
 step_plain (Some x) is names t m = Some (both is names x false (next names t m))
 
-abbrev pub step_phase : Items → List (List ℕ) → Sign → Phase → Option State
+abbrev pub step_phase : Items → List (List ℕ) → SymbolAt → Phase → Option State
 step_phase is names t (Plain m) = step_plain (opens t.symbol t.at m) is names t m
 step_phase is names t (Both x m high) = step_both (role t.symbol) is names t x m high
 step_phase is names t (Skipping x) = step_skipping (role t.symbol) is names t x
 step_phase is names t Above = None
 
-abbrev pub step_state : Sign → State → Option State
+abbrev pub step_state : SymbolAt → State → Option State
 step_state t s = step_phase s.items s.names t s.phase
 
-abbrev pub step : Sign → State → Option State
+abbrev pub step : SymbolAt → State → Option State
 step t s = step_state t (filed s.items s.names s.phase)
 
 -- the height that every tree has; an item that may be skipped has none
@@ -139,7 +139,7 @@ abbrev pub limited : Option State → Answer
 limited None = Refused
 limited (Some s) = if leb (phase_low s.phase) 200 then Goes s else High
 
-abbrev pub limited_step : Sign → State → Answer
+abbrev pub limited_step : SymbolAt → State → Answer
 limited_step t s = limited (step t s)
 
 -- a whole file's tree, or the token behind which there is none
@@ -149,7 +149,7 @@ pub data Result : Type 0 where
   Unsupported : ℕ → Result
   TooHigh : Result
 
-abbrev pub refusal : Sign → Result
+abbrev pub refusal : SymbolAt → Result
 refusal t = if is_unsupported t.symbol then Unsupported t.at else Syntax t.at
 
 abbrev pub finish_phase : Items → Phase → Result
@@ -165,12 +165,12 @@ pub data Course : Type 0 where
   Going : State → Course
   Over : Result → Course
 
-abbrev pub course : Sign → Answer → Course
+abbrev pub course : SymbolAt → Answer → Course
 course t (Goes s) = Going s
 course t Refused = Over (refusal t)
 course t High = Over TooHigh
 
-abbrev pub advance : Sign → Course → Course
+abbrev pub advance : SymbolAt → Course → Course
 advance t (Going s) = course t (limited_step t s)
 advance t (Over r) = Over r
 
@@ -178,10 +178,10 @@ abbrev pub outcome : Course → Result
 outcome (Going s) = finish s
 outcome (Over r) = r
 
-abbrev pub run : List Sign → Course → Course
+abbrev pub run : List SymbolAt → Course → Course
 run [] c = c
 run (t ∷ ts) c = run ts (advance t c)
 
 -- the tree of a file's tokens
-abbrev pub parse_of : List Sign → Result
+abbrev pub parse_of : List SymbolAt → Result
 parse_of ts = outcome (run ts (Going start))

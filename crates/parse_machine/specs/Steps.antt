@@ -4,7 +4,7 @@ use Rattle.c_tree.specs.declared.symbol.Bracket.TheVariants as br
 use Rattle.c_tree.specs.declared.symbol.AttributeWord.{AttributeWord}
 use Rattle.c_tree.specs.declared.symbol.Symbol.{Symbol}
 use Rattle.c_tree.specs.declared.symbol.Symbol.TheVariants as sy
-use Rattle.c_tree.specs.declared.symbol.Sign.{Sign}
+use Rattle.c_tree.specs.declared.symbol.SymbolAt.{SymbolAt}
 use Rattle.c_tree.specs.Tree.{Raw, raw_and, At, attribute, attributes_and, wAttribute, bSkipped, tEmpty}
 use Rattle.parse_machine.specs.Tokens.{prefix_of, suffix_of, Skip, skipOn, skipClose, skipEnd, skip_of}
 use Rattle.parse_machine.specs.Contexts.{Header, placeFile, aroundPlace, Attributed, onWords, onDeclared, onLabel, Mode, File, Ended, Specifiers, Enumeration, Tagged, Constant, Named, Attribute, Next, Behind, Listed, Parameters', Parameter, Skipped, Begin, Wait, Either, Goto, Operand, Maybe, Sizeof, Value, Label, Whole, Finished}
@@ -20,12 +20,12 @@ with_attribute (onWords s w) x = Specifiers (said s s.told (wAttribute x) 1) w
 with_attribute (onDeclared d) x = Behind (with_attributes d (attributes_and d.attributes x))
 with_attribute (onLabel n x b ats o) y = Label n x b (attributes_and ats y) o
 
-abbrev pub attribute_skip : Skip → Sign → AttributeWord → ℕ → ℕ → Raw → Attributed → Option Mode
+abbrev pub attribute_skip : Skip → SymbolAt → AttributeWord → ℕ → ℕ → Raw → Attributed → Option Mode
 attribute_skip (skipOn n) t w x a r y = Some (Attribute w x a (raw_and r t) n y)
 attribute_skip skipClose t w x a r y = Some (with_attribute y (attribute w x a r t.at))
 attribute_skip skipEnd t w x a r y = None
 
-abbrev pub body_skip : Skip → Sign → Header → ℕ → Raw → Option Mode
+abbrev pub body_skip : Skip → SymbolAt → Header → ℕ → Raw → Option Mode
 body_skip (skipOn n) t h a r = Some (Skipped h a (raw_and r t) n)
 body_skip skipClose t h a r = Some (Ended (function_item h (bSkipped a r t.at)) 0)
 body_skip skipEnd t h a r = None
@@ -36,7 +36,7 @@ step_file names sy.Semicolon at = Some (Ended (tEmpty at) 0)
 step_file names sy.End at = Some Finished
 step_file names t at = step_specs names t at unspoken (aroundPlace placeFile)
 
-abbrev pub next : List (List ℕ) → Sign → Mode → Option Turn
+abbrev pub next : List (List ℕ) → SymbolAt → Mode → Option Turn
 next names t File = kept names (step_file names t.symbol t.at)
 next names t (Ended i h) = None
 next names t (Specifiers s w) = kept names (step_specs names t.symbol t.at s w)

@@ -1,6 +1,6 @@
 ghost use Rattle.std.specs.Prelude.{◌≤◌, vec_len};
 
-use c_tree::{Attribute, AttributeWord, Head, Item, Sign, Statement};
+use c_tree::{Attribute, AttributeWord, Head, Item, Statement, SymbolAt};
 use lv_base::Text;
 use parse_stack::{
     Around, Attributed, Declared, Declaring, FunctionHead, Inner, Listing, Outer, ParamRow, Part,
@@ -10,7 +10,7 @@ use parse_stack::{
 /// Tokens that are kept as they stand, and how many brackets are open behind them.
 #[derive(Drop)]
 pub struct Skip {
-    pub tokens: Vec<Sign>,
+    pub tokens: Vec<SymbolAt>,
     pub depth: usize,
     pub ghost bounded: { depth ≤ vec_len tokens },
 }

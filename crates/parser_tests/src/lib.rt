@@ -12,6 +12,6 @@ mod of_c_tree;
 #[cfg(test)]
 mod of_parse_steps;
 #[cfg(test)]
-mod of_token_signs;
+mod of_parser_symbols;
 #[cfg(test)]
 mod of_typedef_names;

@@ -1,5 +1,5 @@
 use c_lexer::lex;
-use c_tree::{Parameters, Sign, Statement, Symbol};
+use c_tree::{Parameters, Statement, Symbol, SymbolAt};
 use lv_base::Text;
 use parse_stack::{Around, Base, Outer, Place, StepFail, Wrap, no_parts, rooted, unspoken};
 use parse_steps::{
@@ -9,9 +9,9 @@ use parse_steps::{
 use parse_values::{
     Mode, Waiting, begin_in, function_of, step_maybe, step_operand, step_sizeof, step_value, whole,
 };
+use parser_symbols::sign_of;
 use std::alloc::Global;
 use std::test::Fail;
-use token_signs::sign_of;
 use typedef_names::Names;
 
 /// The one token that was waited for.
@@ -27,8 +27,8 @@ fn arrived(alloc: Global, at: u32, waiting: Waiting) -> Result<Mode, StepFail> {
 }
 
 /// One token among declared names.
-fn turn_declared(alloc: Global, names: &mut Names, t: Sign, m: Mode) -> Result<Mode, StepFail> {
-    let Sign { symbol, at } = t;
+fn turn_declared(alloc: Global, names: &mut Names, t: SymbolAt, m: Mode) -> Result<Mode, StepFail> {
+    let SymbolAt { symbol, at } = t;
     match m {
         Mode::Next(d, c) => step_next(alloc, names, symbol, at, d, c),
         Mode::Behind(d) => step_behind(alloc, names, symbol, at, d),
@@ -38,13 +38,13 @@ fn turn_declared(alloc: Global, names: &mut Names, t: Sign, m: Mode) -> Result<M
             step_parameter(alloc, symbol, at, d, a, row, c, s, n, x)
         }
         Mode::Wait(x) => arrived(alloc, at, Box::into_inner(x)),
-        m => turn_value(alloc, names, Sign { symbol, at }, m),
+        m => turn_value(alloc, names, SymbolAt { symbol, at }, m),
     }
 }
 
 /// One token among words, enumerators and expressions.
-fn turn_value(alloc: Global, names: &Names, t: Sign, m: Mode) -> Result<Mode, StepFail> {
-    let Sign { symbol, at } = t;
+fn turn_value(alloc: Global, names: &Names, t: SymbolAt, m: Mode) -> Result<Mode, StepFail> {
+    let SymbolAt { symbol, at } = t;
     match m {
         Mode::Specifiers(s, w) => step_specs(alloc, names, symbol, at, s, w),
         Mode::Enumeration(x, s, w) => step_enumeration(alloc, names, symbol, at, x, s, w),

@@ -13,7 +13,7 @@ use Rattle.c_meaning.specs.Types.{type_of}
 use Rattle.c_meaning.specs.Bindings.{Env, words_type, kind_in}
 use Rattle.c_meaning.specs.Constants.{constant_of, or_zero, object_length}
 use Rattle.c_meaning.specs.Rules as rules
-use Rattle.rule_lines.specs.Found.{Summary, summary, both, Joined, Tried}
+use Rattle.first_broken.specs.Found.{Summary, summary, both, Joined, Tried}
 use Rattle.rule_steps.specs.Expressions.{told, walk, walk_words}
 use Rattle.rule_steps.specs.Statements.{WalkedStatement, case_as, value_of, walk_option, walk_test, constant_in, walk_first, walk_firsts, length_in, walk_params, walk_parameters, walk_form, walk_initial, walk_declarators, walk_declaration, walk_head, walk_start, walk_for, walk_return, switch_of, walk_switch, walk_statement, walk_statements, walk_body, walk_item, walk_items, walk_source}
 use Rattle.rule_steps.specs.Laws.{StatementsWalked, SourcesWalked}

@@ -12,7 +12,7 @@ use Rattle.c_meaning.specs.Bindings.{Env, declared_at, constant_value, words_typ
 use Rattle.c_meaning.specs.Constants.{is_constant, constant_of}
 use Rattle.c_meaning.specs.Types.{type_of}
 use Rattle.c_meaning.specs.Rules as rules
-use Rattle.rule_lines.specs.Found.{Summary, summary, both, unless_found, Joined, Tried}
+use Rattle.first_broken.specs.Found.{Summary, summary, both, unless_found, Joined, Tried}
 use Rattle.rule_steps.specs.Expressions.{Walked, target_told, prefix_told, cast_told, in_brackets, called, indexed, postfixed, prefixed, cast_as, binary_of, chosen, assigned, comma_of, type_in, own_in, one_more, leaf, constant_told, walk, walk_parts, walk_words, walk_word, walk_enumerators, told, last_of, told_parts}
 
 pub two : {A B C : Type 0} (f : A → B → C) (a a2 : A) (b b2 : B) → a ≡ a2 → b ≡ b2 → f a b ≡ f a2 b2

@@ -15,7 +15,7 @@ use Rattle.c_meaning.specs.Bindings.{Env, visible, entity_of, declared_at, const
 use Rattle.c_meaning.specs.Constants.{is_object, is_constant, constant_of}
 use Rattle.c_meaning.specs.Types.{type_of, prefix_type, binary_type, arms_type, element_type, called_type}
 use Rattle.c_meaning.specs.Rules as rules
-use Rattle.rule_lines.specs.Found.{Summary, summary, both, unless_found}
+use Rattle.first_broken.specs.Found.{Summary, summary, both, unless_found}
 
 -- What is known of an expression: the rules that it breaks, its type, whether it may be assigned to, whether the name in it is
 -- const, whether it is a constant expression, the token at which it is refused as a value, and its first token.

@@ -5,7 +5,7 @@ use Rattle.lv_base.specs.declared.kind.Model.{Model}
 use Rattle.c_tree.specs.Tree.{Ex, St, Items}
 use Rattle.c_meaning.specs.Bindings.{Env}
 use Rattle.c_meaning.specs.Rules.{cases_of, faults_of_statement, typing_faults}
-use Rattle.rule_lines.specs.Found.{summary}
+use Rattle.first_broken.specs.Found.{summary}
 use Rattle.rule_steps.specs.Expressions.{walk, told}
 use Rattle.rule_steps.specs.Statements.{case_as, walk_statement, walk_source}
 

@@ -14,7 +14,7 @@ use Rattle.c_meaning.specs.Bindings.{Env, words_type, kind_in}
 use Rattle.c_meaning.specs.Constants.{constant_of, or_zero, object_length}
 use Rattle.c_meaning.specs.Rules as rules
 use Rattle.c_meaning.specs.Rules.{Case, aCase, aDefault}
-use Rattle.rule_lines.specs.Found.{Summary, summary, both, unless_found}
+use Rattle.first_broken.specs.Found.{Summary, summary, both, unless_found}
 use Rattle.rule_steps.specs.Expressions.{Walked, value_told, constant_told, walk, walk_words}
 
 -- What is known of a statement: the rules that it breaks, and its cases and defaults but for those of a switch in it.

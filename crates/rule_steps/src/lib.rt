@@ -4,7 +4,7 @@
 
 ghost use Rattle.rule_steps.specs.Laws.{ExpressionsWalked, SourcesWalked, StatementsWalked};
 
-use rule_lines::{joined, tried};
+use first_broken::{joined, tried};
 
 /// The walk over an expression finds the first rule that it breaks, whether lines around it are tried, its type, whether it may be
 /// assigned to and is constant, and its tokens, as the rules say.

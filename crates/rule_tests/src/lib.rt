@@ -4,7 +4,7 @@
 #[cfg(test)]
 mod of_call_order;
 #[cfg(test)]
-mod of_rule_lines;
+mod of_first_broken;
 #[cfg(test)]
 mod of_source_checks;
 #[cfg(test)]

@@ -1,6 +1,6 @@
 use call_order::{CallAt, recursion_found};
+use first_broken::Broken;
 use lv_base::SourceFault;
-use rule_lines::Broken;
 use std::alloc::Global;
 use std::process::Abort;
 use std::test::Fail;

@@ -1,8 +1,8 @@
 use c_parser::parse;
 use c_rules::Examined;
 use c_tokens::tokens_of;
+use elaboration_laws::sources_read;
 use lv_base::{Model, SourceFail, SourceFault};
-use refusal_laws::sources_read;
 use source_checks::accepted;
 use std::alloc::Global;
 use std::process::Abort;

@@ -1,6 +1,6 @@
 use c_tree::{Body, Function, Item, Name, Parameters, Spec, Specs, TypeWord, Unit};
+use first_broken::none;
 use lv_base::{Kind, Model, SourceFail, Text};
-use rule_lines::none;
 use source_refusals::{Passed, all_found, decide, limit_passed};
 use std::alloc::Global;
 use std::process::Abort;

@@ -1,8 +1,8 @@
 use c_lexer::lex;
 use c_parser::parse;
 use c_tree::{Body, Head, Item, Statement, Unit};
+use first_broken::Found;
 use lv_base::{Model, Text};
-use rule_lines::Found;
 use source_bindings::bind_all;
 use source_rules::{Case, cases_of, duplicates, items_found, items_summed};
 use std::alloc::Global;

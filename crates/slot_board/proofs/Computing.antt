@@ -15,7 +15,7 @@ use Rattle.slot_code.specs.declared.reply.Ending.TheVariants as ending
 use Rattle.slot_code.specs.Machine.{Next, Goes, Over, machine, fills, applied, updated, changed}
 use Rattle.slot_code.specs.Slots.{put}
 use Rattle.slot_board.specs.Seen.{compute_of, finished, applied_value, is_index_of, element_at, index_at, state_written}
-use Rattle.typed_ranges.specs.Guards.{guarded}
+use Rattle.typed_range_laws.specs.Guards.{guarded}
 
 pub element_found : (at object count : ℕ) (v : ℤ) (st : State) → is_index_of count v ≡ true → element_at at object count v st ≡ Value (slice_index_or (values_of st object) (unsigned_abs v) (pos 0)) st
 element_found at object count v st h = ap (λ b. after (choose b (give (element object (unsigned_abs v))) (fail error.Index at) st) read) h

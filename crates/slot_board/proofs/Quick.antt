@@ -13,7 +13,7 @@ use Rattle.lv_base.specs.declared.kind.Op.{Op}
 use Rattle.lv_base.specs.declared.fault.ErrorKind.{ErrorKind}
 use Rattle.lv_base.specs.declared.fault.ErrorKind.TheVariants.{Overflow, Zero}
 use Rattle.lv_base.specs.Integers.{InRange, InAny, IsRight, is_in_range, is_shift, is_signed, is_promoted, is_zero, least_of, greatest_of, residue, signed_of, converted, held, exact, quotient, remainder}
-use Rattle.typed_ranges.proofs.Ranging.{in_range_test, guard_open}
+use Rattle.typed_range_laws.proofs.Ranging.{in_range_test, guard_open}
 use Rattle.quick_integers.proofs.Fits.{in_any, signed_in_any, product_fits, product_is, quotient_within}
 use Rattle.c_tree.specs.declared.symbol.BinaryOp.{BinaryOp}
 use Rattle.c_run.specs.Operators.{op_of, is_turned, is_negated}

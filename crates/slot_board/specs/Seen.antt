@@ -7,7 +7,7 @@ use Rattle.lv_base.specs.Integers.{arith_of}
 use Rattle.c_tree.specs.declared.symbol.BinaryOp.{BinaryOp}
 use Rattle.c_run.specs.Run.{with_store, State, Got, Value, Stop, Run, Compute, give, after, located, read, Element}
 use Rattle.c_run.specs.Operators.{op_of, is_turned, is_negated, negated}
-use Rattle.typed_ranges.specs.Guards.{guarded}
+use Rattle.typed_range_laws.specs.Guards.{guarded}
 use Rattle.slot_code.specs.declared.reply.Ending.{Ending}
 use Rattle.slot_code.specs.declared.flat.Instruction.{Instruction}
 use Rattle.slot_code.specs.declared.flat.Instruction.TheVariants as i

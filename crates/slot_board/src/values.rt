@@ -3,7 +3,7 @@ ghost use Rattle.lv_base.specs.Integers as int;
 ghost use Rattle.c_run.specs.Run as run;
 ghost use Rattle.c_run.specs.Operators as operators;
 ghost use Rattle.c_typed.specs.Run as typed;
-ghost use Rattle.typed_ranges.specs.Guards as guards;
+ghost use Rattle.typed_range_laws.specs.Guards as guards;
 ghost use Rattle.slot_board.specs.Seen.{applied_value, plain_value, finished, is_index_of};
 
 use c_tree::{BinaryOp, Crement};

@@ -11,7 +11,7 @@ use Rattle.c_run.specs.Run.{State, End, Error, Ended, NoInput, BadInput, Spent, 
 use Rattle.c_run.specs.Operators.{op_of, is_turned, is_negated, negated, crement_op}
 use Rattle.c_typed.specs.Tree.{Program}
 use Rattle.c_typed.specs.Run.{promoted, start_store, main_number}
-use Rattle.typed_ranges.specs.Guards.{guarded}
+use Rattle.typed_range_laws.specs.Guards.{guarded}
 use Rattle.slot_code.specs.declared.flat.Instruction.{Instruction}
 use Rattle.slot_code.specs.declared.flat.Instruction.TheVariants as i
 use Rattle.slot_code.specs.declared.reply.Ending.{Ending}

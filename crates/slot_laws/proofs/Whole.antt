@@ -1,7 +1,7 @@
 -- The code of a program runs as its tree.
 use Rattle.std.proofs.Common.{◌≡◌, ℕ, suc, ◌≤◌, true, List, [], ◌∷◌, length, Option, Some, None, ℤ, pos, slice_get, inl, refl, sym, ap, ◌∙◌, subst, arith}
-use Rattle.typed_ranges.specs.Guards.{guarded}
-use Rattle.typed_ranges.proofs.Running.{runs_guarded}
+use Rattle.typed_range_laws.specs.Guards.{guarded}
+use Rattle.typed_range_laws.proofs.Running.{runs_guarded}
 use Rattle.c_run.specs.Run.{State, Got, Value, Stop, Run, after, Compute}
 use Rattle.c_run.specs.Loops.{Start, enter}
 use Rattle.c_typed.specs.Tree.{Function, Program}

@@ -8,7 +8,7 @@ use Rattle.c_typed.specs.View.{object_of}
 use Rattle.c_typed.specs.Run.{start_values, start_store}
 use Rattle.c_typed.specs.Facts.{IsTyped}
 use Rattle.c_run.specs.Run.{State}
-use Rattle.typed_ranges.specs.Guards.{guarded}
+use Rattle.typed_range_laws.specs.Guards.{guarded}
 use Rattle.slot_code.specs.declared.flat.Instruction.{Instruction}
 use Rattle.slot_code.specs.declared.reply.Ending.{Ending}
 use Rattle.slot_code.specs.Slots.{put, slots_in}

@@ -3,7 +3,7 @@ use Rattle.std.specs.Prelude.{◌≡◌, ℕ, ◌<◌, ◌≤◌, true, List, le
 use Rattle.lv_base.specs.declared.kind.Model.{Model}
 use Rattle.c_typed.specs.Tree.{Program}
 use Rattle.c_typed.specs.Run.{start_store}
-use Rattle.typed_ranges.specs.Guards.{guarded}
+use Rattle.typed_range_laws.specs.Guards.{guarded}
 use Rattle.slot_code.specs.declared.flat.Instruction.{Instruction}
 use Rattle.slot_code.specs.declared.reply.Ending.{Ending}
 use Rattle.slot_code.specs.declared.reply.Ending.TheVariants as ending

@@ -1,6 +1,6 @@
 ghost use Rattle.std.specs.Prelude.{◌≡◌, ◌≤◌, length, slice_get, IsTrue};
 ghost use Rattle.std.specs.Option.{option_copied};
-ghost use Rattle.typed_ranges.specs.Guards as guards;
+ghost use Rattle.typed_range_laws.specs.Guards as guards;
 ghost use Rattle.slot_code.specs.Slots.{slots_in};
 ghost use Rattle.slot_code.specs.Machine as flat;
 ghost use Rattle.slot_board.specs.Boards.{state_of, shape_of};

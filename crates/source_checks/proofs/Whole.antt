@@ -13,7 +13,7 @@ use Rattle.c_typed.specs.Rules.{broken}
 use Rattle.c_rules.specs.Refusals.{IsRefused}
 use Rattle.source_refusals.specs.Cells.{passed}
 use Rattle.source_refusals.specs.Refusals.{refusal, faults_in}
-use Rattle.refusal_laws.proofs.Limits.{no_broken, none_broken}
+use Rattle.elaboration_laws.proofs.Limits.{no_broken, none_broken}
 use Rattle.source_checks.specs.Refusals.{fault_of, control_refusal, or_else, source_refusal}
 
 abbrev control : Items → Model → List Broken

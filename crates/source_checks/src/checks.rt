@@ -5,7 +5,7 @@ ghost use Rattle.c_meaning.specs.Program.{run};
 ghost use Rattle.c_typed.specs.Parts.{tree_of};
 ghost use Rattle.c_typed.specs.Run as typed;
 ghost use Rattle.c_types.specs.Elaborated.{elaborated};
-ghost use Rattle.refusal_laws.specs.Read.{IsRead};
+ghost use Rattle.elaboration_laws.specs.Read.{IsRead};
 ghost use Rattle.source_checks.specs.Refusals.{source_refusal};
 
 use c_rules::{Examined, examine};

@@ -10,10 +10,10 @@ use Rattle.c_run.specs.Breaking.{Broken}
 use Rattle.c_meaning.specs.Bindings as b
 use Rattle.c_meaning.specs.Program as program
 use Rattle.c_meaning.specs.Rules as r
-use Rattle.rule_lines.specs.declared.lines.Broken as told_line
-use Rattle.rule_lines.specs.Found.{Summary, summary, both}
-use Rattle.rule_lines.specs.Seen.{broken_of}
-use Rattle.rule_lines.proofs.Least.{joined_is}
+use Rattle.first_broken.specs.declared.lines.Broken as told_line
+use Rattle.first_broken.specs.Found.{Summary, summary, both}
+use Rattle.first_broken.specs.Seen.{broken_of}
+use Rattle.first_broken.proofs.Least.{joined_is}
 use Rattle.type_scopes.specs.declared.entries.Entry.{Entry}
 use Rattle.type_scopes.specs.declared.entries.Object.{Object}
 use Rattle.type_scopes.specs.Seen.{entry_of, object_of}

@@ -1,15 +1,15 @@
 ghost use Rattle.std.specs.Prelude.{◌≡◌, ◌⊎◌, None, Some, map, IfOk, MatchResult};
 ghost use Rattle.c_tree.specs.View as v;
-ghost use Rattle.rule_lines.specs.Found.{summary};
-ghost use Rattle.rule_lines.specs.Seen as told;
+ghost use Rattle.first_broken.specs.Found.{summary};
+ghost use Rattle.first_broken.specs.Seen as told;
 ghost use Rattle.type_scopes.specs.Seen as seen;
 ghost use Rattle.source_refusals.specs.Refusals as re;
 
 use crate::cells::{Passed, limit_passed};
 use c_tree::Unit;
 use declaration_rules::{main_found, main_told, offsets, redeclared, summed, twice_told};
+use first_broken::{Broken, Found, both, joined};
 use lv_base::{Memory, Model, SourceFail};
-use rule_lines::{Broken, Found, both, joined};
 use source_rules::{items_found, items_summed};
 use std::alloc::Global;
 use type_scopes::Env;

@@ -12,14 +12,14 @@ use Rattle.c_tree.specs.declared.tree.Declarator.{Declarator}
 use Rattle.c_tree.specs.declared.tree.Statement.{Statement}
 use Rattle.c_tree.specs.declared.tree.Statement.TheVariants as st
 use Rattle.c_tree.proofs.Views.{statement_Block}
-use Rattle.rule_lines.specs.declared.lines.Found.{Found}
-use Rattle.rule_lines.specs.Seen.{found_of}
+use Rattle.first_broken.specs.declared.lines.Found.{Found}
+use Rattle.first_broken.specs.Seen.{found_of}
 use Rattle.c_tree.specs.declared.tree.Item.{Item}
 use Rattle.c_tree.specs.View.{expr, parts_of, words_of, params_of, form_of, initial_of, declarators_of, statement, statements_of, item_of, items_of}
 use Rattle.c_run.specs.Breaking.{line}
 use Rattle.c_meaning.specs.Bindings.{Env}
 use Rattle.c_meaning.specs.Rules as r
-use Rattle.rule_lines.specs.Found.{Summary, summary, both}
+use Rattle.first_broken.specs.Found.{Summary, summary, both}
 use Rattle.typing_rules.specs.Summed as s
 use Rattle.source_rules.specs.Summed as a
 use Rattle.source_rules.specs.Cases as c

@@ -7,7 +7,7 @@ use Rattle.std.proofs.Common.{Less, Equal, Greater}
 use Rattle.lv_base.specs.declared.fault.SourceFault.TheVariants as fault
 use Rattle.c_run.specs.Breaking.{line}
 use Rattle.c_meaning.specs.Rules as r
-use Rattle.rule_lines.specs.Found.{Summary, summary, both}
+use Rattle.first_broken.specs.Found.{Summary, summary, both}
 use Rattle.source_rules.specs.Cases as c
 use Rattle.source_rules.specs.declared.cases.Case.{Case}
 use Rattle.source_rules.proofs.Rows.{repeated_more, take_more, map_behind}

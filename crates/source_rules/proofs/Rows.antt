@@ -16,8 +16,8 @@ use Rattle.c_tree.proofs.Views.{parts_push, params_push, declarators_push, state
 use Rattle.c_run.specs.Breaking.{Broken, line}
 use Rattle.c_meaning.specs.Bindings.{Env}
 use Rattle.c_meaning.specs.Rules as r
-use Rattle.rule_lines.specs.Found.{Summary, summary, both}
-use Rattle.rule_lines.proofs.Least.{joined_is}
+use Rattle.first_broken.specs.Found.{Summary, summary, both}
+use Rattle.first_broken.proofs.Least.{joined_is}
 use Rattle.typing_rules.specs.Summed as s
 use Rattle.source_rules.specs.Summed as a
 use Rattle.source_rules.specs.Cases as c

@@ -12,7 +12,7 @@ use Rattle.c_meaning.specs.Tokens.{count_parts, first_of}
 use Rattle.c_meaning.specs.Bindings.{Env, words_type, kind_in}
 use Rattle.c_meaning.specs.Constants.{object_length}
 use Rattle.c_meaning.specs.Rules as r
-use Rattle.rule_lines.specs.Found.{Summary, summary, both, unless_found}
+use Rattle.first_broken.specs.Found.{Summary, summary, both, unless_found}
 use Rattle.typing_rules.specs.Summed as s
 use Rattle.typing_rules.proofs.Summing.{join, try_lines, expression_is, words_are, constant_is}
 use Rattle.source_rules.specs.Summed as a

@@ -12,7 +12,7 @@ use Rattle.c_meaning.specs.Bindings.{Env, words_type, kind_in, parameter_kinds}
 use Rattle.c_meaning.specs.Types.{type_of}
 use Rattle.c_meaning.specs.Constants.{constant_of, or_zero, object_length}
 use Rattle.c_meaning.specs.Rules as r
-use Rattle.rule_lines.specs.Found.{Summary, summary, both, unless_found}
+use Rattle.first_broken.specs.Found.{Summary, summary, both, unless_found}
 use Rattle.typing_rules.specs.Summed as s
 use Rattle.source_rules.specs.Cases.{cases_in, repeated}
 use Rattle.typing_rules.specs.Summed.{one, nothing}

@@ -3,14 +3,14 @@ ghost use Rattle.c_tree.specs.View as v;
 ghost use Rattle.c_meaning.specs.Kinds as k;
 ghost use Rattle.c_meaning.specs.Rules as r;
 ghost use Rattle.c_meaning.specs.Types as ty;
-ghost use Rattle.rule_lines.specs.Seen as lines;
-ghost use Rattle.rule_lines.specs.Found.{summary};
+ghost use Rattle.first_broken.specs.Seen as lines;
+ghost use Rattle.first_broken.specs.Found.{summary};
 ghost use Rattle.type_scopes.specs.Seen as seen;
 ghost use Rattle.source_rules.specs.Cases as c;
 
 use c_tree::{Expr, Head, Statement};
+use first_broken::{Found, both, line, none};
 use lv_base::{Kind, Memory, Model, SourceFault, convert};
-use rule_lines::{Found, both, line, none};
 use std::alloc::Global;
 use std::collections::HashSet;
 use type_constants::constant;

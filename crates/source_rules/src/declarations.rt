@@ -3,15 +3,15 @@ ghost use Rattle.c_tree.specs.Tree as t;
 ghost use Rattle.c_tree.specs.View as v;
 ghost use Rattle.c_meaning.specs.Constants as co;
 ghost use Rattle.c_meaning.specs.Rules as r;
-ghost use Rattle.rule_lines.specs.Seen as lines;
+ghost use Rattle.first_broken.specs.Seen as lines;
 ghost use Rattle.type_scopes.specs.Seen as seen;
 ghost use Rattle.typing_rules.specs.Summed as s;
 ghost use Rattle.source_rules.specs.Summed as a;
 
 use c_tree::{Declaration, Declarator, Expr, Form, Initial, Listed, Parameter, Parameters, Specs};
+use first_broken::{Found, both, line, none, unless};
 use lv_base::{Model, SourceFault, Text};
 use name_entries::object_length;
-use rule_lines::{Found, both, line, none, unless};
 use tree_places::{count_parts, first_of};
 use type_constants::constant;
 use type_scopes::Env;

@@ -1,15 +1,15 @@
 ghost use Rattle.std.specs.Prelude.{◌≡◌, IfOk};
 ghost use Rattle.c_tree.specs.Tree as t;
 ghost use Rattle.c_tree.specs.View as v;
-ghost use Rattle.rule_lines.specs.Seen as lines;
+ghost use Rattle.first_broken.specs.Seen as lines;
 ghost use Rattle.type_scopes.specs.Seen as seen;
 ghost use Rattle.source_rules.specs.Summed as a;
 
 use crate::declarations::{declaration_found, parameters_found, specs_found};
 use crate::statements::statements_found;
 use c_tree::{Body, Function, Item};
+use first_broken::{Found, both, none};
 use lv_base::{Kind, Memory, Model, Text};
-use rule_lines::{Found, both, none};
 use std::alloc::Global;
 use type_kinds::kind_in;
 use type_scopes::{Env, words_type};

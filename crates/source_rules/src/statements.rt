@@ -1,14 +1,14 @@
 ghost use Rattle.std.specs.Prelude.{◌≡◌, IfOk};
 ghost use Rattle.c_tree.specs.View as v;
-ghost use Rattle.rule_lines.specs.Seen as lines;
+ghost use Rattle.first_broken.specs.Seen as lines;
 ghost use Rattle.type_scopes.specs.Seen as seen;
 ghost use Rattle.source_rules.specs.Summed as a;
 
 use crate::cases::{cases_of, duplicates};
 use crate::declarations::{constant_found, declaration_found, value_found};
 use c_tree::{Expr, ForHead, ForStart, Head, Statement};
+use first_broken::{Found, both, none};
 use lv_base::{Kind, Memory, Model, Text};
-use rule_lines::{Found, both, none};
 use std::alloc::Global;
 use type_scopes::Env;
 use typing_rules::expression;

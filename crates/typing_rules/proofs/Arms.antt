@@ -12,7 +12,7 @@ use Rattle.c_tree.specs.Tree as t
 use Rattle.c_tree.specs.View.{expr, parts_of, word, words_of, words_behind, enumerators_of}
 use Rattle.c_tree.proofs.Views.{expr_Call, expr_Cast, expr_SizeofType, word_Enum, word_TagEnum}
 use Rattle.c_meaning.specs.Bindings.{Env, words_type}
-use Rattle.rule_lines.specs.Found.{Summary, both, unless_found}
+use Rattle.first_broken.specs.Found.{Summary, both, unless_found}
 use Rattle.typing_rules.specs.Summed as s
 use Rattle.typing_rules.proofs.Rows.{values_more, parts_more, words_more, enumerators_more}
 

@@ -9,7 +9,7 @@ use Rattle.c_tree.specs.Tree as t
 use Rattle.c_tree.specs.View.{expr, parts_of, parts_behind, word, words_behind, enumerators_of, enumerator_behind}
 use Rattle.c_tree.proofs.Views.{parts_push, words_push, enumerators_push}
 use Rattle.c_meaning.specs.Bindings.{Env}
-use Rattle.rule_lines.specs.Found.{both}
+use Rattle.first_broken.specs.Found.{both}
 use Rattle.typing_rules.specs.Summed as s
 
 take_more : {A : Type 0} (xs : List A) (i : ℕ) (d : A) → i < length xs → take (i + 1) xs ≡ take i xs ++ (get_or xs i d ∷ [])

@@ -14,8 +14,8 @@ use Rattle.c_meaning.specs.Bindings.{Env, Entity, anObjectOf, aFunctionOf, aCons
 use Rattle.c_meaning.specs.Types.{type_of}
 use Rattle.c_meaning.specs.Constants.{is_constant, constant_of}
 use Rattle.c_meaning.specs.Rules as r
-use Rattle.rule_lines.specs.Found.{Summary, summary, both, unless_found}
-use Rattle.rule_lines.proofs.Least.{joined_is, tried_is}
+use Rattle.first_broken.specs.Found.{Summary, summary, both, unless_found}
+use Rattle.first_broken.proofs.Least.{joined_is, tried_is}
 use Rattle.typing_rules.specs.Summed as s
 
 -- two sums are the sum of both lists

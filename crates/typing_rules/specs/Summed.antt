@@ -20,7 +20,7 @@ use Rattle.c_meaning.specs.Known.{known_of}
 use Rattle.c_meaning.specs.Types.{type_of}
 use Rattle.c_meaning.specs.Constants.{is_constant, constant_of}
 use Rattle.c_meaning.specs.Rules as r
-use Rattle.rule_lines.specs.Found.{Summary, summary, both, unless_found}
+use Rattle.first_broken.specs.Found.{Summary, summary, both, unless_found}
 
 -- one line
 abbrev pub one : Bool → SourceFault → ℕ → Summary

@@ -4,7 +4,7 @@ ghost use Rattle.c_tree.specs.Tree as t;
 ghost use Rattle.c_tree.specs.View as v;
 ghost use Rattle.c_meaning.specs.Bindings as b;
 ghost use Rattle.c_meaning.specs.Rules as r;
-ghost use Rattle.rule_lines.specs.Seen as lines;
+ghost use Rattle.first_broken.specs.Seen as lines;
 ghost use Rattle.type_scopes.specs.Seen as seen;
 ghost use Rattle.type_scopes.specs.Found as found;
 ghost use Rattle.typing_rules.specs.Summed as s;
@@ -15,8 +15,8 @@ use crate::lines::{
     prefix_lines, range_line, target_lines, value_line,
 };
 use c_tree::{Enumerator, Expr, Listed, Spec};
+use first_broken::{Found, both, line, none, unless};
 use lv_base::{Model, SourceFault, Text};
-use rule_lines::{Found, both, line, none, unless};
 use tree_places::first_of;
 use type_scopes::{Env, named_entity, visible};
 

@@ -1,14 +1,14 @@
 ghost use Rattle.std.specs.Prelude.{◌≡◌};
 ghost use Rattle.c_tree.specs.View as v;
 ghost use Rattle.c_meaning.specs.Bindings as b;
-ghost use Rattle.rule_lines.specs.Seen as lines;
+ghost use Rattle.first_broken.specs.Seen as lines;
 ghost use Rattle.type_scopes.specs.Seen as seen;
 ghost use Rattle.typing_rules.specs.Summed as s;
 
 use crate::entities::{is_callable, is_const_target, is_target, takes};
 use c_tree::{Expr, Listed, PrefixOp, Specs};
+use first_broken::{Found, both, line, none};
 use lv_base::{Kind, Model, SourceFault, Text, in_range};
-use rule_lines::{Found, both, line, none};
 use tree_places::{count_parts, first_of, own_token};
 use type_constants::{constant, is_constant};
 use type_kinds::{ExprType, is_array, is_kind, is_void};

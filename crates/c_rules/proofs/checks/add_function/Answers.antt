@@ -1,6 +1,6 @@
 use Rattle.std.proofs.Common.{ap, ◌∙◌, refl}
 use Rattle.c_typed.specs.View.{function_of, steps_of}
-use Rattle.rule_lines.specs.Seen.{found_of}
+use Rattle.first_broken.specs.Seen.{found_of}
 use Rattle.jump_rules.specs.Seen.{state_of, jumps}
 use Rattle.call_order.specs.Seen.{calls, all_calls}
 use Rattle.c_rules.specs.Seen.{gathering_of}

@@ -1,6 +1,6 @@
 use Rattle.std.proofs.Common.{map}
 use Rattle.c_typed.specs.View.{function_of}
-use Rattle.rule_lines.specs.Seen.{found_of}
+use Rattle.first_broken.specs.Seen.{found_of}
 use Rattle.c_rules.proofs.Examining.{with_cycles, lent_cycles}
 use Rattle.c_rules.proofs.checks.check.Goals as goal
 

@@ -3,7 +3,7 @@ use Rattle.c_typed.specs.Parts.{tree_of}
 use Rattle.call_order.specs.Seen.{all_calls, graph_of}
 use Rattle.c_rules.specs.Gathered as g
 use Rattle.c_rules.specs.Seen.{gathering_of}
-use Rattle.rule_lines.specs.Seen.{option_of}
+use Rattle.first_broken.specs.Seen.{option_of}
 use Rattle.c_rules.proofs.Examining.{known, is_bounded, has_no_cycle, is_examined, least_is}
 use Rattle.c_rules.proofs.checks.examine.Goals as goal
 

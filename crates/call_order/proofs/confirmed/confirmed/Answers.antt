@@ -1,5 +1,5 @@
 use Rattle.std.proofs.Common.{ap, ◌∙◌, get_or, false}
-use Rattle.rule_lines.specs.Seen.{found_of}
+use Rattle.first_broken.specs.Seen.{found_of}
 use Rattle.call_order.proofs.Arms.{confirmed_arm}
 use Rattle.call_order.proofs.confirmed.confirmed.Goals as goal
 

@@ -1,5 +1,5 @@
 use Rattle.std.proofs.Common.{arith, refl}
-use Rattle.rule_lines.specs.Seen.{found_of}
+use Rattle.first_broken.specs.Seen.{found_of}
 use Rattle.call_order.proofs.Arms.{lines_step}
 use Rattle.call_order.proofs.cycles.cycle_lines.Goals as goal
 

@@ -1,5 +1,5 @@
 use Rattle.std.proofs.Common.{arith}
-use Rattle.rule_lines.specs.Seen.{found_of}
+use Rattle.first_broken.specs.Seen.{found_of}
 use Rattle.call_order.specs.Seen.{graph_of}
 use Rattle.call_order.proofs.Arms.{all_step, graph_length}
 use Rattle.call_order.proofs.cycles.lines_found.Goals as goal

@@ -1,6 +1,6 @@
 use Rattle.std.proofs.Common.{◌≡◌, take}
-use Rattle.rule_lines.specs.Seen.{found_of}
-use Rattle.rule_lines.specs.Found.{summary}
+use Rattle.first_broken.specs.Seen.{found_of}
+use Rattle.first_broken.specs.Found.{summary}
 use Rattle.call_order.specs.Layers as layers
 use Rattle.call_order.specs.Seen as seen
 use Rattle.call_order.proofs.cycles.lines_found.Given as goal

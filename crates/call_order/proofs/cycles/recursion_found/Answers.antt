@@ -1,5 +1,5 @@
 use Rattle.std.proofs.Common.{ap, ◌∙◌}
-use Rattle.rule_lines.specs.Seen.{found_of}
+use Rattle.first_broken.specs.Seen.{found_of}
 use Rattle.call_order.specs.Peel as p
 use Rattle.call_order.specs.Seen.{taking_of}
 use Rattle.call_order.proofs.Arms.{none_found, some_found}

@@ -1,6 +1,6 @@
 use Rattle.std.proofs.Common.{◌∙◌, ◌++◌, [], map, take, ap, sym, append-nil}
 use Rattle.std.proofs.lemmas.Result.{IfOk-equal}
-use Rattle.rule_lines.specs.Seen.{broken_of}
+use Rattle.first_broken.specs.Seen.{broken_of}
 use Rattle.type_scopes.specs.Seen as seen
 use Rattle.declaration_rules.specs.Twice as t
 use Rattle.declaration_rules.proofs.Twins.{no_lines, lines_here}

@@ -1,6 +1,6 @@
 use Rattle.std.proofs.Common.{◌≡◌, take, map}
 use Rattle.c_run.specs.Breaking as br
-use Rattle.rule_lines.specs.Seen.{broken_of}
+use Rattle.first_broken.specs.Seen.{broken_of}
 use Rattle.declaration_rules.proofs.doubles.offsets.Given as goal
 
 -- those so far

@@ -1,5 +1,5 @@
 use Rattle.std.proofs.Common.{◌≡◌, [], take, map}
-use Rattle.rule_lines.specs.Seen.{broken_of}
+use Rattle.first_broken.specs.Seen.{broken_of}
 use Rattle.type_scopes.specs.Seen as seen
 use Rattle.declaration_rules.specs.Twice as t
 use Rattle.declaration_rules.proofs.doubles.redeclared.Given as goal

@@ -1,6 +1,6 @@
 use Rattle.std.proofs.Common.{◌≡◌, take, map}
-use Rattle.rule_lines.specs.Found.{summary}
-use Rattle.rule_lines.specs.Seen.{found_of, broken_of}
+use Rattle.first_broken.specs.Found.{summary}
+use Rattle.first_broken.specs.Seen.{found_of, broken_of}
 use Rattle.declaration_rules.proofs.doubles.summed.Given as goal
 
 -- the sum of those so far

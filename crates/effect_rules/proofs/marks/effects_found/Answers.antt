@@ -1,5 +1,5 @@
 use Rattle.std.proofs.Common.{arith}
-use Rattle.rule_lines.specs.Seen.{found_of}
+use Rattle.first_broken.specs.Seen.{found_of}
 use Rattle.effect_rules.specs.Seen.{effects_of}
 use Rattle.effect_rules.proofs.Arms.{found_step}
 use Rattle.effect_rules.proofs.marks.effects_found.Goals as goal

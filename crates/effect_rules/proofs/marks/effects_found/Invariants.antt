@@ -1,7 +1,7 @@
 use Rattle.std.proofs.Common.{◌≡◌, take}
 use Rattle.c_typed.specs.Rules as r
-use Rattle.rule_lines.specs.Seen.{found_of}
-use Rattle.rule_lines.specs.Found.{summary}
+use Rattle.first_broken.specs.Seen.{found_of}
+use Rattle.first_broken.specs.Found.{summary}
 use Rattle.step_values.specs.Seen.{values}
 use Rattle.effect_rules.proofs.marks.effects_found.Given as goal
 

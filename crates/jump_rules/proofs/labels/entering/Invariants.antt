@@ -1,7 +1,7 @@
 use Rattle.std.proofs.Common.{◌≡◌, take, []}
 use Rattle.c_typed.specs.Rules as r
-use Rattle.rule_lines.specs.Seen.{found_of}
-use Rattle.rule_lines.specs.Found.{summary}
+use Rattle.first_broken.specs.Seen.{found_of}
+use Rattle.first_broken.specs.Found.{summary}
 use Rattle.jump_rules.specs.Seen.{jumps}
 use Rattle.jump_rules.proofs.labels.entering.Given as goal
 

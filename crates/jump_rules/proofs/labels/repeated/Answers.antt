@@ -1,5 +1,5 @@
 use Rattle.std.proofs.Common.{arith}
-use Rattle.rule_lines.specs.Seen.{found_of}
+use Rattle.first_broken.specs.Seen.{found_of}
 use Rattle.jump_rules.proofs.Naming.{second_is}
 use Rattle.jump_rules.proofs.Rows.{repeated_step}
 use Rattle.jump_rules.proofs.labels.repeated.Goals as goal

@@ -1,7 +1,7 @@
 use Rattle.std.proofs.Common.{rules, ◌≡◌, sym, true, Ok}
 use Rattle.std.specs.Prelude.{IfSome}
 use Rattle.lv_base.specs.Integers.{InRange, is_promoted, arith_of}
-use Rattle.typed_ranges.proofs.Ranging.{guard_open}
+use Rattle.typed_range_laws.proofs.Ranging.{guard_open}
 use Rattle.slot_board.proofs.Quick.{right_of, some_same}
 use Rattle.slot_board.proofs.values.quickly.Goals as goal
 

@@ -2,7 +2,7 @@ use Rattle.std.proofs.Common.{◌≡◌, sym, ap, ◌∙◌, Some, suc, ◌+◌,
 use Rattle.std.proofs.lemmas.Option.{slice_get_past}
 use Rattle.std.specs.Prelude.{slice_get}
 use Rattle.std.specs.Option.{option_copied}
-use Rattle.typed_ranges.specs.Guards as guards
+use Rattle.typed_range_laws.specs.Guards as guards
 use Rattle.slot_code.specs.Machine as flat
 use Rattle.slot_board.specs.Boards.{state_of}
 use Rattle.slot_machine.proofs.Fitting.{may_act}

@@ -1,5 +1,5 @@
 use Rattle.std.proofs.Common.{◌≡◌}
-use Rattle.typed_ranges.specs.Guards as guards
+use Rattle.typed_range_laws.specs.Guards as guards
 use Rattle.slot_code.specs.Machine as flat
 use Rattle.slot_board.specs.Boards.{state_of, shape_of}
 use Rattle.slot_machine.proofs.running.run_from.Given as goal

@@ -1,4 +1,4 @@
-use Rattle.rule_lines.specs.Seen.{found_of}
+use Rattle.first_broken.specs.Seen.{found_of}
 use Rattle.type_scopes.specs.Seen.{env_of}
 use Rattle.source_refusals.proofs.Rows.{all_are}
 use Rattle.source_refusals.proofs.refusals.all_found.Goals as goal

@@ -1,5 +1,5 @@
 use Rattle.std.proofs.Common.{arith}
-use Rattle.rule_lines.specs.Seen.{found_of}
+use Rattle.first_broken.specs.Seen.{found_of}
 use Rattle.source_rules.proofs.Past.{found_more, past_more}
 use Rattle.source_rules.proofs.cases.duplicates.Goals as goal
 

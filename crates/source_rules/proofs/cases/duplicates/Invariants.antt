@@ -1,6 +1,6 @@
 use Rattle.std.proofs.Common.{◌≡◌, [], take}
-use Rattle.rule_lines.specs.Seen.{found_of}
-use Rattle.rule_lines.specs.Found.{summary}
+use Rattle.first_broken.specs.Seen.{found_of}
+use Rattle.first_broken.specs.Found.{summary}
 use Rattle.source_rules.specs.Cases as c
 use Rattle.source_rules.proofs.cases.duplicates.Given as goal
 

@@ -1,5 +1,5 @@
 use Rattle.std.proofs.Common.{arith}
-use Rattle.rule_lines.specs.Seen.{found_of}
+use Rattle.first_broken.specs.Seen.{found_of}
 use Rattle.type_scopes.specs.Seen.{env_of}
 use Rattle.source_rules.proofs.Arms.{declarators_step}
 use Rattle.source_rules.proofs.declarations.declarators_found.Goals as goal

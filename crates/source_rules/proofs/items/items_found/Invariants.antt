@@ -1,6 +1,6 @@
 use Rattle.std.proofs.Common.{◌≡◌, take}
 use Rattle.c_tree.specs.View.{items_of}
-use Rattle.rule_lines.specs.Seen.{found_of}
+use Rattle.first_broken.specs.Seen.{found_of}
 use Rattle.type_scopes.specs.Seen.{env_of}
 use Rattle.source_rules.specs.Summed as a
 use Rattle.source_rules.proofs.items.items_found.Given as goal

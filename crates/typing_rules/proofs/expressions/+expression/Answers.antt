@@ -1,5 +1,5 @@
 use Rattle.std.proofs.Common.{arith}
-use Rattle.rule_lines.specs.Seen.{found_of}
+use Rattle.first_broken.specs.Seen.{found_of}
 use Rattle.type_scopes.specs.Seen.{env_of}
 use Rattle.typing_rules.proofs.Arms.{parts_step, words_step, enumerators_step, enum_arm, tag_arm, call_arm, sizeof_arm, cast_arm, cond_arm}
 use Rattle.typing_rules.proofs.expressions.+expression.Goals as goal

@@ -1,7 +1,7 @@
 use Rattle.std.proofs.Common.{◌≡◌, take}
 use Rattle.c_tree.specs.Tree.{no_words}
 use Rattle.c_tree.specs.View.{enumerators_of, words_behind, parts_of}
-use Rattle.rule_lines.specs.Seen.{found_of}
+use Rattle.first_broken.specs.Seen.{found_of}
 use Rattle.type_scopes.specs.Seen.{env_of}
 use Rattle.typing_rules.specs.Summed as s
 use Rattle.typing_rules.proofs.expressions.+expression.Given as goal

@@ -1,6 +1,6 @@
 use Rattle.std.proofs.Common.{◌≡◌, take}
 use Rattle.c_tree.specs.View.{parts_of}
-use Rattle.rule_lines.specs.Seen.{found_of}
+use Rattle.first_broken.specs.Seen.{found_of}
 use Rattle.type_scopes.specs.Seen.{env_of}
 use Rattle.typing_rules.specs.Summed as s
 use Rattle.typing_rules.proofs.lines.value_lines.Given as goal

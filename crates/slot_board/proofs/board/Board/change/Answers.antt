@@ -4,7 +4,7 @@ use Rattle.lv_base.specs.Integers.{converted}
 use Rattle.c_run.specs.Run.{element, choose}
 use Rattle.c_run.specs.Operators.{crement_op}
 use Rattle.c_typed.specs.Run.{promoted}
-use Rattle.typed_ranges.specs.Guards.{guarded}
+use Rattle.typed_range_laws.specs.Guards.{guarded}
 use Rattle.slot_code.specs.Slots.{get, put}
 use Rattle.slot_code.specs.Machine.{Goes, machine}
 use Rattle.slot_board.specs.Seen.{state_written}

@@ -1,6 +1,6 @@
 use Rattle.std.proofs.Common.{rules, ◌≡◌, pos}
 use Rattle.lv_base.specs.declared.kind.Op.TheVariants as op
-use Rattle.typed_ranges.specs.Guards.{guarded}
+use Rattle.typed_range_laws.specs.Guards.{guarded}
 use Rattle.slot_code.specs.Slots.{get}
 use Rattle.slot_board.specs.Boards.{state_of}
 use Rattle.slot_board.proofs.Answering.{answered}

@@ -1,5 +1,5 @@
 use Rattle.std.proofs.Common.{rules, ◌≡◌, ◌<◌, ◌∙◌, ap, arith, length, pos, Some}
-use Rattle.typed_ranges.specs.Guards as guards
+use Rattle.typed_range_laws.specs.Guards as guards
 use Rattle.slot_code.specs.Slots.{slots_in, put}
 use Rattle.slot_code.specs.Machine as flat
 use Rattle.slot_board.specs.Boards.{state_of}

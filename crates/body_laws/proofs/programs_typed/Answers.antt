@@ -1,5 +1,0 @@
-use Rattle.body_laws.proofs.Whole.{programs_typed_are}
-use Rattle.body_laws.proofs.programs_typed.Goals as goal
-
-pub returns : goal.returns
-returns c = programs_typed_are c.tokens_rise.ensures c.sources_typed.ensures

@@ -1,5 +1,0 @@
-use Rattle.body_laws.proofs.Values.{value_fits}
-use Rattle.body_laws.proofs.values_typed.Goals as goal
-
-pub returns : goal.returns
-returns c = value_fits

@@ -1,5 +1,0 @@
-use Rattle.good_runs.proofs.Bodies.{bodies_left_is}
-use Rattle.good_runs.proofs.bodies_left.Goals as goal
-
-pub returns : goal.returns
-returns c = bodies_left_is

@@ -1,5 +1,0 @@
-use Rattle.graph_walk.proofs.Walking as law
-use Rattle.graph_walk.proofs.runs_are_walks.Goals as goal
-
-pub returns : goal.returns
-returns c = law.runs_are_walks

@@ -1,5 +1,0 @@
-use Rattle.main_laws.proofs.Mains.{main_found_is}
-use Rattle.main_laws.proofs.main_found.Goals as goal
-
-pub returns : goal.returns
-returns c = main_found_is

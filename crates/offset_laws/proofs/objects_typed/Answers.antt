@@ -1,5 +1,0 @@
-use Rattle.offset_laws.proofs.Objects.{objects_typed_are}
-use Rattle.offset_laws.proofs.objects_typed.Goals as goal
-
-pub returns : goal.returns
-returns c = objects_typed_are c.sources_hold.ensures

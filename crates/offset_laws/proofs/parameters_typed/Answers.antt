@@ -1,5 +1,0 @@
-use Rattle.offset_laws.proofs.Parameters.{parameters_typed_are}
-use Rattle.offset_laws.proofs.parameters_typed.Goals as goal
-
-pub returns : goal.returns
-returns c = parameters_typed_are

@@ -1,5 +1,0 @@
-use Rattle.refusal_laws.proofs.Whole.{sources_read_are}
-use Rattle.refusal_laws.proofs.sources_read.Goals as goal
-
-pub returns : goal.returns
-returns c = sources_read_are c.tokens_rise.ensures

@@ -1,5 +1,0 @@
-use Rattle.refusal_laws.proofs.Whole.{typed_kept_are}
-use Rattle.refusal_laws.proofs.typed_kept.Goals as goal
-
-pub returns : goal.returns
-returns c = typed_kept_are c.sources_typed.ensures

@@ -1,5 +1,0 @@
-use Rattle.source_laws.proofs.Programs.{calls_found_are}
-use Rattle.source_laws.proofs.calls_found.Goals as goal
-
-pub returns : goal.returns
-returns c = calls_found_are c.tokens_rise.ensures c.sources_hold.ensures c.sources_fit.ensures

@@ -1,5 +1,0 @@
-use Rattle.source_laws.proofs.Offsets.{tokens_rise_is}
-use Rattle.source_laws.proofs.tokens_rise.Goals as goal
-
-pub returns : goal.returns
-returns c = tokens_rise_is

@@ -1,6 +1,0 @@
-use Rattle.c_tree.specs.Symbols as sg
-use Rattle.token_signs.proofs.MarkLemmas.{joined_parts}
-use Rattle.token_signs.proofs.symbols.mark_symbol.Goals as goal
-
-pub returns : goal.returns
-returns c = cc (joined_parts (sg.mark_symbol c.args.mark))

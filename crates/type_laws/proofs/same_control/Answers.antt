@@ -1,5 +1,0 @@
-use Rattle.type_laws.proofs.Controlling.{same_control_is}
-use Rattle.type_laws.proofs.same_control.Goals as goal
-
-pub returns : goal.returns
-returns c = same_control_is

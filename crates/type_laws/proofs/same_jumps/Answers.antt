@@ -1,5 +1,0 @@
-use Rattle.type_laws.proofs.Jumping.{same_jumps_is}
-use Rattle.type_laws.proofs.same_jumps.Goals as goal
-
-pub returns : goal.returns
-returns c = same_jumps_is
