@@ -1,4 +1,3 @@
 mod Bounds
 mod Arms
 mod Examining
-mod Small

@@ -5,8 +5,6 @@
 mod checks;
 mod examined;
 mod label;
-#[cfg(test)]
-mod tests;
 
 pub use checks::{examine, faults_found};
 pub use examined::Examined;

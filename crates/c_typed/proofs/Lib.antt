@@ -1,2 +1,1 @@
 mod Induction
-mod Small

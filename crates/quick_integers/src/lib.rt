@@ -9,6 +9,3 @@ mod quotients;
 pub use arithmetic::{arith, convert};
 pub use bounds::{greatest, in_range, least};
 pub use quotients::{cut_quotient, cut_remainder};
-
-#[cfg(test)]
-mod tests;

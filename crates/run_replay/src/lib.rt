@@ -5,8 +5,6 @@
 mod entries;
 mod laws;
 mod runs;
-#[cfg(test)]
-mod tests;
 
 pub use laws::orders_agree;
 pub use runs::Replay;

@@ -4,8 +4,6 @@
 mod bodies;
 mod programs;
 mod rooms;
-#[cfg(test)]
-mod tests;
 
 pub use programs::{Code, compiled};
 pub use rooms::slots_in;

@@ -1,4 +1,3 @@
 mod Beginning
 pub mod Fitting
-mod Small
 pub mod Stepping

@@ -4,7 +4,5 @@
 mod machine;
 mod running;
 mod start;
-#[cfg(test)]
-mod tests;
 
 pub use machine::{Entry, Machine};

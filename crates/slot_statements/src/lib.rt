@@ -11,8 +11,6 @@ mod marks;
 mod measures;
 mod sizes;
 mod steps;
-#[cfg(test)]
-mod tests;
 
 pub use frames::{Aims, Exits, Frame};
 pub use labels::Labels;

@@ -7,8 +7,6 @@
 mod laws;
 mod line;
 mod reading;
-#[cfg(test)]
-mod tests;
 mod writing;
 
 pub use laws::{over_is_named, refused_at_the_first_byte, run_text_is_read, written_is_read};
