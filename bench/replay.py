@@ -1,8 +1,8 @@
 #!/usr/bin/env python3
 """Times `lazic replay` against the same program as gcc -O0 compiles it, with its sanitizers of undefined behaviour and bounds and
-without, and against a walk over the tree, and prints the ratios.
+without, and prints the ratios.
 
-Run it at the root after `rt run` in crates/lazic and in crates/evaluator_speed. The programs draw nothing and end without an
+Run it at the root after `rt run` in crates/lazic. The programs draw nothing and end without an
 error. Each is run with many turns and with few, and the difference counts, so that reading, compiling and starting do not. Each
 run is made three times, the kinds interleaved; the least user time of each counts.
 """
@@ -10,7 +10,6 @@ import os, resource, subprocess, sys, tempfile
 
 ROOT = os.path.dirname(os.path.dirname(os.path.abspath(__file__)))
 LAZIC = os.path.join(ROOT, "crates/lazic/out/lazic")
-WALK = os.path.join(ROOT, "crates/evaluator_speed/out/evaluator_speed")
 HEAD = "extern void abort(void);\nvoid reach_error() {}\n"
 MANY, FEW = 9_000_000, 1_000
 
@@ -54,7 +53,6 @@ def kinds_of(folder, text, count, per_turn):
     checks = ["-fsanitize=undefined,bounds", "-fno-sanitize-recover=all"]
     return {
         "lazic": ([LAZIC, "replay", source, run, "--model", "lp64", "--turns", turns], "ENDED"),
-        "walk": ([WALK, source, turns], "ENDED"),
         "checked": ([compiled(folder, source, f"checked{count}", checks)], None),
         "plain": ([compiled(folder, source, f"plain{count}", [])], None),
     }
@@ -69,17 +67,16 @@ def least(kinds):
 
 
 def main():
-    for program in (LAZIC, WALK):
-        if not os.path.exists(program):
-            sys.exit(f"build it first: {program}")
-    print("program                      turns/s of lazic   / checked   / plain   walk / lazic")
+    if not os.path.exists(LAZIC):
+        sys.exit(f"build it first: {LAZIC}")
+    print("program                      turns/s of lazic   / checked   / plain")
     with tempfile.TemporaryDirectory() as folder:
         for name, per_turn, text in PROGRAMS:
             many = least(kinds_of(folder, text, MANY, per_turn))
             few = least(kinds_of(folder, text, FEW, per_turn))
             took = {kind: max(many[kind] - few[kind], 0.0005) for kind in many}
             turns = (MANY - FEW) * per_turn / took["lazic"]
-            print(f"{name:28} {turns / 1e6:12.1f} M   {took['lazic'] / took['checked']:9.1f} {took['lazic'] / took['plain']:9.1f} {took['walk'] / took['lazic']:9.1f}")
+            print(f"{name:28} {turns / 1e6:12.1f} M   {took['lazic'] / took['checked']:9.1f} {took['lazic'] / took['plain']:9.1f}")
 
 
 main()

@@ -12,21 +12,13 @@ use elaboration_source_laws::{calls_found, good_programs, objects_kept, tokens_r
 use error_call_laws::reaches_kept;
 use fault_examples::broken_lines;
 use good_run_laws::{bodies_left, labels_found};
-use meaning_steps::{statements_in_steps, values_in_steps};
 use name_bindings::part_by_part;
-use rule_steps::{expressions_walked, sources_walked, statements_walked};
 use slot_laws::{code_goes_on, code_runs_as_tree, code_shaped, ranks_fall};
 use typed_range_laws::runs_guarded;
 
 #[test]
 fn what_declarations_bind() {
     part_by_part();
-}
-
-#[test]
-fn the_meaning_in_steps() {
-    values_in_steps();
-    statements_in_steps();
 }
 
 #[test]
@@ -86,13 +78,6 @@ fn bodies_keep_their_facts() {
 #[test]
 fn calls_of_reach_error() {
     reaches_kept();
-}
-
-#[test]
-fn rules_as_one_walk() {
-    expressions_walked();
-    statements_walked();
-    sources_walked();
 }
 
 #[test]

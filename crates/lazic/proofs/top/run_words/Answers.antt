@@ -1,4 +1,4 @@
-use Rattle.std.proofs.Common.{inl, inr}
+use Rattle.std.proofs.Common.{rules, inl, inr}
 use Rattle.lazic.specs.declared.outcome.Outcome.TheVariants.{NoMemory}
 use Rattle.lazic.proofs.MeaningLaws.{computed_is_meant, meant_is_computed, report_means}
 use Rattle.lazic.proofs.ReachingLaws.{reaches_told}
@@ -24,3 +24,9 @@ returns-clause-reaches g c told =
 
 pub returns-clause-turns : goal.returns-clause-turns
 returns-clause-turns g c = turns_read
+
+pub returns-clause-read_fault : goal.returns-clause-read_fault
+returns-clause-read_fault g c = search rules
+
+pub returns-clause-print_fault : goal.returns-clause-print_fault
+returns-clause-print_fault g c = search rules

@@ -1,2 +1,0 @@
-mod Walking
-mod Stating

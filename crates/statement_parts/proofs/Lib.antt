@@ -1,2 +1,0 @@
-mod Views
-mod Lists
