@@ -1,6 +1,12 @@
 //! Each law is there under its name, and may be called by whoever needs what it says.
 
+use c_tokens::{has_no_other, has_one, has_spans, is_lexed};
+use c_typed::{drawn_inputs, more_turns};
+use call_order::{
+    cycles_broken, cycles_found, cycles_none, layers_lead, orders_found, whole_acyclic,
+};
 use control_laws::{same_control, same_jumps};
+use effect_rules::effects_summed;
 use elaboration_body_laws::{programs_typed, sources_typed, values_typed};
 use elaboration_fit_laws::{expressions_fit, known_hold, sources_fit};
 use elaboration_laws::{runs_kept, sources_read, typed_kept};
@@ -12,9 +18,12 @@ use elaboration_source_laws::{calls_found, good_programs, objects_kept, tokens_r
 use error_call_laws::reaches_kept;
 use fault_examples::broken_lines;
 use good_run_laws::{bodies_left, labels_found};
+use high_tree_laws::{faults, too_high};
+use jump_rules::bodies_walked;
 use name_bindings::part_by_part;
 use slot_laws::{code_goes_on, code_runs_as_tree, code_shaped, ranks_fall};
 use typed_range_laws::runs_guarded;
+use typing_rules::{constants_summed, expressions_summed, words_summed};
 
 #[test]
 fn what_declarations_bind() {
@@ -98,4 +107,47 @@ fn what_nothing_refuses() {
     sources_read();
     typed_kept();
     runs_kept();
+}
+
+#[test]
+fn the_tokens_of_a_source() {
+    has_one();
+    has_no_other();
+    has_spans();
+    is_lexed();
+}
+
+#[test]
+fn trees_that_are_too_high() {
+    too_high();
+    faults();
+}
+
+#[test]
+fn runs_of_typed_trees() {
+    more_turns();
+    drawn_inputs();
+}
+
+#[test]
+fn rules_of_expressions_as_sums() {
+    expressions_summed();
+    words_summed();
+    constants_summed();
+}
+
+#[test]
+fn walks_over_bodies() {
+    bodies_walked();
+    effects_summed();
+}
+
+#[test]
+fn calls_on_cycles() {
+    layers_lead();
+    cycles_found();
+    cycles_broken();
+    cycles_none();
+    orders_found();
+    whole_acyclic();
 }
