@@ -1,5 +1,7 @@
 //! Each law is there under its name, and may be called by whoever needs what it says.
 
+use bv_term::laws::{one_for_each, values_fit, values_stay, widths_stay};
+use c_graph::laws::inductive_means_safe;
 use control_laws::{same_control, same_jumps};
 use elaboration_body_laws::{programs_typed, sources_typed, values_typed};
 use elaboration_fit_laws::{expressions_fit, known_hold, sources_fit};
@@ -14,6 +16,10 @@ use fault_examples::broken_lines;
 use good_run_laws::{bodies_left, labels_found};
 use meaning_steps::{statements_in_steps, values_in_steps};
 use name_bindings::part_by_part;
+use resolution_log::laws::{
+    cuts_stay_lean, new_by_closed_set, new_logs_are_valid, new_logs_grow, none_is_new_over_empty,
+    propagation_stays, results_are_implied, sets_are_enough,
+};
 use rule_steps::{expressions_walked, sources_walked, statements_walked};
 use slot_laws::{code_goes_on, code_runs_as_tree, code_shaped, ranks_fall};
 use typed_range_laws::runs_guarded;
@@ -113,4 +119,25 @@ fn what_nothing_refuses() {
     sources_read();
     typed_kept();
     runs_kept();
+}
+
+#[test]
+fn tables_of_terms_and_graphs() {
+    values_stay();
+    widths_stay();
+    values_fit();
+    one_for_each();
+    inductive_means_safe();
+}
+
+#[test]
+fn logs_of_steps() {
+    results_are_implied();
+    propagation_stays();
+    new_by_closed_set();
+    none_is_new_over_empty();
+    sets_are_enough();
+    new_logs_grow();
+    new_logs_are_valid();
+    cuts_stay_lean();
 }
