@@ -5,6 +5,8 @@ use c_typed::{drawn_inputs, more_turns};
 use call_order::{
     cycles_broken, cycles_found, cycles_none, layers_lead, orders_found, whole_acyclic,
 };
+use bv_term::laws::{one_for_each, values_fit, values_stay, widths_stay};
+use c_graph::laws::inductive_means_safe;
 use control_laws::{same_control, same_jumps};
 use effect_rules::effects_summed;
 use elaboration_body_laws::{programs_typed, sources_typed, values_typed};
@@ -21,6 +23,10 @@ use good_run_laws::{bodies_left, labels_found};
 use high_tree_laws::{faults, too_high};
 use jump_rules::bodies_walked;
 use name_bindings::part_by_part;
+use resolution_log::laws::{
+    cuts_stay_lean, new_by_closed_set, new_logs_are_valid, new_logs_grow, none_is_new_over_empty,
+    propagation_stays, results_are_implied, sets_are_enough,
+};
 use slot_laws::{code_goes_on, code_runs_as_tree, code_shaped, ranks_fall};
 use typed_range_laws::runs_guarded;
 use typing_rules::{constants_summed, expressions_summed, words_summed};
@@ -150,4 +156,22 @@ fn calls_on_cycles() {
     cycles_none();
     orders_found();
     whole_acyclic();
+fn tables_of_terms_and_graphs() {
+    values_stay();
+    widths_stay();
+    values_fit();
+    one_for_each();
+    inductive_means_safe();
+}
+
+#[test]
+fn logs_of_steps() {
+    results_are_implied();
+    propagation_stays();
+    new_by_closed_set();
+    none_is_new_over_empty();
+    sets_are_enough();
+    new_logs_grow();
+    new_logs_are_valid();
+    cuts_stay_lean();
 }

@@ -2,17 +2,8 @@
 //! ways, breadth first, and prints how many of each kind there were and what came of them. Without a word it makes 100.
 #![tactic(auto)]
 
-mod chain;
-mod formula;
-mod journey;
-mod loop_graph;
-#[cfg(test)]
-mod plain;
-#[cfg(test)]
-mod tests;
-
-use crate::journey::Journey;
 use cover_engine::{UnitDone, Unwinding};
+use loop_journey::Journey;
 use lv_base::Memory;
 use std::alloc::Global;
 use std::{env, io};
@@ -44,26 +35,6 @@ impl Kinds {
             }
         }
         kinds
-    }
-
-    /// These and others together.
-    #[cfg(test)]
-    fn with(self, others: Kinds) -> Kinds {
-        Kinds {
-            expands: self.expands.saturating_add(others.expands),
-            refines: self.refines.saturating_add(others.refines),
-            covers: self.covers.saturating_add(others.covers),
-            parts: self.parts.saturating_add(others.parts),
-        }
-    }
-
-    /// How many there are of all kinds.
-    #[cfg(test)]
-    fn total(self) -> usize {
-        self.expands
-            .saturating_add(self.refines)
-            .saturating_add(self.covers)
-            .saturating_add(self.parts)
     }
 }
 

@@ -1,6 +1,0 @@
-use Rattle.std.proofs.Common.{rules, arith}
-use Rattle.bit_blast.proofs.Steps.{two-cells}
-use Rattle.gate_tests.proofs.of_bit_blast.store_in_two.Goals as goal
-
-pub store_at-requires-clause-there : goal.store_at-requires-clause-there
-store_at-requires-clause-there g c = two-cells c.args.bits.now.cells 8 (search rules) (omega arith)

@@ -1,0 +1,14 @@
+//! What stands in the rows of tables: words and numbers, literals and clauses, terms; and the walk over the rows of files.
+#![tactic(auto)]
+
+mod clauses;
+mod fails;
+mod tables;
+mod terms;
+mod words;
+
+pub use clauses::{clauses_in, lit_in, literal_rows, lits_in};
+pub use fails::{Refusal, RowFail};
+pub use tables::{Table, run_tables};
+pub use terms::{one_term, terms_in};
+pub use words::{fields, half, halves, number, numbers, wide, wides};

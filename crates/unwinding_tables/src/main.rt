@@ -1,0 +1,64 @@
+//! `unwinding_tables FILE..` tries tables of graphs, trees of paths and unwindings: each row states an answer, and is printed
+//! where it is not so. The first word of a row says what it states, of the graph that an earlier row gave; the tables say how
+//! it is read.
+#![tactic(auto)]
+
+mod asking;
+mod graphs;
+mod journeys;
+mod kinds;
+mod parting;
+mod plain;
+mod random;
+mod stores;
+mod trees;
+mod units;
+
+use row_text::{RowFail, Table, fields, run_tables};
+use std::alloc::Global;
+use std::process::ExitCode;
+
+// What tries the rows.
+#[derive(Drop)]
+struct UnwindingTable {
+    // The parts of the graph that the rows behind it are about.
+    graph: String,
+}
+
+// Tries a row about a graph of these parts.
+fn of_graph(alloc: Global, graph: &str, kind: &str, rest: &str) -> Result<bool, RowFail> {
+    match kind {
+        "whole" => Ok(graphs::graph_of(alloc, graph, rest)?.is_some()),
+        "broken" => Ok(graphs::graph_of(alloc, graph, rest)?.is_none()),
+        "outs" => graphs::has_outs(alloc, graph, rest),
+        "counts" => graphs::has_counts(alloc, graph, rest),
+        "tree" => trees::goes(alloc, graph, rest),
+        "units" => units::go(alloc, graph, rest),
+        _ => Err(RowFail::Bad),
+    }
+}
+
+impl Table for UnwindingTable {
+    fn is_so(&mut self, alloc: Global, row: &str) -> Result<bool, RowFail> {
+        let (kind, rest) = fields(row);
+        match kind {
+            "graph" => {
+                self.graph = String::from_str(alloc, rest)?;
+                Ok(true)
+            }
+            "layout" => graphs::is_layout(rest),
+            "store" => stores::has_values(alloc, rest),
+            "map" => stores::maps(alloc, rest),
+            "journey" => journeys::goes(alloc, rest),
+            "random" => random::agrees(alloc, rest),
+            _ => of_graph(alloc, self.graph.as_str(), kind, rest),
+        }
+    }
+}
+
+fn main(rt: HostRuntime) -> ExitCode {
+    let mut table = UnwindingTable {
+        graph: String::new(rt.alloc()),
+    };
+    run_tables(&rt, &mut table)
+}

@@ -1,0 +1,68 @@
+//! `store CELLS ; CELL VALUE .. = VALUES`: a store that names values of some cells, and the values of all.
+//! `map WIDTHS ; TERM = COUNT NUMBERS`: a map over the table that the term makes, with the number of its terms and that of the
+//! term, which the map has at its only node.
+
+use bv_term::{TermId, Terms, are_widths};
+use c_graph::{Map, Named, Store};
+use row_text::{RowFail, half, halves, number, numbers, one_term, wides};
+use std::alloc::Global;
+
+// The named values: a cell and its value each.
+fn named_in(alloc: Global, text: &str) -> Result<Vec<Named>, RowFail> {
+    let found = wides(alloc, text)?;
+    let mut named = Vec::new(alloc);
+    for i in 0..found.len() / 2 {
+        let Ok(cell) = u32::try_from(found[2 * i]) else {
+            return Err(RowFail::Bad);
+        };
+        named.push(Named {
+            cell,
+            value: found[2 * i + 1],
+        })?;
+    }
+    Ok(named)
+}
+
+// Whether each cell has its value.
+fn has_each(store: &Store, values: &[u128]) -> bool {
+    let mut cell = 0u32;
+    for value in values {
+        if cell >= store.cells() || store.value(cell) != *value {
+            return false;
+        }
+        cell = cell.saturating_add(1);
+    }
+    cell == store.cells()
+}
+
+/// Tries the row of a store.
+pub(crate) fn has_values(alloc: Global, rest: &str) -> Result<bool, RowFail> {
+    let (inputs, wanted) = halves(rest)?;
+    let mut parts = inputs.split(';');
+    let cells = number(Some(half(parts.next())?))?;
+    let store = Store::new(cells, named_in(alloc, half(parts.next())?)?);
+    let wanted = wides(alloc, wanted)?;
+    Ok(has_each(&store, &wanted) && store.values(alloc)?.as_slice() == wanted.as_slice())
+}
+
+/// Tries the row of a map.
+pub(crate) fn maps(alloc: Global, rest: &str) -> Result<bool, RowFail> {
+    let (inputs, wanted) = halves(rest)?;
+    let mut parts = inputs.split(';');
+    let widths = numbers(alloc, half(parts.next())?)?;
+    if !are_widths(&widths) {
+        return Err(RowFail::Bad);
+    }
+    let mut terms = Terms::new(alloc, widths);
+    let Some(id) = one_term(alloc, &mut terms, TermId(0), half(parts.next())?)? else {
+        return Err(RowFail::Bad);
+    };
+    let mut at = Vec::new(alloc);
+    at.push(id)?;
+    let map = Map::new(terms, at);
+    let wanted = numbers(alloc, wanted)?;
+    if wanted.len() != 2 || map.at().len() != 1 {
+        return Ok(false);
+    }
+    Ok(map.terms().count() == wanted[0] && map.at()[0].0 == wanted[1])
+}
