@@ -1,12 +1,12 @@
 //! Each law is there under its name, and may be called by whoever needs what it says.
 
+use bv_term::laws::{one_for_each, values_fit, values_stay, widths_stay};
+use c_graph::laws::inductive_means_safe;
 use c_tokens::{has_no_other, has_one, has_spans, is_lexed};
 use c_typed::{drawn_inputs, more_turns};
 use call_order::{
     cycles_broken, cycles_found, cycles_none, layers_lead, orders_found, whole_acyclic,
 };
-use bv_term::laws::{one_for_each, values_fit, values_stay, widths_stay};
-use c_graph::laws::inductive_means_safe;
 use control_laws::{same_control, same_jumps};
 use effect_rules::effects_summed;
 use elaboration_body_laws::{programs_typed, sources_typed, values_typed};
@@ -156,6 +156,9 @@ fn calls_on_cycles() {
     cycles_none();
     orders_found();
     whole_acyclic();
+}
+
+#[test]
 fn tables_of_terms_and_graphs() {
     values_stay();
     widths_stay();
