@@ -15,7 +15,9 @@ use good_run_laws::{bodies_left, labels_found};
 use meaning_steps::{statements_in_steps, values_in_steps};
 use name_bindings::part_by_part;
 use rule_steps::{expressions_walked, sources_walked, statements_walked};
+use run_replay::orders_agree;
 use slot_laws::{code_goes_on, code_runs_as_tree, code_shaped, ranks_fall};
+use stored_text::{over_is_named, refused_at_the_first_byte, run_text_is_read, written_is_read};
 use typed_range_laws::runs_guarded;
 
 #[test]
@@ -106,6 +108,19 @@ fn flat_code_runs_as_the_tree() {
     ranks_fall();
     code_shaped();
     code_runs_as_tree();
+}
+
+#[test]
+fn orders_of_functions() {
+    orders_agree();
+}
+
+#[test]
+fn files_that_are_stored() {
+    run_text_is_read();
+    refused_at_the_first_byte();
+    over_is_named();
+    written_is_read();
 }
 
 #[test]
