@@ -2,12 +2,12 @@
 """Replays deep and long programs by the built program on a stack of 8 MB, and compares each line and status with the one that
 is written here. It prints time and memory of each, and ends with status 1 where an answer is another one.
 
-Run it at the root after `rt run` in crates/lazic.
+Run it at the root after `rt run` in crates/lazic_program.
 """
 import os, resource, subprocess, sys, tempfile
 
 ROOT = os.path.dirname(os.path.dirname(os.path.abspath(__file__)))
-PROGRAM = os.path.join(ROOT, "crates/lazic/out/lazic")
+PROGRAM = os.path.join(ROOT, "crates/lazic_program/out/lazic_program")
 STACK = 8 << 20
 
 # As many functions as 200,000 tokens hold, where each of them calls the one before.
@@ -94,7 +94,7 @@ def run(name, run_file, words):
 
 def main():
     if not os.path.exists(PROGRAM):
-        sys.exit("build it first: rt run in crates/lazic")
+        sys.exit("build it first: rt run in crates/lazic_program")
     others = 0
     with tempfile.TemporaryDirectory() as folder:
         name, run_file = os.path.join(folder, "a.c"), os.path.join(folder, "a.run")

@@ -1,14 +1,14 @@
 #!/usr/bin/env python3
 """Times the parser, through the built program, on generated sources near the limits, and prints time and memory of each.
 
-Run it at the root after `rt run` in crates/lazic. Each source is replayed five times; the least user time counts, and the
+Run it at the root after `rt run` in crates/lazic_program. Each source is replayed five times; the least user time counts, and the
 most memory that was resident. Most of the sources have no `main`, so that the answer comes from the layer behind the parser,
 and its time is that of both.
 """
 import os, resource, subprocess, sys, tempfile
 
 ROOT = os.path.dirname(os.path.dirname(os.path.abspath(__file__)))
-PROGRAM = os.path.join(ROOT, "crates/lazic/out/lazic")
+PROGRAM = os.path.join(ROOT, "crates/lazic_program/out/lazic_program")
 
 
 def used(count):
@@ -53,7 +53,7 @@ def run(name, run_file):
 
 def main():
     if not os.path.exists(PROGRAM):
-        sys.exit("build it first: rt run in crates/lazic")
+        sys.exit("build it first: rt run in crates/lazic_program")
     with tempfile.TemporaryDirectory() as folder:
         run_file = os.path.join(folder, "a.run")
         with open(run_file, "w") as file:

@@ -2,14 +2,14 @@
 """Times `lazic replay` against the same program as gcc -O0 compiles it, with its sanitizers of undefined behaviour and bounds and
 without, and prints the ratios.
 
-Run it at the root after `rt run` in crates/lazic. The programs draw nothing and end without an
+Run it at the root after `rt run` in crates/lazic_program. The programs draw nothing and end without an
 error. Each is run with many turns and with few, and the difference counts, so that reading, compiling and starting do not. Each
 run is made three times, the kinds interleaved; the least user time of each counts.
 """
 import os, resource, subprocess, sys, tempfile
 
 ROOT = os.path.dirname(os.path.dirname(os.path.abspath(__file__)))
-LAZIC = os.path.join(ROOT, "crates/lazic/out/lazic")
+LAZIC = os.path.join(ROOT, "crates/lazic_program/out/lazic_program")
 HEAD = "extern void abort(void);\nvoid reach_error() {}\n"
 MANY, FEW = 9_000_000, 1_000
 

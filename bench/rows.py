@@ -1,10 +1,10 @@
-"""Tries the rows of lazic's tests on the built program, through the root script, with the printed line and the exit status.
+"""Tries the rows of the answer tables on the built program, through the root script, with the printed line and the exit status.
 
-The rows are read from the tables of crates/lazic/src/tests.rt, where they were written by hand; what those tests do with failing
-calls in memory is tried here with files that are missing and with a full device. Run it at the root, once the program is built.
+The rows are those of crates/answer_tables/data, where they were written by hand. Of the rows with calls that fail, a put that
+fails is tried with a full device; a read that fails, a sink without room and an outside that never fails are in memory only. A
+word that is no text is tried here alone. Run it at the root, once the program is built.
 """
 
-import ast
 import os
 import re
 import subprocess
@@ -12,68 +12,70 @@ import sys
 import tempfile
 
 ROOT = os.path.dirname(os.path.dirname(os.path.abspath(__file__)))
-TESTS = open(f"{ROOT}/crates/lazic/src/tests.rt", encoding="utf-8").read()
-FAILED = []
+DATA = f"{ROOT}/crates/answer_tables/data"
+HEAD = (
+    "extern void abort(void);\nextern int __VERIFIER_nondet_int(void);\nvoid reach_error() {}\nint main() {\n"
+)
+ESCAPES = {"n": b"\n", "t": b"\t", "s": b" ", "e": b"", "\\": b"\\", "h": HEAD.encode()}
 
 
-def text_of(name):
-    """Returns the text of a constant of the tests."""
-    return ast.literal_eval(re.search(rf'const {name}: &str =\s*("(?:[^"\\]|\\.)*");', TESTS)[1])
+def plain(text):
+    """Returns the bytes of a text of a table in which nothing is repeated."""
+    parts = re.findall(r"\\x[0-9A-F]{2}|\\.|[^\\]+", text)
+    return b"".join(
+        bytes([int(it[2:], 16)]) if it.startswith("\\x") else ESCAPES[it[1]] if it[0] == "\\" else it.encode()
+        for it in parts
+    )
 
 
-def table(name):
-    """Returns the rows of a table of the tests."""
-    rows = re.search(rf"const {name}: \[.*?; \d+\] = (\[.*?\n\]);", TESTS, re.S)[1]
-    for constant in ("LONG_SUM", "LONG_SIZE", "FOREVER"):
-        rows = re.sub(rf"\b{constant}\b", lambda _: repr(text_of(constant)), rows)
-    return ast.literal_eval(rows.replace("&[", "["))
+def bytes_of(text):
+    """Returns the bytes of a text of a table."""
+    first, *behind = text.split("«")
+    whole = plain(first)
+    for part in behind:
+        count, again, rest = re.fullmatch("(\\d+)×([^»]*)»(.*)", part).groups()
+        whole += plain(again) * int(count) + plain(rest)
+    return whole
 
 
-def tried(label, words, source, run, status, line, out=None):
-    """Runs the program over `a.c` and `a.run` in a folder of their own, and notes an answer that differs."""
+def rows():
+    """Returns the rows that can be tried on files: label, status, text, words, files, and where the text goes."""
+    for table in sorted(os.listdir(DATA)):
+        for number, line in enumerate(open(f"{DATA}/{table}", encoding="utf-8").read().split("\n"), 1):
+            if not line or line.startswith("#"):
+                continue
+            status, text, _kept, words, outside, *files = line.split("\t")
+            if outside not in ("-", "put=0"):
+                continue
+            words = [bytes_of(word) for word in words.split(" ")] if words else []
+            files = [(name, bytes_of(content)) for name, content in (file.split("=", 1) for file in files)]
+            yield f"{table} {number}", int(status), bytes_of(text), words, files, outside == "put=0"
+
+
+def answer(words, files, full):
+    """Returns the status and the text of the program on these words, in a folder of its own with these files."""
     with tempfile.TemporaryDirectory() as room:
-        for name, text in (("a.c", source), ("a.run", run)):
+        for name, content in files:
             with open(f"{room}/{name}", "wb") as it:
-                it.write(text if isinstance(text, bytes) else text.encode())
-        given = open(out, "w") if out else subprocess.PIPE
-        ran = subprocess.run([f"{ROOT}/lazic", *words], cwd=room, stdout=given, stderr=subprocess.PIPE)
-    told = (ran.returncode, "" if out else ran.stdout.decode())
-    if told != (status, line) or ran.stderr:
-        FAILED.append(label)
-        print(f"{label}: wants {(status, line)}, tells {told} {ran.stderr.decode()[:200]}")
+                it.write(content)
+        out = open("/dev/full", "w") if full else subprocess.PIPE
+        ran = subprocess.run([f"{ROOT}/lazic", *words], cwd=room, stdout=out, stderr=subprocess.PIPE)
+    return ran.returncode, (ran.stdout or b"") + ran.stderr
 
 
 def main():
-    first, head, number = text_of("FIRST"), text_of("HEAD"), 0
-    replay = ["replay", "a.c", "a.run"]
-    framed = lambda body: f"{head}{body}}}\n"
-    rows = [("RUNS", replay, first, run, status, line) for run, status, line in table("RUNS")]
-    rows += [("BODIES", replay, framed(body), run, status, line) for body, run, status, line in table("BODIES")]
-    rows += [("WHOLE", replay, source, "run 1\n", status, line) for source, status, line in table("WHOLE")]
-    rows += [("SOURCES", replay, source, "run 1\n", 11, line) for source, line in table("SOURCES")]
-    rows += [("OPTIONS", ["replay", *words], framed(body), "run 1\n", status, line) for words, body, status, line in table("OPTIONS")]
-    rows += [("NO_OPTIONS", [*replay, *words], first, "run 1\n7\n", 10, "USAGE\n") for words in table("NO_OPTIONS")]
-    rows += [("NO_REQUESTS", words, first, "run 1\n7\n", 10, "USAGE\n") for words in table("NO_REQUESTS")]
-    for at in ("b.c", "a.run"), ("a.c", "b.run"):
-        rows.append(("missing", ["replay", *at], first, "run 1\n7\n", 13, "READ FAULT\n"))
-    rows.append(("order", ["replay", "a.c", "b.run"], "int main() { break; }", "", 11, "SOURCE FAULT 19 BadJump at 1:14\n"))
-    rows.append(("one file", ["replay", "a.c", "a.c"], first, "", 6, "BAD RUN FILE byte 0\n"))
-    rows.append(("full device", replay, first, "run 1\n7\n", 14, "", "/dev/full"))
-    rows.append(("no UTF-8", [b"replay", b"\xff", b"a.run"], first, "", 16, ""))
-    height = "int x = " + "(" * 300 + "1" + ")" * 300 + ";"
-    limits = [(" " * 1_048_577, 1), (";" * 200_001, 2), (height, 3), (f"extern {height}", 3), ("int a[1025]; int main() { }", 4)]
-    rows += [("limits", replay, source, "run 1\n", 12, f"LIMIT {limit}\n") for source, limit in limits]
-    no_main = "SOURCE FAULT 15 NoMain at 1:1\n"
-    rows += [("at limits", replay, source, "run 1\n", 11, no_main) for source in (" " * 1_048_576, ";" * 200_000)]
-    rows.append(("run limit", replay, first, "run 1\n" + "0\n" * 1_000_001, 12, "LIMIT 9\n"))
-    rows.append(("run limit", replay, first, " " * 22_000_007, 12, "LIMIT 9\n"))
-    rows.append(("run limit", replay, first, "run 1\n" + "1" * 22_000_000, 6, "BAD RUN FILE byte 26\n"))
-    rows.append(("run limit", replay, first, "run 1\n" + "0\n" * 1_000_000, 0, "ENDED\n"))
-    for label, *row in rows:
-        number += 1
-        tried(f"{label} {number}", *row)
-    print(f"{number - len(FAILED)} of {number} rows as written")
-    return 1 if FAILED else 0
+    tried = failed = 0
+    for label, status, text, words, files, full in [
+        *rows(),
+        ("no text", 16, b"", [b"replay", b"\xff", b"a.run"], [], False),
+    ]:
+        tried += 1
+        told = answer(words, files, full)
+        if told != (status, text):
+            failed += 1
+            print(f"{label}: wants {(status, text)}, tells {told}")
+    print(f"{tried - failed} of {tried} rows as written")
+    return 1 if failed else 0
 
 
 if __name__ == "__main__":

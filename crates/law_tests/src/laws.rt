@@ -27,7 +27,9 @@ use resolution_log::laws::{
     cuts_stay_lean, new_by_closed_set, new_logs_are_valid, new_logs_grow, none_is_new_over_empty,
     propagation_stays, results_are_implied, sets_are_enough,
 };
+use run_replay::orders_agree;
 use slot_laws::{code_goes_on, code_runs_as_tree, code_shaped, ranks_fall};
+use stored_text::{over_is_named, refused_at_the_first_byte, run_text_is_read, written_is_read};
 use typed_range_laws::runs_guarded;
 use typing_rules::{constants_summed, expressions_summed, words_summed};
 
@@ -106,6 +108,19 @@ fn flat_code_runs_as_the_tree() {
     ranks_fall();
     code_shaped();
     code_runs_as_tree();
+}
+
+#[test]
+fn orders_of_functions() {
+    orders_agree();
+}
+
+#[test]
+fn files_that_are_stored() {
+    run_text_is_read();
+    refused_at_the_first_byte();
+    over_is_named();
+    written_is_read();
 }
 
 #[test]

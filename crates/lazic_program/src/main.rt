@@ -3,16 +3,7 @@
 
 ghost use Rattle.std.specs.Prelude.{pos, ◌≤ℤ◌};
 
-mod answer;
-mod outcome;
-mod reading;
-mod report;
-mod running;
-mod top;
-mod values;
-mod words;
-
-use crate::top::run_words;
+use lazic::run_words;
 use lv_outside::{FreeGate, HostFolder, HostSink, Sink};
 use std::alloc::AllocError;
 use std::process::ExitCode;
@@ -105,6 +96,3 @@ fn moment(clock: &impl Clock) -> i64
         Err(_) => 0,
     }
 }
-
-#[cfg(test)]
-mod tests;

@@ -1,0 +1,158 @@
+//! The rows of a table.
+
+use lazic::Kept;
+use lv_base::Text;
+use std::alloc::Global;
+use table_rows::{Fields, Flaw, list_of, text_of};
+
+/// What a report is to keep.
+#[derive(Drop)]
+pub enum Wanted {
+    Nothing,
+    Values(Vec<i128>),
+    Limit(u64, u64),
+}
+
+impl Wanted {
+    /// Whether a report keeps just this.
+    pub fn is(&self, kept: &Kept) -> bool {
+        match (self, kept) {
+            (Wanted::Nothing, Kept::Nothing) => true,
+            (Wanted::Values(wanted), Kept::Unsafe(values)) => wanted.as_slice()
+                == values.as_slice(),
+            (Wanted::Limit(number, count), Kept::Limited(limit, passed)) => {
+                *number == *limit as u64 && *count == *passed
+            }
+            _ => false,
+        }
+    }
+}
+
+/// What the folder and the sink do.
+#[derive(Drop)]
+pub struct Outside {
+    /// The reads that fail, counted from 0.
+    pub reads: Vec<u32>,
+    /// The puts that fail, counted from 0.
+    pub puts: Vec<u32>,
+    /// The room of the sink.
+    pub room: usize,
+    /// Whether the folder and the sink are of those that never fail.
+    pub never: bool,
+}
+
+/// One row of a table.
+#[derive(Drop)]
+pub struct Row {
+    pub status: u64,
+    pub text: Vec<u8>,
+    pub kept: Wanted,
+    pub words: Vec<Vec<u8>>,
+    pub outside: Outside,
+    pub files: Vec<(Text, Vec<u8>)>,
+}
+
+fn kept_of(alloc: Global, column: &str) -> Result<Wanted, Flaw> {
+    if column == "-" {
+        return Ok(Wanted::Nothing);
+    }
+    if column == "values" {
+        return Ok(Wanted::Values(Vec::new(alloc)));
+    }
+    match column.split_once(" ") {
+        Some(("values", values)) => Ok(Wanted::Values(list_of(alloc, values.as_bytes())?)),
+        Some(("limit", limit)) => limit_of(limit),
+        _ => Err(Flaw::Form),
+    }
+}
+
+fn limit_of(words: &str) -> Result<Wanted, Flaw> {
+    let mut words = Fields::parts(words, " ");
+    let number = words.count()?;
+    let count = words.count()?;
+    words.end()?;
+    Ok(Wanted::Limit(number, count))
+}
+
+fn words_of(alloc: Global, column: &str) -> Result<Vec<Vec<u8>>, Flaw> {
+    let mut words = Vec::new(alloc);
+    if column.is_empty() {
+        return Ok(words);
+    }
+    for word in column.split(" ") {
+        words.push(text_of(alloc, word)?)?;
+    }
+    Ok(words)
+}
+
+fn call_of(number: &str) -> Result<u32, Flaw> {
+    match number.parse::<u32>() {
+        Ok(number) => Ok(number),
+        Err(_) => Err(Flaw::Form),
+    }
+}
+
+fn tell(outside: &mut Outside, word: &str) -> Result<(), Flaw> {
+    match word.split_once("=") {
+        Some(("read", number)) => outside.reads.push(call_of(number)?)?,
+        Some(("put", number)) => outside.puts.push(call_of(number)?)?,
+        Some(("room", number)) => outside.room = call_of(number)? as usize,
+        None if word == "never" => outside.never = true,
+        None if word == "-" => (),
+        _ => return Err(Flaw::Form),
+    }
+    Ok(())
+}
+
+fn outside_of(alloc: Global, column: &str) -> Result<Outside, Flaw> {
+    let mut outside = Outside {
+        reads: Vec::new(alloc),
+        puts: Vec::new(alloc),
+        room: 100,
+        never: false,
+    };
+    for word in column.split(" ") {
+        tell(&mut outside, word)?;
+    }
+    Ok(outside)
+}
+
+fn file_of(alloc: Global, column: &str) -> Result<(Text, Vec<u8>), Flaw> {
+    let (name, bytes) = column.split_once("=").ok_or(Flaw::Form)?;
+    Ok((
+        Text::copy_of(alloc, name.as_bytes())?,
+        text_of(alloc, bytes)?,
+    ))
+}
+
+fn files_of(alloc: Global, columns: Option<&str>) -> Result<Vec<(Text, Vec<u8>)>, Flaw> {
+    let mut files = Vec::new(alloc);
+    let Some(columns) = columns else {
+        return Ok(files);
+    };
+    for column in columns.split("\t") {
+        files.push(file_of(alloc, column)?)?;
+    }
+    Ok(files)
+}
+
+/// The row of a line.
+///
+/// Fails with `Form` where one of its columns is not what it is to be, or with `Memory`.
+pub fn row_of(alloc: Global, line: &str) -> Result<Row, Flaw> {
+    let mut columns = Fields::columns(line);
+    let status = columns.count()?;
+    let text = text_of(alloc, columns.next()?)?;
+    let kept = kept_of(alloc, columns.next()?)?;
+    let words = words_of(alloc, columns.next()?)?;
+    let outside = outside_of(alloc, columns.next()?)?;
+    let files = files_of(alloc, columns.left())?;
+    Ok(Row {
+        status,
+        text,
+        kept,
+        words,
+        outside,
+        files,
+    })
+}

@@ -1,0 +1,138 @@
+//! Tables are files of rows, one a line. Lines that begin with `#`, and empty ones, are left out.
+
+use crate::{Flaw, Refusal};
+use lv_outside::{FileFail, Folder, Got, HostFolder};
+use std::alloc::{AllocError, Global};
+use std::process::ExitCode;
+use std::rt::{Env, Files};
+use std::{env, io, str};
+
+// The most bytes that a table may have.
+const MOST_BYTES: usize = 1 << 20;
+
+/// What tries a row.
+pub trait Table {
+    /// What came where it is not as the row says; none where it is.
+    ///
+    /// Fails with `Form` where it is no row, and with `Memory`.
+    fn other(&self, alloc: Global, row: &str) -> Result<Option<String>, Flaw>;
+}
+
+/// What came, where it is another text than is wanted.
+pub fn other_than(wanted: &str, came: String) -> Option<String> {
+    if came.as_str() == wanted {
+        None
+    } else {
+        Some(came)
+    }
+}
+
+// How many rows there were, and how many of them are not so.
+#[derive(Clone, Copy)]
+struct Tried {
+    rows: u64,
+    others: u64,
+}
+
+// What the file of this name holds.
+fn load<R: Files + Clone + Drop>(alloc: Global, rt: &R, name: &str) -> Result<Vec<u8>, Refusal> {
+    let files: Result<R, AllocError> = rt.clone();
+    let Ok(files) = files else {
+        return Err(Refusal::Memory);
+    };
+    match HostFolder::new(files).read(alloc, name, MOST_BYTES) {
+        Ok(Got::Bytes(bytes)) => Ok(bytes),
+        Ok(Got::Longer) => Err(Refusal::Long),
+        Err(FileFail::Memory) => Err(Refusal::Memory),
+        Err(FileFail::Failed) => Err(Refusal::File),
+    }
+}
+
+// Tries a row, and prints what came where it is not so.
+fn is_so<R: Print, T: Table>(
+    alloc: Global,
+    rt: &R,
+    table: &T,
+    line: u32,
+    row: &str,
+) -> Result<bool, Refusal> {
+    let said = match table.other(alloc, row) {
+        Ok(None) => return Ok(true),
+        Ok(Some(other)) => println!(rt; "line {line}: {other}"),
+        Err(Flaw::Form) => println!(rt; "line {line} is no row"),
+        Err(Flaw::Memory) => return Err(Refusal::Memory),
+    };
+    match said {
+        Ok(()) => Ok(false),
+        Err(_) => Err(Refusal::Output),
+    }
+}
+
+// Tries the rows of a table.
+fn try_all<R: Print, T: Table>(
+    alloc: Global,
+    rt: &R,
+    table: &T,
+    bytes: &[u8],
+) -> Result<Tried, Refusal> {
+    let Ok(text) = str::from_utf8(bytes) else {
+        return Err(Refusal::Text);
+    };
+    let mut tried = Tried { rows: 0, others: 0 };
+    let mut line = 0u32;
+    for row in text.lines() {
+        line = line.saturating_add(1);
+        if row.is_empty() || row.starts_with("#") {
+            continue;
+        }
+        tried.rows = tried.rows.saturating_add(1);
+        if !is_so(alloc, rt, table, line, row)? {
+            tried.others = tried.others.saturating_add(1);
+        }
+    }
+    Ok(tried)
+}
+
+// How many rows are not so, in the tables whose names are the words behind the program's name.
+fn try_files<R, T>(rt: &R, table: &T) -> Result<u64, Refusal>
+where
+    R: AllocGlobal + Env + Files + Print + Clone + Drop,
+    T: Table,
+{
+    let alloc = rt.alloc();
+    let words = match env::args(rt) {
+        Ok(words) => words,
+        Err(fail) if fail.kind() == io::ErrorKind::OutOfMemory => return Err(Refusal::Memory),
+        Err(_) => return Err(Refusal::Words),
+    };
+    let mut others = 0u64;
+    for name in words.skip(1) {
+        let bytes = load(alloc, rt, name.as_str())?;
+        let tried = try_all(alloc, rt, table, &bytes)?;
+        others = others.saturating_add(tried.others);
+        let (rows, name) = (tried.rows, name.as_str());
+        if println!(rt; "{name}: {rows} rows").is_err() {
+            return Err(Refusal::Output);
+        }
+    }
+    Ok(others)
+}
+
+/// Tries the rows of the tables whose names are the words behind the program's name. It prints what came of each row that is not
+/// so, and how many rows each table has.
+///
+/// The status is 0 where all rows are so, 1 where some are not, and 2 where the tables are not tried to their end.
+pub fn run_tables<R, T>(rt: &R, table: &T) -> ExitCode
+where
+    R: AllocGlobal + Env + Files + Print + Eprint + Clone + Drop,
+    T: Table,
+{
+    match try_files(rt, table) {
+        Ok(0) => ExitCode::from(0),
+        Ok(_) => ExitCode::from(1),
+        Err(refusal) => {
+            let _ = eprintln!(rt; "{refusal}");
+            ExitCode::from(2)
+        }
+    }
+}
