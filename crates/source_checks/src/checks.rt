@@ -8,9 +8,9 @@ ghost use Rattle.c_types.specs.Elaborated.{elaborated};
 ghost use Rattle.elaboration_laws.specs.Read.{IsRead};
 ghost use Rattle.source_checks.specs.Refusals.{source_refusal};
 
+use crate::typing::elaborate;
 use c_rules::{Examined, examine};
 use c_tree::Unit;
-use elaboration::elaborate;
 use lv_base::{Model, SourceFail};
 use std::alloc::Global;
 

@@ -10,11 +10,10 @@ use c_rules::Examined;
 use c_tokens::tokens_of;
 use c_tree::{Unit, height};
 use c_typed::Typed;
-use elaboration::elaborate;
 use elaboration_laws::sources_read;
 use high_tree_laws::the_only;
 use lv_base::{Model, SourceFail};
-use source_checks::accepted;
+use source_checks::{accepted, elaborate};
 use std::alloc::Global;
 use std::str;
 
