@@ -84,6 +84,14 @@ fn of_vertices(
     }
 }
 
+// Whether the numbers are this count alone.
+fn is_count(numbers: &[u32], count: usize) -> bool {
+    match numbers {
+        [number] => *number as usize == count,
+        _ => false,
+    }
+}
+
 /// Whether a question is answered with yes.
 pub(crate) fn ask(
     alloc: Global,
@@ -95,8 +103,8 @@ pub(crate) fn ask(
     let found = numbers(alloc, rest)?;
     match word {
         "complete" => Ok(unwinding.complete(graph)),
-        "vertices" => Ok(found.as_slice() == [unwinding.vertices().len() as u32].as_slice()),
-        "journal" => Ok(found.as_slice() == [unwinding.journal().len() as u32].as_slice()),
+        "vertices" => Ok(is_count(&found, unwinding.vertices().len())),
+        "journal" => Ok(is_count(&found, unwinding.journal().len())),
         "terms" => Ok(found.as_slice() == [unwinding.terms().count()].as_slice()),
         _ => of_vertices(graph, unwinding, word, &found),
     }

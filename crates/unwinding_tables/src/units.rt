@@ -122,9 +122,17 @@ fn step(
 /// Tries the row.
 pub(crate) fn go(alloc: Global, text: &str, rest: &str) -> Result<bool, RowFail> {
     let graph = whole_graph(alloc, text)?;
-    let mut unwinding = Unwinding::new(alloc, &graph)?;
+    let unwinding = Unwinding::new(alloc, &graph)?;
+    go_on(alloc, &graph, unwinding, rest)
+}
+
+// Whether the units behind this unwinding are as the row says.
+fn go_on(alloc: Global, graph: &Graph, unwinding: Unwinding, rest: &str) -> Result<bool, RowFail>
+    requires { Legal graph.now unwinding }
+{
+    let mut unwinding = unwinding;
     for part in rest.split(';') {
-        if !step(alloc, &graph, &mut unwinding, part)? {
+        if !step(alloc, graph, &mut unwinding, part)? {
             return Ok(false);
         }
     }

@@ -1,5 +1,0 @@
-use Rattle.cover_engine.specs.Units.{Legal}
-use Rattle.unwinding_tables.proofs.units.go.Given as goal
-
-abbrev pub invariant-loop-part : goal.invariant-loop-part
-invariant-loop-part l = Legal l.graph l.unwinding
