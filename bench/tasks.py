@@ -1,0 +1,55 @@
+#!/usr/bin/env python3
+"""Runs a program on a set of C programs with known verdicts, and prints a line for each and a table by tier.
+
+    bench/tasks.py PROGRAM FOLDER [SECONDS [JOBS [WORD..]]]
+
+FOLDER has tasks.json: a list of objects with `name`, `file` (below FOLDER), `tier`, `model`, `verdict` (SAFE or UNSAFE), and for UNSAFE
+`errors`, the permitted kinds and places. PROGRAM is run as `PROGRAM MODEL SECONDS FILE WORD..` and prints a line that begins with its
+verdict, as the sketch under bench/native/method does. A verdict is right, wrong or none; of the set a wrong one is a failure (status 1).
+"""
+import collections
+import concurrent.futures
+import json
+import pathlib
+import subprocess
+import sys
+
+
+def judged(task, line):
+    verdict = line.split("\t")[0]
+    if verdict.startswith("WRONG"):
+        return "wrong"
+    if verdict == "SAFE":
+        return "right" if task["verdict"] == "SAFE" else "wrong"
+    if verdict.startswith("UNSAFE"):
+        wanted = [f"UNSAFE {it['kind']} at {it['line']}:{it['column']}" for it in task.get("errors", [])]
+        return "right" if task["verdict"] == "UNSAFE" and verdict in wanted else "wrong"
+    return "none"
+
+
+def run(program, folder, seconds, words, task):
+    command = [program, task["model"], str(seconds), str(folder / task["file"]), *words]
+    try:
+        ran = subprocess.run(command, capture_output=True, text=True, timeout=20 * seconds + 60)
+        line = (ran.stdout.strip().split("\n") or [""])[-1] or f"no line, status {ran.returncode}: {ran.stderr.strip()[-160:]}"
+    except subprocess.TimeoutExpired:
+        line = "no line in time"
+    return task, judged(task, line), line
+
+
+def main(program, folder, seconds="15", jobs="2", *words):
+    folder, seconds = pathlib.Path(folder), float(seconds)
+    tasks = json.loads((folder / "tasks.json").read_text())
+    found = collections.defaultdict(collections.Counter)
+    with concurrent.futures.ThreadPoolExecutor(int(jobs)) as pool:
+        for task, judgement, line in pool.map(lambda it: run(program, folder, seconds, words, it), tasks):
+            found[task["tier"]][judgement] += 1
+            print(f"{judgement:5} {task['name']}\t{line}", flush=True)
+    print("\n| Tier | programs | right | wrong | none |\n|---|---|---|---|---|")
+    for tier, counts in sorted(found.items()):
+        print(f"| {tier} | {sum(counts.values())} | {counts['right']} | {counts['wrong']} | {counts['none']} |")
+    return 1 if any(counts["wrong"] for counts in found.values()) else 0
+
+
+if __name__ == "__main__":
+    sys.exit(main(*sys.argv[1:]))
