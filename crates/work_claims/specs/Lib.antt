@@ -1,0 +1,4 @@
+pub mod Counts
+pub mod Hands
+pub mod Rule
+pub mod Seats
