@@ -1,0 +1,6 @@
+use Rattle.std.proofs.Common.{◌≡◌, drop, ◌++◌}
+use Rattle.cert_text.specs.CertText.{chains_text}
+use Rattle.cert_text.proofs.writing.push_chains.Given as goal
+
+abbrev pub invariant-loop-chain : goal.invariant-loop-chain
+invariant-loop-chain l = l.file.items ++ chains_text (drop l.chain-index l.chains) ≡ l.initial.file.items ++ chains_text l.chains

@@ -1,0 +1,6 @@
+use Rattle.std.proofs.Common.{◌≡◌, drop, ◌++◌}
+use Rattle.cert_text.specs.CertText.{pairs_text}
+use Rattle.cert_text.proofs.writing.push_pairs.Given as goal
+
+abbrev pub invariant-loop-pair : goal.invariant-loop-pair
+invariant-loop-pair l = l.file.items ++ pairs_text (drop l.pair-index l.pairs) ≡ l.initial.file.items ++ pairs_text l.pairs

@@ -1,0 +1,10 @@
+pub mod Content
+pub mod CertText
+pub mod Letters
+pub mod Places
+pub mod Fields
+pub mod Steps
+pub mod Drafts
+pub mod Reading
+pub mod Writing
+pub mod Laws

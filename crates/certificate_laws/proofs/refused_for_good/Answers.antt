@@ -1,0 +1,5 @@
+use Rattle.certificate_laws.proofs.Refusals.{refused_for_good}
+use Rattle.certificate_laws.proofs.refused_for_good.Goals as goal
+
+pub returns : goal.returns
+returns c = refused_for_good
