@@ -10,12 +10,21 @@ pub const SLOT_WIDTH: u32 = 64;
 #[derive(Drop)]
 pub struct Words {
     terms: Terms,
+    is_sound: bool,
 }
 
 impl Words {
     /// Over this table, whose terms stay.
     pub fn new(terms: Terms) -> Words {
-        Words { terms }
+        Words {
+            terms,
+            is_sound: true,
+        }
+    }
+
+    /// Whether each term that was put was well formed over the table. Where one was not, nothing that was made of these terms counts.
+    pub fn is_sound(&self) -> bool {
+        self.is_sound
     }
 
     /// The table with all that was put.
@@ -24,12 +33,13 @@ impl Words {
     }
 
     /// The number of the term. One that is not well formed over the table, which none of this crate's operations makes of operands
-    /// of the right widths, is answered by `Memory`, so that no other term ever stands in its place.
+    /// of the right widths, is not put: number 0 stands in its place, and the table is not sound from then on.
     pub fn put(&mut self, term: Term) -> Result<TermId, Memory> {
         if self.terms.fits(term) {
             self.terms.put(term)
         } else {
-            Err(Memory)
+            self.is_sound = false;
+            Ok(TermId(0))
         }
     }
 

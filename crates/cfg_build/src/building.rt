@@ -67,6 +67,12 @@ pub fn build(alloc: Global, examined: &Examined) -> Result<FnGraphs, SourceFail>
         words: &mut words,
     };
     let (graphs, exits) = graphs_of(alloc, typed, &places, &ranges, main, &mut ground)?;
+    // graphs over terms that are not well formed count for nothing: without a graph the parts make none
+    let graphs = if words.is_sound() {
+        graphs
+    } else {
+        Vec::new(alloc)
+    };
     let cells = layout.into_cells();
     let terms = words.into_terms();
     Ok(function_graphs_from(alloc, graphs, cells, terms, exits, main)?)
