@@ -2,3 +2,4 @@ pub mod Kept
 pub mod Keeping
 pub mod Checking
 pub mod Chaining
+pub mod Marks

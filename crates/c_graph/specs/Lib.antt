@@ -4,3 +4,4 @@ pub mod Stores
 pub mod Steps
 pub mod Runs
 pub mod Functions
+pub mod Parts

@@ -7,7 +7,7 @@ use crate::graph::{Cell, Edge, LoopAt, Node, NodeId, Operation};
 use bv_term::{Term, TermId, Terms, laws};
 
 /// The most nodes and edges of a graph together.
-const MOST_PARTS: usize = 2147483647;
+pub(crate) const MOST_PARTS: usize = 2147483647;
 
 /// Whether these parts make a graph.
 pub fn is_graph(
@@ -37,7 +37,7 @@ pub fn is_graph(
     fit_edges(nodes, terms, edges) && targets_go_on(nodes, edges)
 }
 
-fn no_calls(nodes: &[Node]) -> bool
+pub(crate) fn no_calls(nodes: &[Node]) -> bool
     ensures { IsTrue result → All IsNoCall nodes.now }
 {
     for node in nodes {
@@ -48,7 +48,7 @@ fn no_calls(nodes: &[Node]) -> bool
     true
 }
 
-fn are_widths_of(cells: &[Cell], widths: &[u32]) -> bool
+pub(crate) fn are_widths_of(cells: &[Cell], widths: &[u32]) -> bool
     ensures { IsTrue result → widths.now ≡ widths_of cells.now }
 {
     if cells.len() != widths.len() {
@@ -62,13 +62,13 @@ fn are_widths_of(cells: &[Cell], widths: &[u32]) -> bool
     true
 }
 
-fn is_node(nodes: &[Node], node: NodeId) -> bool
+pub(crate) fn is_node(nodes: &[Node], node: NodeId) -> bool
     ensures { IsTrue result ↔ IsNodeOf nodes.now node }
 {
     (node.0 as usize) < nodes.len()
 }
 
-fn are_loops(nodes: &[Node], loops: &[LoopAt]) -> bool
+pub(crate) fn are_loops(nodes: &[Node], loops: &[LoopAt]) -> bool
     ensures { IsTrue result → All (λ l. IsNodeOf nodes.now l.node) loops.now }
 {
     for a_loop in loops {
@@ -79,7 +79,7 @@ fn are_loops(nodes: &[Node], loops: &[LoopAt]) -> bool
     true
 }
 
-fn is_plain(nodes: &[Node], node: NodeId) -> bool
+pub(crate) fn is_plain(nodes: &[Node], node: NodeId) -> bool
     ensures { IsTrue result ↔ (slice_get nodes.now node.0 ≡ Some Plain) }
 {
     let number = node.0 as usize;
@@ -120,7 +120,7 @@ fn targets_go_on(nodes: &[Node], edges: &[Edge]) -> bool
     true
 }
 
-fn fit_edges(nodes: &[Node], terms: &Terms, edges: &[Edge]) -> bool
+pub(crate) fn fit_edges(nodes: &[Node], terms: &Terms, edges: &[Edge]) -> bool
     ensures { IsTrue result → All (EdgeFits nodes.now terms.now) edges.now }
 {
     for edge in edges {

@@ -1,0 +1,21 @@
+//! The operations of C as terms: the values of slots and of objects' elements, and where operations fail.
+//!
+//! A slot's cell has 64 bits, whatever the kind of its value, and holds the value modulo two to the power of 64. An element's cell
+//! has the width of its kind, and holds the value modulo two to the power of that. An operation narrows its operands to the width
+//! of its kind, which is promoted, computes there, and extends the result by the kind's sign. Zero tests, index tests and cases
+//! compare all 64 bits of a slot.
+//!
+//! A product of a signed kind is made exactly, in twice the width: it and its test of overflow share the multiplication, which costs
+//! about four times that of the width alone. Quotients and remainders of signed kinds are those of the operands without their
+//! signs. All else costs in proportion to the width.
+//!
+//! No contract says so: what is proved is that each call returns, and that every term that is put is well formed.
+#![tactic(auto)]
+
+mod arithmetic;
+mod values;
+mod words;
+
+pub use arithmetic::{Fails, Operands, negation_overflows, tests_of};
+pub use values::{converted, is_signed, narrow, promoted, widen};
+pub use words::{SLOT_WIDTH, Words};

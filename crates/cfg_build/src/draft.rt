@@ -1,0 +1,93 @@
+//! The graph of one function while it is made: nodes in the order of their numbers, and the edges from each as soon as it stands.
+
+use c_graph::{Edge, FnGraph, LoopAt, Node, NodeId, Operation, Operations};
+use lv_base::{ErrorKind, Memory};
+use std::alloc::Global;
+
+#[derive(Drop)]
+pub(crate) struct Draft {
+    alloc: Global,
+    pub(crate) nodes: Vec<Node>,
+    pub(crate) edges: Vec<Edge>,
+    pub(crate) loops: Vec<LoopAt>,
+}
+
+impl Draft {
+    /// The graph of the function, which begins at its first node.
+    pub(crate) fn into_graph(self) -> FnGraph {
+        let Draft {
+            alloc: _,
+            nodes,
+            edges,
+            loops,
+        } = self;
+        FnGraph::new(nodes, edges, NodeId(0), loops)
+    }
+
+    pub(crate) fn new(alloc: Global) -> Draft {
+        Draft {
+            alloc,
+            nodes: Vec::new(alloc),
+            edges: Vec::new(alloc),
+            loops: Vec::new(alloc),
+        }
+    }
+
+    /// The number of the next node.
+    pub(crate) fn next(&self) -> Result<NodeId, Memory> {
+        match u32::try_from(self.nodes.len()) {
+            Err(_) => Err(Memory),
+            Ok(number) => Ok(NodeId(number)),
+        }
+    }
+
+    pub(crate) fn node(&mut self, node: Node) -> Result<NodeId, Memory> {
+        let number = self.next()?;
+        self.nodes.push(node)?;
+        Ok(number)
+    }
+
+    pub(crate) fn edge(
+        &mut self,
+        from: NodeId,
+        to: NodeId,
+        ops: Vec<Operation>,
+    ) -> Result<(), Memory> {
+        self.edges.push(Edge {
+            from,
+            to,
+            ops: Operations::new(ops),
+        })?;
+        Ok(())
+    }
+
+    /// An edge that does nothing.
+    pub(crate) fn plain_edge(&mut self, from: NodeId, to: NodeId) -> Result<(), Memory> {
+        let ops = Vec::new(self.alloc);
+        self.edge(from, to, ops)
+    }
+
+    /// An edge that does this first.
+    pub(crate) fn edge_if(
+        &mut self,
+        from: NodeId,
+        to: NodeId,
+        first: Operation,
+    ) -> Result<(), Memory> {
+        let mut ops = Vec::new(self.alloc);
+        ops.push(first)?;
+        self.edge(from, to, ops)
+    }
+
+    /// The node of an error, to which an edge leads from a node where an operation goes on.
+    pub(crate) fn error(
+        &mut self,
+        from: NodeId,
+        first: Operation,
+        kind: ErrorKind,
+        at: u32,
+    ) -> Result<(), Memory> {
+        let error = self.node(Node::Error(kind, at))?;
+        self.edge_if(from, error, first)
+    }
+}

@@ -1,0 +1,35 @@
+//! The graphs of a program's functions, made of its flat code, instruction by instruction: a node for each place, a node for each
+//! check that may fail, and the cells that instructions work on.
+//!
+//! **Cells.** First the elements of objects, in the order of the objects, each as wide as its kind (one bit for `_Bool`): so an
+//! object has one run of cells. Then a cell of 64 bits for each slot that some instruction reads, in the order of the slots. Then one
+//! for each width that is drawn into a slot, in the order in which the code first draws it, since a draw has the range of its cell;
+//! and one for an index that a `++` or `--` behind an element keeps. A slot's cell holds its value modulo two to the power of 64,
+//! an element's cell its value modulo two to the power of its width. The place to return to is in no cell.
+//!
+//! **Nodes.** The nodes of a function stand in the order of its places, and its exit, an end node, stands last. A place has one node;
+//! an instruction with one check has the node of its error behind its own; one with two checks (a divisor of zero, then an
+//! overflow) has its own, the first error's, one between them, and the second error's. In the graph of `main` node 0 stands before
+//! all places: its one edge gives each element of a static object its first value, and 0 to all others. The call of an error is its
+//! error node, the end of the program (as in `abort`) an end node, and a call a call node.
+//!
+//! **Edges.** Error, end and call nodes have none, all others one or two. Of two, the first begins with an Assume of a term and the
+//! second with an Assume of its complement: for a check the error's side comes first, for `if`, loops, `&&`, `||` and `?:` the side
+//! on which the value is not 0, for a case of a `switch` the side on which the value is that of the case. An edge leads to a higher
+//! number, but for the turns of loops and of gotos that go back.
+//!
+//! **Loops.** `main`'s graph lists its `while` and `for` loops in the order of their offsets, each with the node to which its turns
+//! go: there the store of each visit stands.
+//!
+//! No contract says so: what is proved is that the call returns, and that the answer is the graphs of a program.
+#![tactic(auto)]
+
+mod building;
+mod checks;
+mod draft;
+mod layout;
+mod looping;
+mod moves;
+mod reading;
+
+pub use building::build;
