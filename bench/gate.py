@@ -6,7 +6,7 @@ tests, and of their must-fail edits, dearest first.
     bench/gate.py --watch SECONDS        runs nothing: watches the gates that run on this machine for so long, then prints the table
 
 It looks at the prover's processes once a second (/proc, so Linux alone) and adds up what each took. Processes shorter than a second are
-lost, and so are a run's tests and programs, which take a second each.
+lost, and so are a run's tests and programs, which take a second each. Of a run that it starts it counts the run's own processes alone.
 """
 import os
 import pathlib
@@ -20,17 +20,24 @@ TICK = os.sysconf("SC_CLK_TCK")
 KINDS = ("proof", "tests", "edits")
 
 
-def crate_and_kind(pid):
-    """The crate that this process proves, and as what, or None where it is no prover's."""
+def is_below(pid, top):
+    """Whether a process was started by that one, or by one that it started."""
+    while pid not in ("0", "1"):
+        if pid == top:
+            return True
+        pid = pathlib.Path(f"/proc/{pid}/stat").read_text().rsplit(")", 1)[1].split()[1]
+    return False
+
+
+def crate_and_kind(pid, top):
+    """The crate that this process proves, and as what, or None where it is no prover's of the run."""
     words = pathlib.Path(f"/proc/{pid}/cmdline").read_bytes().decode(errors="replace").split("\0")
-    if not words[0].endswith("/rattle") or "--crate-name" not in words:
+    if not words[0].endswith("/rattle") or "--crate-name" not in words or (top and not is_below(pid, top)):
         return None
     name = words[words.index("--crate-name") + 1]
     if "--test" in words:
         return name, "tests"
-    at = os.readlink(f"/proc/{pid}/cwd")
-    in_checkout = at.endswith(f"/crates/{name}")
-    return name, "proof" if words[1] == "build" and in_checkout else "edits"
+    return name, "edits" if "/rt-edit-" in os.readlink(f"/proc/{pid}/cwd") else "proof"
 
 
 def seconds(pid):
@@ -39,10 +46,10 @@ def seconds(pid):
     return sum(int(it) for it in fields[11:15]) / TICK
 
 
-def look(seen):
+def look(seen, top):
     for pid in filter(str.isdigit, os.listdir("/proc")):
         try:
-            found = crate_and_kind(pid)
+            found = crate_and_kind(pid, top)
             if found:
                 born = pathlib.Path(f"/proc/{pid}/stat").read_text().rsplit(")", 1)[1].split()[19]
                 seen[pid, born] = (*found, seconds(pid))
@@ -50,9 +57,9 @@ def look(seen):
             pass
 
 
-def watch(seen, is_over):
+def watch(seen, is_over, top):
     while not is_over.wait(1):
-        look(seen)
+        look(seen, top)
 
 
 def table(seen, minutes):
@@ -68,16 +75,15 @@ def table(seen, minutes):
 
 def main(words):
     seen, is_over, begun = {}, threading.Event(), time.monotonic()
-    watcher = threading.Thread(target=watch, args=(seen, is_over))
+    run = None if words[:1] == ["--watch"] else subprocess.Popen(["rt", "ci", *words], cwd=ROOT)
+    watcher = threading.Thread(target=watch, args=(seen, is_over, run and str(run.pid)))
     watcher.start()
-    status = 0
-    if words[:1] == ["--watch"]:
-        time.sleep(float(words[1]))
-    else:
-        status = subprocess.run(["rt", "ci", *words], cwd=ROOT).returncode
-    is_over.set()
-    watcher.join()
-    table(seen, (time.monotonic() - begun) / 60)
+    try:
+        status = run.wait() if run else time.sleep(float(words[1])) or 0
+    finally:
+        is_over.set()
+        watcher.join()
+        table(seen, (time.monotonic() - begun) / 60)
     return status
 
 
