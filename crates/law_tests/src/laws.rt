@@ -193,3 +193,16 @@ fn logs_of_steps() {
     new_logs_are_valid();
     cuts_stay_lean();
 }
+
+#[test]
+fn certificates_as_text() {
+    certificate_laws::cert_text_is_read();
+    certificate_laws::written_is_read();
+    certificate_laws::refused_for_good();
+    certificate_laws::over_is_named();
+}
+
+#[test]
+fn diagrams_that_grow() {
+    formula_diagrams::laws::truths_stay();
+}
