@@ -1,0 +1,5 @@
+pub mod Truth
+pub mod Pairing
+pub mod Turning
+pub mod Putting
+pub mod Marking

@@ -1,0 +1,12 @@
+use Rattle.std.proofs.Common.{◌≡◌, ◌≢◌, ℕ, ◌+◌, ◌-◌, ◌<◌, ◌≤◌, ◌&&◌, ◌||◌, ◌==◌, Bool, true, false, not, List, [], ◌∷◌, ◌++◌, length, refl, sym, ap, ◌∙◌, subst, arith, rules, Some, Result, Ok, Err, slice_get, zero, suc}
+use Rattle.formula_diagrams.proofs.Putting.{fits-not, not-bits, not-result}
+use Rattle.formula_diagrams.proofs.writing.put_not.Goals as goal
+
+pub put_term-requires : goal.put_term-requires
+put_term-requires c = fits-not _ _ c.requires
+
+pub returns-clause-bit : goal.returns-clause-bit
+returns-clause-bit c = not-bits _ _ _ _ c.put_term.ensures.table c.put_term.ensures.extends c.put_term.ensures.named c.requires
+
+pub returns-clause-truth : goal.returns-clause-truth
+returns-clause-truth c = λ f h. not-result _ _ _ _ c.put_term.ensures.table c.put_term.ensures.extends c.put_term.ensures.named f h
