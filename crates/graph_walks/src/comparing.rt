@@ -1,0 +1,62 @@
+//! Walks beside replays on the values that the walks drew.
+
+use crate::chance::Chance;
+use crate::walking::{Stop, Walk, walk_on};
+use c_graph::Graph;
+use c_rules::Examined;
+use lv_base::Memory;
+use run_replay::{Ending, Replay};
+use std::alloc::Global;
+
+// The most steps of a walk.
+const MOST_STEPS: u32 = 2000;
+
+// The most turns of a replay.
+const MOST_TURNS: u64 = 1_000_000;
+
+/// How many walks there were, and how many of them ended in another way than their replays.
+#[derive(Clone, Copy, Debug, PartialEq)]
+pub struct Tally {
+    /// All walks.
+    pub walks: u64,
+    /// Those that ended in another way.
+    pub others: u64,
+}
+
+/// Compares so many walks with replays, and prints each difference.
+pub fn compare<R: Print>(
+    alloc: Global,
+    rt: &R,
+    examined: &Examined,
+    graph: &Graph,
+    rounds: u32,
+) -> Result<Tally, Memory> {
+    let mut replay = Replay::new(alloc, examined)?;
+    let mut others = 0u64;
+    for round in 0..rounds {
+        let mut chance = Chance::new(round);
+        let walked = walk_on(alloc, graph, &mut chance, MOST_STEPS)?;
+        let ending = replay.run(&walked.drawn, MOST_TURNS);
+        if !agree(&walked, ending) {
+            others = others.saturating_add(1);
+            let stop = walked.stop;
+            let _ = println!(rt; "round {round}: the walk {stop:?}, the replay {ending:?}");
+        }
+    }
+    let walks = u64::from(rounds);
+    Ok(Tally { walks, others })
+}
+
+// Whether a walk and the replay on its values ended alike.
+fn agree(walked: &Walk, ending: Ending) -> bool {
+    match (walked.stop, ending) {
+        (Stop::Error(kind, at), Ending::Error(other, place, drawn)) => {
+            kind == other && at == place && drawn == walked.drawn.len()
+        }
+        (Stop::Error(_, _), _) => false,
+        (Stop::End, Ending::Ended) => true,
+        (Stop::Cut, Ending::BadInput(_)) => false,
+        (Stop::Cut, _) => true,
+        (Stop::End | Stop::Stuck, _) => false,
+    }
+}

@@ -1,0 +1,164 @@
+//! `graph_walks ROUNDS FILE..` makes the graph of each source under both data models: that of its flat code with each call a copy. It
+//! walks the graph so many times on values of chance, and compares how each walk ends with how the program's replay ends on the same values: the same error at the same offset behind the same number of values, or no error. It prints each
+//! difference, for each source and model how many there were, and at the end how many walks. It ends with status 1 where there is a
+//! difference or a source that has no graph.
+#![tactic(auto)]
+
+mod chance;
+mod comparing;
+mod walking;
+
+use crate::comparing::{Tally, compare};
+use c_rules::Examined;
+use call_inline::inline;
+use cfg_build::build;
+use elaboration_laws::sources_read;
+use lv_base::{Memory, Model, SourceFail};
+use lv_outside::{FileFail, Folder, Got, HostFolder};
+use std::alloc::{AllocError, Global};
+use std::process::ExitCode;
+use std::rt::{Env, Files};
+use std::{env, io};
+
+// The most bytes that a source may have.
+const MOST_BYTES: usize = 1 << 20;
+
+// Why the sources were not tried.
+#[derive(Clone, Copy, Debug, PartialEq)]
+enum Refusal {
+    Memory,
+    Words,
+    File,
+    Long,
+    Output,
+}
+
+impl From<Memory> for Refusal {
+    fn from(_: Memory) -> Refusal {
+        Refusal::Memory
+    }
+}
+
+// What the file of this name holds.
+fn load<R: Files + Clone + Drop>(alloc: Global, rt: &R, name: &str) -> Result<Vec<u8>, Refusal> {
+    let files: Result<R, AllocError> = rt.clone();
+    let Ok(files) = files else {
+        return Err(Refusal::Memory);
+    };
+    match HostFolder::new(files).read(alloc, name, MOST_BYTES) {
+        Ok(Got::Bytes(bytes)) => Ok(bytes),
+        Ok(Got::Longer) => Err(Refusal::Long),
+        Err(FileFail::Memory) => Err(Refusal::Memory),
+        Err(FileFail::Failed) => Err(Refusal::File),
+    }
+}
+
+fn examined(alloc: Global, source: &[u8], model: Model) -> Result<Examined, SourceFail> {
+    sources_read();
+    let tokens = c_tokens::tokens_of(alloc, source)?;
+    let unit = c_parser::parse(alloc, &tokens)?;
+    source_checks::accepted(alloc, &unit, model)
+}
+
+fn sum(first: Tally, second: Tally) -> Tally {
+    Tally {
+        walks: first.walks.saturating_add(second.walks),
+        others: first.others.saturating_add(second.others),
+    }
+}
+
+// Walks the graph of a source under a data model.
+fn walks_of<R: Print>(
+    alloc: Global,
+    rt: &R,
+    source: &[u8],
+    model: Model,
+    rounds: u32,
+) -> Result<Tally, SourceFail> {
+    let examined = examined(alloc, source, model)?;
+    let graphs = build(alloc, &examined)?;
+    let graph = inline(alloc, &graphs)?;
+    Ok(compare(alloc, rt, &examined, &graph, rounds)?)
+}
+
+// Tries a source under a data model, and prints how many walks ended in another way. A source that has no graph counts as one.
+fn try_source<R: Print>(
+    alloc: Global,
+    rt: &R,
+    name: &str,
+    source: &[u8],
+    model: Model,
+    rounds: u32,
+) -> Result<Tally, Refusal> {
+    let under = model.name();
+    let (tally, printed) = match walks_of(alloc, rt, source, model, rounds) {
+        Ok(tally) => {
+            let others = tally.others;
+            (tally, println!(rt; "{name}, {under}: {others} others"))
+        }
+        Err(SourceFail::Memory) => return Err(Refusal::Memory),
+        Err(fail) => {
+            let none = Tally {
+                walks: 0,
+                others: 1,
+            };
+            (none, println!(rt; "{name}, {under}: no graph: {fail:?}"))
+        }
+    };
+    match printed {
+        Ok(()) => Ok(tally),
+        Err(_) => Err(Refusal::Output),
+    }
+}
+
+fn try_file<R>(rt: &R, name: &str, rounds: u32) -> Result<Tally, Refusal>
+where
+    R: AllocGlobal + Files + Print + Clone + Drop,
+{
+    let alloc = rt.alloc();
+    let source = load(alloc, rt, name)?;
+    let narrow = try_source(alloc, rt, name, &source, Model::Ilp32, rounds)?;
+    let wide = try_source(alloc, rt, name, &source, Model::Lp64, rounds)?;
+    Ok(sum(narrow, wide))
+}
+
+// The words behind the program's name are the number of rounds, and the sources' names.
+fn run<R>(rt: &R) -> Result<Tally, Refusal>
+where
+    R: AllocGlobal + Env + Files + Print + Clone + Drop,
+{
+    let words = match env::args(rt) {
+        Ok(words) => words,
+        Err(fail) if fail.kind() == io::ErrorKind::OutOfMemory => return Err(Refusal::Memory),
+        Err(_) => return Err(Refusal::Words),
+    };
+    let mut tally = Tally {
+        walks: 0,
+        others: 0,
+    };
+    let mut rounds = 0u32;
+    for (number, word) in words.enumerate() {
+        if number == 1 {
+            rounds = word.as_str().parse::<u32>().unwrap_or(0);
+        }
+        if number > 1 {
+            tally = sum(tally, try_file(rt, word.as_str(), rounds)?);
+        }
+    }
+    let walks = tally.walks;
+    match println!(rt; "{walks} walks") {
+        Ok(()) => Ok(tally),
+        Err(_) => Err(Refusal::Output),
+    }
+}
+
+fn main(rt: HostRuntime) -> ExitCode {
+    match run(&rt) {
+        Ok(tally) if tally.others == 0 => ExitCode::from(0),
+        Ok(_) => ExitCode::from(1),
+        Err(refusal) => {
+            let _ = eprintln!(rt; "graph_walks: {refusal:?}");
+            ExitCode::from(2)
+        }
+    }
+}
