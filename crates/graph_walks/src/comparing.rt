@@ -23,12 +23,22 @@ pub struct Tally {
     pub others: u64,
 }
 
+/// What a graph keeps of a program.
+#[derive(Clone, Copy, Debug, PartialEq)]
+pub enum Kept {
+    /// All of it.
+    All,
+    /// What leads to an error or to a listed loop: a run that is past these ends anywhere.
+    Errors,
+}
+
 /// Compares so many walks with replays, and prints each difference.
 pub fn compare<R: Print>(
     alloc: Global,
     rt: &R,
     examined: &Examined,
     graph: &Graph,
+    kept: Kept,
     rounds: u32,
 ) -> Result<Tally, Memory> {
     let mut replay = Replay::new(alloc, examined)?;
@@ -37,10 +47,12 @@ pub fn compare<R: Print>(
         let mut chance = Chance::new(round);
         let walked = walk_on(alloc, graph, &mut chance, MOST_STEPS)?;
         let ending = replay.run(&walked.drawn, MOST_TURNS);
-        if !agree(&walked, ending) {
+        if !agree(&walked, ending, kept) {
             others = others.saturating_add(1);
             let stop = walked.stop;
-            let _ = println!(rt; "round {round}: the walk {stop:?}, the replay {ending:?}");
+            let _ = println!(rt;
+                "round {round}, {kept:?}: the walk {stop:?}, the replay {ending:?}"
+            );
         }
     }
     let walks = u64::from(rounds);
@@ -48,7 +60,8 @@ pub fn compare<R: Print>(
 }
 
 // Whether a walk and the replay on its values ended alike.
-fn agree(walked: &Walk, ending: Ending) -> bool {
+fn agree(walked: &Walk, ending: Ending, kept: Kept) -> bool {
+    let is_error = matches!(ending, Ending::Error(_, _, _) | Ending::BadInput(_));
     match (walked.stop, ending) {
         (Stop::Error(kind, at), Ending::Error(other, place, drawn)) => {
             kind == other && at == place && drawn == walked.drawn.len()
@@ -57,6 +70,6 @@ fn agree(walked: &Walk, ending: Ending) -> bool {
         (Stop::End, Ending::Ended) => true,
         (Stop::Cut, Ending::BadInput(_)) => false,
         (Stop::Cut, _) => true,
-        (Stop::End | Stop::Stuck, _) => false,
+        (Stop::End | Stop::Stuck, _) => kept == Kept::Errors && !is_error,
     }
 }

@@ -1,5 +1,6 @@
-//! `graph_walks ROUNDS FILE..` makes the graph of each source under both data models: that of its flat code with each call a copy. It
-//! walks the graph so many times on values of chance, and compares how each walk ends with how the program's replay ends on the same values: the same error at the same offset behind the same number of values, or no error. It prints each
+//! `graph_walks ROUNDS FILE..` makes the graphs of each source under both data models: that of its flat code with each call a copy, and
+//! that of its blocks. It walks each graph so many times on values of chance, and compares how each walk ends with how the program's
+//! replay ends on the same values: the same error at the same offset behind the same number of values, or no error. It prints each
 //! difference, for each source and model how many there were, and at the end how many walks. It ends with status 1 where there is a
 //! difference or a source that has no graph.
 #![tactic(auto)]
@@ -8,7 +9,8 @@ mod chance;
 mod comparing;
 mod walking;
 
-use crate::comparing::{Tally, compare};
+use crate::comparing::{Kept, Tally, compare};
+use block_join::join_blocks;
 use c_rules::Examined;
 use call_inline::inline;
 use cfg_build::build;
@@ -67,7 +69,7 @@ fn sum(first: Tally, second: Tally) -> Tally {
     }
 }
 
-// Walks the graph of a source under a data model.
+// Walks both graphs of a source under a data model.
 fn walks_of<R: Print>(
     alloc: Global,
     rt: &R,
@@ -78,7 +80,10 @@ fn walks_of<R: Print>(
     let examined = examined(alloc, source, model)?;
     let graphs = build(alloc, &examined)?;
     let graph = inline(alloc, &graphs)?;
-    Ok(compare(alloc, rt, &examined, &graph, rounds)?)
+    let whole = compare(alloc, rt, &examined, &graph, Kept::All, rounds)?;
+    let blocks = join_blocks(alloc, &graph)?;
+    let joined = compare(alloc, rt, &examined, &blocks, Kept::Errors, rounds)?;
+    Ok(sum(whole, joined))
 }
 
 // Tries a source under a data model, and prints how many walks ended in another way. A source that has no graph counts as one.

@@ -1,0 +1,201 @@
+use crate::chains::joined;
+use crate::emission::{Draft, Plan};
+use crate::terms::Truths;
+use block_plan::{Blocks, Live, Units, Ways, begins, blocks_of, number_of, ways_at};
+use bv_term::{TermId, Terms, are_widths};
+use c_graph::{Cell, Edge, Graph, Node, NodeId, Operations, Origin, graph_from};
+use lv_base::Memory;
+use std::alloc::Global;
+
+/// The graph in which everything between two cut points is one edge, with a branch for its failed checks and one for each way out;
+/// and then each node with one way in and one way out, that is neither the entry nor a loop's, has given its edge away. Nodes keep
+/// their numbers, also those without edges that are left over; new ones stand behind them.
+pub fn join_blocks(alloc: Global, graph: &Graph) -> Result<Graph, Memory> {
+    let blocks = blocks_of(alloc, graph)?;
+    let units = Units::new(alloc, graph.cells())?;
+    let live = Live::new(alloc, graph, &blocks, &units)?;
+    let plan = Plan {
+        graph,
+        blocks: &blocks,
+        units: &units,
+        live: &live,
+    };
+    let members = members_of(alloc, graph, &blocks)?;
+    let first = graph.cells().len();
+    let room = room_for(&members);
+    let truths = with_cells(alloc, graph, room)?;
+    let nodes = graph.nodes().to_vec(alloc)?;
+    let mut draft = Draft::new(alloc, nodes, truths, number_of(first)?)?;
+    for (number, places) in members.iter().enumerate() {
+        let node = NodeId(number_of(number)?);
+        if begins(graph, &blocks, node) {
+            draft.block(plan, places)?;
+        } else {
+            keep_edges(alloc, graph, &blocks, node, &mut draft)?;
+        }
+    }
+    end_where_nothing_matters(alloc, graph, &blocks, &mut draft)?;
+    finish(alloc, graph, draft)
+}
+
+fn empty_lists(alloc: Global, count: usize) -> Result<Vec<Vec<NodeId>>, Memory> {
+    let mut lists = Vec::new(alloc);
+    for _ in 0..count {
+        lists.push(Vec::new(alloc))?;
+    }
+    Ok(lists)
+}
+
+// The places of each block, by its cut point, which comes first.
+fn members_of(alloc: Global, graph: &Graph, blocks: &Blocks) -> Result<Vec<Vec<NodeId>>, Memory> {
+    let mut members = empty_lists(alloc, graph.nodes().len())?;
+    for number in 0..number_of(graph.nodes().len())? {
+        let node = NodeId(number);
+        if blocks.matters.get(node.0) {
+            let start = blocks.starts.get(node.0).unwrap_or(node.0) as usize;
+            if start < members.len() {
+                members[start].push(node)?;
+            }
+        }
+    }
+    Ok(members)
+}
+
+// Saved cells for the largest block: at most three a place.
+fn room_for(members: &[Vec<NodeId>]) -> u32 {
+    let mut most = 0usize;
+    for places in members {
+        most = most.max(places.len());
+    }
+    u32::try_from(most).unwrap_or(u32::MAX).saturating_mul(3)
+}
+
+// The graph's terms over its cells and so many saved cells of one bit.
+fn with_cells(alloc: Global, graph: &Graph, more: u32) -> Result<Truths, Memory> {
+    let mut widths = graph.terms().cells().to_vec(alloc)?;
+    for _ in 0..more {
+        widths.push(1)?;
+    }
+    copied(alloc, graph.terms(), widths)
+}
+
+// A table of the same terms over other cells, over which they are well formed where these begin with the old ones.
+fn copied(alloc: Global, terms: &Terms, widths: Vec<u32>) -> Result<Truths, Memory> {
+    if !are_widths(&widths) {
+        return Ok(Truths {
+            terms: Terms::new(alloc, Vec::new(alloc)),
+            is_sound: false,
+        });
+    }
+    let mut truths = Truths {
+        terms: Terms::new(alloc, widths),
+        is_sound: true,
+    };
+    for number in 0..terms.count() {
+        let term = terms.get(TermId(number));
+        if truths.terms.fits(term) {
+            truths.terms.append(term)?;
+        } else {
+            truths.is_sound = false;
+        }
+    }
+    Ok(truths)
+}
+
+// A node that keeps its edges, but for those to nodes that do not matter.
+fn keep_edges(
+    alloc: Global,
+    graph: &Graph,
+    blocks: &Blocks,
+    node: NodeId,
+    draft: &mut Draft,
+) -> Result<(), Memory> {
+    let is_kept = blocks.matters.get(node.0)
+        && blocks.cuts.get(node.0)
+        && matches!(ways_at(&blocks.ways, node), Ways::Kept);
+    if !is_kept {
+        return Ok(());
+    }
+    for edge in graph.outs(alloc, node)?.as_slice() {
+        if let Some(edge) = graph.edges().get(edge.0 as usize) {
+            if blocks.matters.get(edge.to.0) {
+                draft.edges.push(Edge {
+                    from: edge.from,
+                    to: edge.to,
+                    ops: Operations::new(edge.ops.as_slice().to_vec(alloc)?),
+                })?;
+            }
+        }
+    }
+    Ok(())
+}
+
+// Where neither an error nor a loop's node is reached, one edge leads from the entry to an end.
+fn end_where_nothing_matters(
+    alloc: Global,
+    graph: &Graph,
+    blocks: &Blocks,
+    draft: &mut Draft,
+) -> Result<(), Memory> {
+    let entry = graph.entry();
+    let is_plain = matches!(graph.nodes().get(entry.0 as usize), Some(Node::Plain));
+    if blocks.matters.get(entry.0) || !is_plain {
+        return Ok(());
+    }
+    let mut end = entry;
+    for (number, node) in graph.nodes().iter().enumerate() {
+        if *node == Node::End {
+            end = NodeId(number_of(number)?);
+        }
+    }
+    draft.edges.push(Edge {
+        from: entry,
+        to: end,
+        ops: Operations::new(Vec::new(alloc)),
+    })?;
+    Ok(())
+}
+
+// The graph's cells, and so many saved cells of one bit.
+fn all_cells(alloc: Global, graph: &Graph, used: u32) -> Result<Vec<Cell>, Memory> {
+    let mut cells = graph.cells().to_vec(alloc)?;
+    for _ in 0..used {
+        cells.push(Cell {
+            width: 1,
+            origin: Origin::Saved,
+        })?;
+    }
+    Ok(cells)
+}
+
+fn widths_of(alloc: Global, cells: &[Cell]) -> Result<Vec<u32>, Memory> {
+    let mut widths = Vec::new(alloc);
+    for cell in cells {
+        widths.push(cell.width)?;
+    }
+    Ok(widths)
+}
+
+// The graph of the blocks that were made.
+fn finish(alloc: Global, graph: &Graph, draft: Draft) -> Result<Graph, Memory> {
+    let Draft {
+        alloc: _,
+        nodes,
+        edges,
+        truths,
+        used,
+        ..
+    } = draft;
+    let cells = all_cells(alloc, graph, used)?;
+    let last = copied(alloc, &truths.terms, widths_of(alloc, &cells)?)?;
+    let edges = joined(alloc, graph, &nodes, edges)?;
+    // nodes over terms that are not well formed count for nothing: without a node the parts make no graph
+    let nodes = if truths.is_sound && last.is_sound {
+        nodes
+    } else {
+        Vec::new(alloc)
+    };
+    let loops = graph.loops().to_vec(alloc)?;
+    let Truths { terms, is_sound: _ } = last;
+    graph_from(alloc, nodes, edges, cells, terms, graph.entry(), loops)
+}
