@@ -1,11 +1,12 @@
 #!/usr/bin/env python3
-"""Runs a program on a set of C programs with known verdicts, and prints a line for each and a table by tier.
+"""Runs the method on a set of C programs with known verdicts, and prints a line for each and a table by tier.
 
     bench/tasks.py PROGRAM FOLDER [SECONDS [JOBS [WORD..]]]
 
 FOLDER has tasks.json: a list of objects with `name`, `file` (below FOLDER), `tier`, `model`, `verdict` (SAFE or UNSAFE), and for UNSAFE
-`errors`, the permitted kinds and places. PROGRAM is run as `PROGRAM MODEL SECONDS FILE WORD..` and prints a line that begins with its
-verdict, as the sketch under bench/native/method does. A verdict is right, wrong or none; of the set a wrong one is a failure (status 1).
+`errors`, the permitted kinds and places. PROGRAM is run as `PROGRAM FILE MODEL WORD..`, as the program `trial` is, for so many seconds at
+most (60); its first line is its verdict, and lines that begin with `#` are its counts. A verdict is right, wrong or none; of the set a wrong
+one is a failure (status 1).
 """
 import collections
 import concurrent.futures
@@ -13,6 +14,7 @@ import json
 import pathlib
 import subprocess
 import sys
+import time
 
 
 def judged(task, line):
@@ -28,16 +30,16 @@ def judged(task, line):
 
 
 def run(program, folder, seconds, words, task):
-    command = [program, task["model"], str(seconds), str(folder / task["file"]), *words]
+    command, begun = [program, str(folder / task["file"]), task["model"], *words], time.monotonic()
     try:
-        ran = subprocess.run(command, capture_output=True, text=True, timeout=20 * seconds + 60)
-        line = (ran.stdout.strip().split("\n") or [""])[-1] or f"no line, status {ran.returncode}: {ran.stderr.strip()[-160:]}"
+        ran = subprocess.run(command, capture_output=True, text=True, timeout=seconds)
+        line = "\t".join(ran.stdout.strip().split("\n")) or f"no line, status {ran.returncode}: {ran.stderr.strip()[-160:]}"
     except subprocess.TimeoutExpired:
         line = "no line in time"
-    return task, judged(task, line), line
+    return task, judged(task, line), f"{time.monotonic() - begun:.1f} s\t{line}"
 
 
-def main(program, folder, seconds="15", jobs="2", *words):
+def main(program, folder, seconds="60", jobs="2", *words):
     folder, seconds = pathlib.Path(folder), float(seconds)
     tasks = json.loads((folder / "tasks.json").read_text())
     found = collections.defaultdict(collections.Counter)

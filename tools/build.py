@@ -3,14 +3,18 @@
 
     tools/build.py PROGRAM STATUS
 
-Libraries whose own libraries are built are proved together, as many as there are processors, those with the most work above them
-first. What stands from an earlier build is not proved again. Progress goes to standard error, each library's own lines to its
-out/build.log. At the end the program runs once without words and must end with STATUS.
+Libraries whose own libraries are built are proved together, those with the most work above them first. A command of the kit locks all
+crates that its own stands on, so each is proved in one of a few copies of the repository; the kit takes from one checkout what another
+has built of the same text, so each copy goes on from what the others have, and what stands from an earlier build is not proved again.
+Progress goes to standard error, each library's own lines to its out/build.log. At the end the program runs once without words and must end
+with STATUS.
 """
 import os
 import pathlib
+import shutil
 import subprocess
 import sys
+import tempfile
 import time
 
 ROOT = pathlib.Path(__file__).resolve().parent.parent
@@ -54,29 +58,41 @@ def chains(crates, wanted):
     return found
 
 
-def start(name):
+def copy_to(folder):
+    """Copies what the kit reads of the repository, without what it made."""
+    for name in ("crates.txt", "HANDLES"):
+        shutil.copy(ROOT / name, folder / name)
+    shutil.copytree(CRATES, folder / "crates", ignore=shutil.ignore_patterns("out"))
+    return folder
+
+
+def start(lane, name, jobs):
     log = CRATES / name / "out" / "build.log"
     log.parent.mkdir(exist_ok=True)
     with log.open("w") as out:
-        return subprocess.Popen(["rt", "lib"], cwd=CRATES / name, stdout=out, stderr=subprocess.STDOUT)
+        return subprocess.Popen(["rt", "lib", "--jobs", str(jobs)], cwd=lane / "crates" / name, stdout=out, stderr=subprocess.STDOUT)
 
 
 def say(text):
     print(f"lazic: {text}", file=sys.stderr, flush=True)
 
 
-def build(crates, libraries, begun):
+def build(crates, libraries, lanes, begun):
     """Builds the libraries, and answers the one that could not be built, if any."""
-    weights, ready, running = chains(crates, libraries), set(), {}
+    weights, ready, running, idle = chains(crates, libraries), set(), {}, list(lanes)
     while len(ready) < len(libraries):
-        open_ones = [it for it in libraries - ready - running.keys() if ready.issuperset(crates[it])]
-        for name in sorted(open_ones, key=weights.get, reverse=True)[: (os.cpu_count() or 1) - len(running)]:
-            running[name] = start(name)
+        open_ones = sorted((it for it in libraries - ready - running.keys() if ready.issuperset(crates[it])), key=weights.get, reverse=True)
+        for number, name in enumerate(open_ones[: len(idle)]):
+            jobs = max(1, len(idle) // (len(open_ones) - number))
+            lane = idle.pop()
+            running[name] = start(lane, name, jobs), lane
         time.sleep(0.2)
-        for name in [it for it, process in running.items() if process.poll() is not None]:
-            if running.pop(name).returncode:
-                for process in running.values():
-                    process.terminate()
+        for name in [it for it, (process, _) in running.items() if process.poll() is not None]:
+            process, lane = running.pop(name)
+            idle.append(lane)
+            if process.returncode:
+                for other, _ in running.values():
+                    other.terminate()
                 return name
             ready.add(name)
             say(f"{len(ready)} of {len(libraries)} crates are proved, {(time.monotonic() - begun) / 60:.0f} minutes: {name}")
@@ -85,12 +101,14 @@ def build(crates, libraries, begun):
 
 def main(program, status):
     crates, begun = read_crates(), time.monotonic()
-    failed = build(crates, closure(crates, program) - {program}, begun)
-    if failed:
-        say(f"{failed} could not be built; {CRATES / failed / 'out' / 'build.log'} says why")
-        return 1
-    say(f"proving and linking {program}")
-    ran = subprocess.run(["rt", "run"], cwd=CRATES / program, stdout=sys.stderr)
+    with tempfile.TemporaryDirectory(prefix="lazic-build-") as room:
+        lanes = [copy_to(pathlib.Path(tempfile.mkdtemp(dir=room))) for _ in range(os.cpu_count() or 1)]
+        failed = build(crates, closure(crates, program) - {program}, lanes, begun)
+        if failed:
+            say(f"{failed} could not be built; {CRATES / failed / 'out' / 'build.log'} says why")
+            return 1
+        say(f"proving and linking {program}")
+        ran = subprocess.run(["rt", "run"], cwd=CRATES / program, stdout=sys.stderr)
     return 0 if ran.returncode == int(status) else 1
 
 

@@ -1,0 +1,80 @@
+ghost use Rattle.std.specs.Prelude.{◌≡◌};
+
+use cdcl_solver::{QueryFail, SolveFail};
+use lv_base::Memory;
+use prop::BlastFail;
+use resolution_log::Log;
+use std::marker::Model;
+
+/// Input values in order. Contracts see the list of them.
+#[derive(Drop)]
+pub struct Values {
+    items: Vec<i128>,
+}
+
+impl Model for Values {
+    ghost use Rattle.std.specs.Prelude.{List, ℤ};
+
+    ghost Value = { List ℤ };
+
+    ghost view = { λ v. v.items.items };
+}
+
+impl Values {
+    /// The values of a list. It takes no memory.
+    pub fn new(items: Vec<i128>) -> Values
+        ensures { result ≡ items.items }
+    {
+        Values { items }
+    }
+
+    /// The values in order.
+    pub fn as_slice(&self) -> &[i128]
+        ensures { result.now ≡ self.now }
+    {
+        &self.items
+    }
+}
+
+/// What became of an error leaf.
+#[derive(Drop)]
+pub enum Refined {
+    /// No run follows its path: the path was strengthened by the formulas of this refutation.
+    Strengthened(Log),
+    /// These input values drive the path to its error.
+    Feasible(Values),
+    /// The budget of learned clauses was spent on the question.
+    Spent(Log),
+}
+
+/// What became of a pair.
+#[derive(Drop)]
+pub enum Settled {
+    /// The first label implies the second: the pair was added.
+    Covered,
+    /// A store meets the first label and not the second.
+    Apart,
+    /// The budget of learned clauses was spent on the question.
+    Spent(Log),
+}
+
+/// What want of memory is for a question.
+pub fn no_memory(_: Memory) -> QueryFail {
+    QueryFail::Memory
+}
+
+/// What a failure to make clauses is for a question.
+pub fn no_clauses(fail: BlastFail) -> QueryFail {
+    match fail {
+        BlastFail::Over(count) => QueryFail::Over(count),
+        BlastFail::Memory => QueryFail::Memory,
+    }
+}
+
+/// What a failure to solve is for a question.
+pub fn no_answer(fail: SolveFail) -> QueryFail {
+    match fail {
+        SolveFail::OverLog(log) => QueryFail::OverLog(log),
+        SolveFail::Memory => QueryFail::Memory,
+    }
+}
