@@ -1,10 +1,10 @@
 -- The terms of a table, each by its operands.
-use Rattle.std.proofs.Common.{◌≡◌, ℕ, ◌+◌, ◌<◌, ◌≤◌, List, [], ◌∷◌, ◌++◌, length, refl, sym, ap, ◌∙◌, subst, zero, suc, arith, Some, slice_get, slice_index, length-append}
+use Rattle.std.proofs.Common.{◌≡◌, ℕ, ◌+◌, ◌<◌, List, [], ◌∷◌, ◌++◌, length, refl, sym, ap, ◌∙◌, subst, zero, suc, arith, Some, slice_get, slice_index, length-append}
 use Rattle.bv_term.specs.declared.term.TermId.{TermId}
 use Rattle.bv_term.specs.declared.term.Term.{Term}
 use Rattle.bv_term.specs.declared.term.Term.TheVariants.{Constant, Cell, Element, Add, Subtract, Multiply, Divide, Remainder, And, Or, Xor, Not, ShiftLeft, ShiftRight, ShiftSigned, Equal, Less, LessSigned, Select, ZeroExtend, SignExtend, Truncate, Bit}
-use Rattle.bv_term.specs.WellFormed.{Table, IsTable, Fits, FitsTable, AllFit, width_in, widths_after, widths}
-use Rattle.bv_term.specs.Values.{value_in, values_after, values, value}
+use Rattle.bv_term.specs.WellFormed.{Table, IsTable, Fits, AllFit, width_in, widths_after, widths}
+use Rattle.bv_term.specs.Values.{value_in, values_after, values}
 use Rattle.bv_term.proofs.Staying.{widths-keep, values-keep}
 use Rattle.bv_term.proofs.Growing.{length-widths}
 use Rattle.term_laws.specs.Operands.{Follows, OnOperands, renamed}

@@ -1,0 +1,2 @@
+pub mod CutFormulas
+pub mod Laws
