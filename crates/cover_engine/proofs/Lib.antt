@@ -10,3 +10,5 @@ pub mod LastSettled
 pub mod Labelling
 pub mod Walking
 pub mod Kept
+pub mod Waits
+pub mod LabelTerms

@@ -1,5 +1,5 @@
 -- Trees of paths through a graph.
-use Rattle.std.specs.Prelude.{ℕ, ◌+◌, ◌<◌, ◌≡◌, List, slice_get, [], ◌∷◌, ◌++◌, zero, suc, length, Option, None, Some, slice_index_or, slice_set}
+use Rattle.std.specs.Prelude.{ℕ, ◌+◌, ◌<◌, ◌≡◌, List, slice_get, [], ◌∷◌, ◌++◌, zero, suc, length, Option, None, Some, All, slice_index_or, slice_set}
 use Rattle.bv_term.specs.declared.term.TermId.{TermId}
 use Rattle.bv_term.specs.WellFormed.{Table}
 use Rattle.c_graph.specs.declared.graph.NodeId.{NodeId}
@@ -16,6 +16,10 @@ pub record Branches : Type 0 where
   pub vertices : List Vertex
   pub terms : Table
 
+-- each conjunct of a label is a term of width 1
+abbrev pub IsLabel : Table → List TermId → Type 0
+IsLabel table label = All (λ t. HasWidth table t 1) label
+
 -- a vertex at a node, with an empty label and no children
 abbrev pub fresh : Option VertexId → Option EdgeId → NodeId → Vertex
 fresh parent by node = record { parent = parent; by = by; node = node; label = []; version = 0; children = [] }
@@ -27,6 +31,10 @@ root_at entry = fresh None None entry
 -- the vertex of a number; past the end a vertex at node 0
 abbrev pub vertex_at : List Vertex → ℕ → Vertex
 vertex_at vs k = slice_index_or vs k (root_at (record { 0 = 0 }))
+
+-- the label of each vertex is one
+abbrev pub AreLabelled : Table → List Vertex → Type 0
+AreLabelled table vs = (k : ℕ) → IsLabel table (vertex_at vs k).label
 
 -- the vertex of a number changed
 abbrev pub changed : List Vertex → ℕ → (Vertex → Vertex) → List Vertex

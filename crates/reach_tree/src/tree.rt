@@ -1,9 +1,10 @@
 ghost use Rattle.std.specs.Prelude.{◌≡◌, ◌+◌, ◌^◌, ◌<◌, ◌↔◌, ◌∷◌, [], length, slice_get, All, IsTrue, IfOk, OnOk, OnErr, Some};
 ghost use Rattle.bv_term.specs.WellFormed.{FitsTable};
-ghost use Rattle.bv_term.specs.Laws.{IsPut};
+ghost use Rattle.bv_term.specs.Laws.{Extends, IsPut};
 ghost use Rattle.c_graph.specs.declared.graph.Node.TheVariants.{Plain};
 ghost use Rattle.c_graph.specs.Shape.{widths_of};
-ghost use Rattle.reach_tree.specs.Trees.{MayExpand, MayStrengthen, changed, expanded, fresh, leaves_of, numbers_from, root_at, relabelled, strengthened, vertex_at, with_children, with_conjunct, with_label};
+ghost use Rattle.term_copy.specs.Copies.{AreCopies};
+ghost use Rattle.reach_tree.specs.Trees.{MayExpand, MayStrengthen, changed, expanded, fresh, leaves_of, numbers_from, root_at, IsLabel, AreLabelled, relabelled, strengthened, vertex_at, with_children, with_conjunct, with_label};
 
 use crate::vertex::{Children, Label, NewLabel, Vertex, VertexId};
 use bv_term::{Term, TermId, Terms};
@@ -11,6 +12,7 @@ use c_graph::{Edge, EdgeId, Graph, Node, NodeId};
 use lv_base::Memory;
 use std::alloc::Global;
 use std::marker::Model;
+use term_copy::copied;
 
 /// A tree of paths through a graph. Its first vertex is the root.
 #[derive(Drop)]
@@ -21,13 +23,13 @@ pub struct Tree {
 
 impl Model for Tree {
     ghost use Rattle.std.specs.Prelude.{◌<◌, ◌^◌, length};
-    ghost use Rattle.reach_tree.specs.Trees.{Branches};
+    ghost use Rattle.reach_tree.specs.Trees.{AreLabelled, Branches};
 
     ghost Value = { Branches };
 
     ghost view = { λ t. record { vertices = t.vertices.items; terms = t.terms } };
 
-    ghost invariant = { λ t. length t.vertices.items < 2 ^ 32 };
+    ghost invariant = { λ t. (length t.vertices.items < 2 ^ 32) × AreLabelled t.terms t.vertices.items };
 }
 
 impl Tree {
@@ -50,6 +52,7 @@ impl Tree {
     pub fn vertices(&self) -> &[Vertex]
         ensures value { result.now ≡ self.now.vertices }
         ensures few { length self.now.vertices < 2 ^ 32 }
+        ensures labelled { AreLabelled self.now.terms self.now.vertices }
     {
         &self.vertices
     }
@@ -70,6 +73,18 @@ impl Tree {
         ensures unchanged { OnErr result (self.new ≡ self.old) }
     {
         self.terms.put(term)
+    }
+
+    /// Puts all terms of another table over the same cells into the table of the labels' terms, and answers their new numbers.
+    /// Vertices stay. After a failure some of the terms may stand there.
+    pub fn take_terms(&mut self, alloc: Global, from: &Terms) -> Result<Vec<TermId>, Memory>
+        requires { self.old.terms.cells ≡ from.now.cells }
+        ensures extends { Extends self.old.terms self.new.terms }
+        ensures count { IfOk result (λ to. length to.items ≡ length from.now.terms) }
+        ensures copies { IfOk result (λ to. AreCopies from.now self.new.terms to.items) }
+        ensures vertices { self.new.vertices ≡ self.old.vertices }
+    {
+        copied(alloc, from, &mut self.terms)
     }
 
     /// An equal tree.
@@ -136,7 +151,8 @@ impl Tree {
 
     /// Puts these labels and versions in place of those of their vertices, one after another. It takes no memory.
     pub fn relabel(&mut self, labels: Vec<NewLabel>)
-        requires { All (λ l. l.vertex.0 < length self.old.vertices) labels.items }
+        requires there { All (λ l. l.vertex.0 < length self.old.vertices) labels.items }
+        requires labels { All (λ l. IsLabel self.old.terms l.label) labels.items }
         ensures vertices { self.new.vertices ≡ relabelled self.old.vertices labels.items }
         ensures terms { self.new.terms ≡ self.old.terms }
     {
