@@ -22,6 +22,8 @@ pub record Grown (vs ws : List Vertex) (v : VertexId) (k : ℕ) : Type 0 where
   pub this : (vertex_at ws v.0).children ≡ numbers_from (length vs) k
   pub leaf : (j : ℕ) → length vs ≤ j → j < length ws → ((vertex_at ws j).parent ≡ Some v) × ((vertex_at ws j).children ≡ [])
   pub version : (j : ℕ) → (vertex_at ws j).version ≡ (vertex_at vs j).version
+  pub node : (j : ℕ) → j < length vs → (vertex_at ws j).node ≡ (vertex_at vs j).node
+  pub label : (j : ℕ) → j < length vs → (vertex_at ws j).label ≡ (vertex_at vs j).label
 
 leaves_sized : (edges : List Edge) (v : VertexId) (es : List EdgeId) → length (leaves_of edges v es) ≡ length es
 leaves_sized edges v [] = refl
@@ -81,6 +83,14 @@ grown g vs v lt =
               | inl lj ↦ ap (λ (x : Vertex). x.version) (behind vs ls v cs j le) ∙ (leaf_facts g.edges v es (j - length vs) (omega (arith, le, lj, sized))).2 ∙ sym old
               | inr past ↦ ap (λ (x : Vertex). x.version) (get_or-eq_default ws (root_at (record { 0 = 0 })) past) ∙ sym old
             ]
+      ];
+      node = λ j lj. elim (cases_eq j v.0) [
+        | inl is ↦ (let P : ℕ → Type 0 = λ i. (vertex_at ws i).node ≡ (vertex_at vs i).node in subst P (sym is) (ap (λ (x : Vertex). x.node) (here vs ls v cs lt)))
+        | inr ne ↦ ap (λ (x : Vertex). x.node) (front vs ls v cs j lj ne)
+      ];
+      label = λ j lj. elim (cases_eq j v.0) [
+        | inl is ↦ (let P : ℕ → Type 0 = λ i. (vertex_at ws i).label ≡ (vertex_at vs i).label in subst P (sym is) (ap (λ (x : Vertex). x.label) (here vs ls v cs lt)))
+        | inr ne ↦ ap (λ (x : Vertex). x.label) (front vs ls v cs j lj ne)
       ];
     }
 

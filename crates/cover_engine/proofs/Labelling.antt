@@ -1,7 +1,7 @@
 -- The labels that a Refine gives, put all at once, make what its unit makes vertex by vertex.
-use Rattle.std.proofs.Common.{◌≡◌, ◌≢◌, ℕ, ◌+◌, ◌<◌, ◌≤◌, Bool, true, false, not, ◌&&◌, List, [], ◌∷◌, ◌++◌, length, inl, inr, refl, sym, ap, ◌∙◌, subst, arith, zero, suc, get_or, if◌then◌else◌}
+use Rattle.std.proofs.Common.{◌≡◌, ◌≢◌, ℕ, ◌+◌, ◌<◌, ◌≤◌, Bool, true, false, not, ◌&&◌, ◌||◌, List, [], ◌∷◌, ◌++◌, length, inl, inr, refl, sym, ap, ◌∙◌, subst, arith, zero, suc, get_or, if◌then◌else◌}
 use Rattle.std.specs.List.{All}
-use Rattle.std.proofs.lemmas.Bool.{cases_eq, cases_lt}
+use Rattle.std.proofs.lemmas.Bool.{cases_eq, cases_lt, or_parts}
 use Rattle.std.proofs.lemmas.List.{length-set, get_or-set_same, get_or-set_other}
 use Rattle.std.proofs.Math.ListN.{get_or-eq_default}
 use Rattle.bv_term.specs.declared.term.TermId.{TermId}
@@ -9,7 +9,7 @@ use Rattle.bv_term.specs.WellFormed.{Table}
 use Rattle.reach_tree.specs.declared.vertex.Vertex.{Vertex}
 use Rattle.reach_tree.specs.declared.vertex.NewLabel.{NewLabel}
 use Rattle.reach_tree.specs.Trees.{vertex_at, changed, relabelled, root_at, strengthened, with_conjunct}
-use Rattle.cover_engine.specs.Unwindings.{has, is_true_term, path_up}
+use Rattle.cover_engine.specs.Unwindings.{has, is_false_term, is_true_term, path_up, some_false}
 use Rattle.cover_engine.specs.Units.{numbers_of, refined_along, strengthened_along, strengthens}
 use Rattle.cover_engine.specs.Caches.{IsFamily, SameShape}
 use Rattle.cover_engine.specs.Settlings.{version_at}
@@ -189,3 +189,52 @@ labels_inside table vs (x ∷ xs) (f ∷ fs) m all =
     by : (c : Bool) → All (λ (l : NewLabel). l.vertex.0 < m) (new_labels_of table vs xs fs) → x < m → All (λ (l : NewLabel). l.vertex.0 < m) (if c then label_with vs x f ∷ new_labels_of table vs xs fs else new_labels_of table vs xs fs)
     by false ih lx = ih
     by true ih lx = λ k d lt. elim k as (λ j. j < suc (length (new_labels_of table vs xs fs)) → (get_or (label_with vs x f ∷ new_labels_of table vs xs fs) j d).vertex.0 < m) [ zero ↦ (λ _. lx) | suc j ↦ (λ l. ih j d (omega (arith, l))) ] lt
+
+-- nodes stay, and a label that has no conjunct false had none before
+
+change_holds : (R : Vertex → Vertex → Type 0) (vs : List Vertex) (x : ℕ) (f : Vertex → Vertex) → ((y : Vertex) → R y y) → ((y : Vertex) → R (f y) y) → (k : ℕ) → R (vertex_at (changed vs x f) k) (vertex_at vs k)
+change_holds R vs x f same more k = elim (cases_eq k x) [
+  | inr ne ↦ subst (λ (y : Vertex). R y (vertex_at vs k)) (sym (change_other vs x k f ne)) (same (vertex_at vs k))
+  | inl is ↦ elim (cases_lt x (length vs)) [
+    | inl lt ↦ subst (λ (j : ℕ). R (vertex_at (changed vs x f) j) (vertex_at vs j)) (sym is) (subst (λ (y : Vertex). R y (vertex_at vs x)) (sym (change_same vs x f lt)) (more (vertex_at vs x)))
+    | inr le ↦
+        let past : vertex_at (changed vs x f) k ≡ vertex_at vs k = get_or-eq_default (changed vs x f) (root_at (record { 0 = 0 })) (omega (arith, le, is, change_sized vs x f)) ∙ sym (get_or-eq_default vs (root_at (record { 0 = 0 })) (omega (arith, le, is))) in
+        subst (λ (y : Vertex). R y (vertex_at vs k)) (sym past) (same (vertex_at vs k))
+  ]
+]
+
+first_holds : (R : Vertex → Vertex → Type 0) (table : Table) (vs : List Vertex) (x : ℕ) (f : TermId) → ((y : Vertex) → R y y) → ((y : Vertex) → R (with_conjunct f y) y) → (k : ℕ) → R (vertex_at (first_of_path table vs x f) k) (vertex_at vs k)
+first_holds R table vs x f same more k = by (strengthens table vs x f)
+  where
+    by : (b : Bool) → R (vertex_at (if b then strengthened vs (record { 0 = x }) f else vs) k) (vertex_at vs k)
+    by true = change_holds R vs x (with_conjunct f) same more k
+    by false = same (vertex_at vs k)
+
+pub refined_nodes : (table : Table) (vs : List Vertex) (xs : List ℕ) (fs : List TermId) (k : ℕ) → (vertex_at (refined_along table vs xs fs) k).node ≡ (vertex_at vs k).node
+refined_nodes table vs [] fs k = refl
+refined_nodes table vs (x ∷ xs) [] k = refl
+refined_nodes table vs (x ∷ xs) (f ∷ fs) k =
+    refined_nodes table (first_of_path table vs x f) xs fs k ∙ first_holds (λ y z. y.node ≡ z.node) table vs x f (λ y. refl) (λ y. refl) k
+
+pub refined_edges : (table : Table) (vs : List Vertex) (xs : List ℕ) (fs : List TermId) (k : ℕ) → (vertex_at (refined_along table vs xs fs) k).by ≡ (vertex_at vs k).by
+refined_edges table vs [] fs k = refl
+refined_edges table vs (x ∷ xs) [] k = refl
+refined_edges table vs (x ∷ xs) (f ∷ fs) k =
+    refined_edges table (first_of_path table vs x f) xs fs k ∙ first_holds (λ y z. y.by ≡ z.by) table vs x f (λ y. refl) (λ y. refl) k
+
+false_front : (table : Table) (ts us : List TermId) → some_false table (ts ++ us) ≡ false → some_false table ts ≡ false
+false_front table [] us h = refl
+false_front table (t ∷ ts) us h =
+    let p = or_parts (is_false_term table t) (some_false table (ts ++ us)) h in
+    both (is_false_term table t) (some_false table ts) p.0 (false_front table ts us p.1)
+  where
+    both : (a b : Bool) → a ≡ false → b ≡ false → a || b ≡ false
+    both false b p q = q
+    both true b p q = absurd cc
+
+pub refined_false : (table : Table) (vs : List Vertex) (xs : List ℕ) (fs : List TermId) (k : ℕ) → some_false table (vertex_at (refined_along table vs xs fs) k).label ≡ false → some_false table (vertex_at vs k).label ≡ false
+refined_false table vs [] fs k h = h
+refined_false table vs (x ∷ xs) [] k h = h
+refined_false table vs (x ∷ xs) (f ∷ fs) k h =
+    first_holds (λ y z. some_false table y.label ≡ false → some_false table z.label ≡ false) table vs x f (λ y e. e) (λ y e. false_front table y.label (f ∷ []) e) k
+    (refined_false table (first_of_path table vs x f) xs fs k h)

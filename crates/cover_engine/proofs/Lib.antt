@@ -10,3 +10,4 @@ pub mod LastSettled
 pub mod Labelling
 pub mod Walking
 pub mod Kept
+pub mod Waits

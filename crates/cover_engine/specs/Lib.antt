@@ -6,3 +6,4 @@ pub mod Units
 pub mod Keeping
 pub mod WellLabelled
 pub mod Steering
+pub mod Openings

@@ -33,14 +33,15 @@ EdgeImplies g table e f h =
     → slice_get g.edges e.0 ≡ Some edge → IsWhole (widths_of g.cells) store → Holds table store f
     → Leads g.terms edge store draws after → Holds table after h
 
+-- the edge, where there is one
+abbrev pub edge_in : Option EdgeId → List EdgeId
+edge_in None = []
+edge_in (Some e) = e ∷ []
+
 -- the edges that lead to these vertices
 abbrev pub edges_to : List Vertex → List ℕ → List EdgeId
 edges_to vs [] = []
 edges_to vs (x ∷ xs) = edge_in (vertex_at vs x).by ++ edges_to vs xs
-  where
-    edge_in : Option EdgeId → List EdgeId
-    edge_in None = []
-    edge_in (Some e) = e ∷ []
 
 -- formulas along a path down from a vertex: each with the next edge implies the next, and the last is false
 abbrev pub Links : Flow → Table → List Vertex → List ℕ → List TermId → Type 0

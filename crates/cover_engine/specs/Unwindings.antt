@@ -48,6 +48,11 @@ path_up vs (suc n) v = v ∷ elim (vertex_at vs v).parent [ None ↦ [] | Some p
 abbrev pub path_of : List Vertex → VertexId → List ℕ
 path_of vs v = path_up vs (length vs) v.0
 
+-- the vertices of these numbers
+abbrev pub vertices_named : List ℕ → List VertexId
+vertices_named [] = []
+vertices_named (x ∷ xs) = record { 0 = x } ∷ vertices_named xs
+
 -- u is v or an ancestor of v
 abbrev pub is_above : List Vertex → VertexId → VertexId → Bool
 is_above vs u v = has u.0 (path_of vs v)

@@ -70,7 +70,7 @@ fn has_false(terms: &Terms, label: &[TermId]) -> bool
 }
 
 /// Whether the node of this number is an end.
-fn ends(nodes: &[Node], node: usize) -> bool
+pub fn ends(nodes: &[Node], node: usize) -> bool
     ensures { result ≡ is_end (slice_get nodes.now node) }
 {
     if node >= nodes.len() {

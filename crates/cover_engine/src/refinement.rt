@@ -14,7 +14,7 @@ use reach_tree::{Label, NewLabel, Tree, Vertex, VertexId};
 use std::alloc::Global;
 
 /// The numbers on the path of a vertex, from itself up to the root.
-fn path_to(alloc: Global, vertices: &[Vertex], v: VertexId) -> Result<Vec<u32>, Memory>
+pub fn path_to(alloc: Global, vertices: &[Vertex], v: VertexId) -> Result<Vec<u32>, Memory>
     ensures { IfOk result (λ p. p.items ≡ path_of vertices.now v) }
 {
     let mut path = Vec::new(alloc);

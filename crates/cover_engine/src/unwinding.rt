@@ -1,32 +1,38 @@
-ghost use Rattle.std.specs.Prelude.{◌≡◌, ◌<◌, ◌∷◌, ◌++◌, [], false, length, replicate, slice_get, IfOk, OnOk, OnErr, Some};
+ghost use Rattle.std.specs.Prelude.{◌≡◌, ◌<◌, ◌∷◌, ◌++◌, [], false, true, length, replicate, reverse, slice_get, IfOk, OnOk, OnErr, Some};
 ghost use Rattle.std.specs.HashMap.{Updates, get};
 ghost use Rattle.bv_term.specs.WellFormed.{FitsTable};
 ghost use Rattle.bv_term.specs.Laws.{IsPut};
 ghost use Rattle.reach_tree.specs.Trees.{MayExpand, expanded};
 ghost use Rattle.cover_engine.specs.declared.settling.Sides.{Sides};
 ghost use Rattle.cover_engine.specs.declared.unit.UnitDone.TheVariants.{Expand};
-ghost use Rattle.cover_engine.specs.Unwindings.{is_complete, is_covered, is_open_leaf, may_pair, may_settle, stays_apart, yes_since};
+ghost use Rattle.cover_engine.specs.Unwindings.{is_complete, is_covered, is_open_leaf, may_pair, may_settle, path_of, stays_apart, vertices_named, yes_since};
 ghost use Rattle.cover_engine.specs.Settlings.{same_sides};
-ghost use Rattle.cover_engine.specs.Units.{CanCover, CanExpand, CanPart, CanRefine, Legal, after_cover, after_expand, after_part, after_refine, start};
+ghost use Rattle.cover_engine.specs.Openings.{IsHighestLeaf};
+ghost use Rattle.cover_engine.specs.Units.{CanCover, CanExpand, CanPart, CanRefine, Legal, after_cover, after_expand, after_part, after_refine, edges_to, start};
 
 use crate::covering::{below_lefts_of, below_of, lower, raise};
 use crate::look_up::{above_at, closed_at, entry_of};
 use crate::pairs::Pairs;
-use crate::refinement::{labelled_by, labels_along};
+use crate::paths::{Path, path_down};
+use crate::refinement::{labelled_by, labels_along, path_to};
 use crate::settling::{Settling, Sides, apart_since, apart_with, covered_now, covered_since};
 use crate::unit::{Apart, FormulaList, UnitDone};
+use crate::waiting::{
+    Found, are_ends, highest_by_number, highest_waiting, wait_for, wait_for_leaves, wait_from,
+};
 use bv_term::{Term, TermId, Terms};
 use c_graph::{Graph, Store};
 use lv_base::Memory;
 use reach_tree::{Tree, Vertex, VertexId};
 use std::alloc::Global;
-use std::collections::HashMap;
+use std::collections::{BTreeSet, HashMap};
 use std::marker::Model;
 
 /// A tree of paths whose vertices cover each other, with the units that made it.
 ///
 /// Beside these it keeps what its look-ups answer from: `covers` has for each vertex how many left sides stand on its
-/// path; `settled` tells of each pair how it was settled last; `refines` counts the Refines.
+/// path; `settled` tells of each pair how it was settled last; `refines` counts the Refines; `waiting` has each vertex that
+/// may be an open leaf, but for those at a node of `ends`.
 #[derive(Drop)]
 pub struct Unwinding {
     tree: Tree,
@@ -36,11 +42,14 @@ pub struct Unwinding {
     covers: Vec<u32>,
     settled: HashMap<Sides, Settling>,
     refines: u32,
+    waiting: BTreeSet<u32>,
+    ends: Vec<u32>,
 }
 
 impl Model for Unwinding {
     ghost use Rattle.cover_engine.specs.Unwindings.{Unwound};
     ghost use Rattle.cover_engine.specs.Keeping.{IsKept};
+    ghost use Rattle.cover_engine.specs.Openings.{AreWaiting};
 
     ghost Value = { Unwound };
 
@@ -52,7 +61,8 @@ impl Model for Unwinding {
       apart = u.apart.items;
     } };
 
-    ghost invariant = { λ u. IsKept u.tree.vertices u.pairs u.journal.items u.apart.items u.covers.items u.refines u.settled };
+    ghost invariant = { λ u. IsKept u.tree.vertices u.pairs u.journal.items u.apart.items u.covers.items u.refines u.settled
+      × AreWaiting u.tree.vertices u.tree.terms u.covers.items u.ends.items u.waiting };
 }
 
 impl Unwinding {
@@ -64,6 +74,8 @@ impl Unwinding {
     {
         let tree = Tree::new(alloc, graph)?;
         let covers = [0].to_vec(alloc)?;
+        let mut waiting = BTreeSet::new(alloc);
+        wait_for(&mut waiting, 0)?;
         Ok(Unwinding {
             tree,
             pairs: Pairs::new(alloc),
@@ -72,6 +84,8 @@ impl Unwinding {
             covers,
             settled: HashMap::new(alloc),
             refines: 0,
+            waiting,
+            ends: Vec::new(alloc),
         })
     }
 
@@ -101,6 +115,16 @@ impl Unwinding {
         ensures { result.now ≡ self.now.journal }
     {
         &self.journal
+    }
+
+    /// The path of a vertex: its vertices from the root down, and the edges between them.
+    pub fn path_to(&self, alloc: Global, v: VertexId) -> Result<Path, Memory>
+        ensures vertices { IfOk result (λ p. p.vertices ≡ vertices_named (reverse (path_of self.now.vertices v))) }
+        ensures edges { IfOk result (λ p. p.edges ≡ edges_to self.now.vertices (reverse (path_of self.now.vertices v))) }
+    {
+        let vertices = self.tree.vertices();
+        let upwards = path_to(alloc, vertices, v)?;
+        path_down(alloc, vertices, &upwards)
     }
 
     /// Whether the vertex or an ancestor is the left side of a pair. It takes no memory.
@@ -179,21 +203,50 @@ impl Unwinding {
         true
     }
 
+    /// The open leaf of highest number; there is none where the unwinding is complete. It looks only at vertices that may be
+    /// open leaves, and at no other above the highest, but where memory for their nodes is wanting or the ends of the graph
+    /// are others than those of an earlier call.
+    pub fn highest_open(&mut self, graph: &Graph) -> Option<VertexId>
+        ensures highest { IsHighestLeaf graph.now self.old result }
+        ensures unchanged { self.new ≡ self.old }
+    {
+        let nodes = graph.nodes();
+        if !are_ends(nodes, &self.ends) {
+            return highest_by_number(nodes, &self.tree, &self.covers);
+        }
+        let found = highest_waiting(
+            &mut self.waiting,
+            &mut self.ends,
+            nodes,
+            &self.tree,
+            &self.covers,
+        );
+        match found {
+            Found::Known(leaf) => leaf,
+            Found::Unknown => highest_by_number(nodes, &self.tree, &self.covers),
+        }
+    }
+
     /// Gives an open leaf at a plain node one child for each edge that leads from it, in the order of the edges.
     pub fn expanded(&mut self, alloc: Global, graph: &Graph, v: VertexId) -> Result<(), Memory>
-        requires legal { Legal graph.now self.old }
-        requires can { CanExpand graph.now self.old v }
+        requires { CanExpand graph.now self.old v }
         ensures done { OnOk result (self.new ≡ after_expand graph.now self.old v) }
-        ensures legal { Legal graph.now self.new }
+        ensures legal { Legal graph.now self.old → Legal graph.now self.new }
         ensures unchanged { OnErr result (self.new ≡ self.old) }
     {
         if self.journal.len() >= u32::MAX as usize {
             return Err(Memory);
         }
         let edges = graph.outs(alloc, self.tree.vertices()[v.0 as usize].node)?;
+        let first = self.tree.vertices().len();
+        let born = edges.len();
+        if born > u32::MAX as usize - first {
+            return Err(Memory);
+        }
+        wait_from(&mut self.waiting, first as u32, born as u32)?;
         let above = self.covers[v.0 as usize];
         let count = self.covers.len();
-        let mut covers = filled(alloc, above, edges.len())?;
+        let mut covers = filled(alloc, above, born)?;
         self.covers.append(&mut covers)?;
         match expand_both(alloc, graph, &mut self.tree, &mut self.journal, v) {
             Ok(()) => Ok(()),
@@ -204,9 +257,10 @@ impl Unwinding {
         }
     }
 
-    /// Strengthens the path of an open error leaf by formulas, one for each of its vertices from the root on, which are a
-    /// chain from true to false. A vertex is strengthened exactly where its formula is neither true nor already a conjunct
-    /// of its label; the pairs onto those that are strengthened go.
+    /// Strengthens the path of a vertex by formulas, one for each of its vertices from the root on. A vertex is strengthened
+    /// exactly where its formula is neither true nor already a conjunct of its label; the pairs onto those that are
+    /// strengthened go. The unit is legal where the vertex is an open leaf at an error and the formulas are a chain from true
+    /// to false.
     pub fn refined(
         &mut self,
         alloc: Global,
@@ -214,10 +268,9 @@ impl Unwinding {
         v: VertexId,
         formulas: FormulaList,
     ) -> Result<(), Memory>
-        requires legal { Legal graph.now self.old }
-        requires can { CanRefine graph.now self.old v formulas }
+        requires { v.0 < length self.old.vertices }
         ensures done { OnOk result (self.new ≡ after_refine self.old v formulas) }
-        ensures legal { Legal graph.now self.new }
+        ensures legal { Legal graph.now self.old → CanRefine graph.now self.old v formulas → Legal graph.now self.new }
         ensures unchanged { OnErr result (self.new ≡ self.old) }
     {
         let _ = graph.entry();
@@ -228,6 +281,7 @@ impl Unwinding {
         let strengthened = labelled_by(alloc, &labels)?;
         let fallen = self.pairs.fallen_onto(alloc, &strengthened)?;
         let lowered = below_lefts_of(alloc, self.tree.vertices(), &fallen)?;
+        wait_for_leaves(&mut self.waiting, self.tree.vertices(), &lowered)?;
         self.journal.push(UnitDone::Refine(v, formulas))?;
         lower(&mut self.covers, &lowered);
         self.tree.relabel(labels);
@@ -247,7 +301,8 @@ impl Unwinding {
         self.tree.put(term)
     }
 
-    /// Covers the first vertex by the second, whose label its own implies. The pairs onto it and onto those below it go.
+    /// Covers the first vertex by the second. The pairs onto it and onto those below it go. The unit is legal where the first
+    /// label implies the second.
     pub fn cover_yes(
         &mut self,
         alloc: Global,
@@ -255,10 +310,11 @@ impl Unwinding {
         v: VertexId,
         w: VertexId,
     ) -> Result<(), Memory>
-        requires legal { Legal graph.now self.old }
-        requires can { CanCover graph.now self.old v w }
+        requires left { v.0 < length self.old.vertices }
+        requires right { w.0 < length self.old.vertices }
+        requires pair { may_pair self.old v w ≡ true }
         ensures done { OnOk result (self.new ≡ after_cover self.old v w) }
-        ensures legal { Legal graph.now self.new }
+        ensures legal { Legal graph.now self.old → CanCover graph.now self.old v w → Legal graph.now self.new }
         ensures unchanged { OnErr result (self.new ≡ self.old) }
     {
         let _ = graph.entry();
@@ -269,6 +325,7 @@ impl Unwinding {
         let raised = below_of(alloc, vertices, v.0)?;
         let fallen = self.pairs.fallen_under(alloc, vertices, v, &raised)?;
         let lowered = below_lefts_of(alloc, vertices, &fallen)?;
+        wait_for_leaves(&mut self.waiting, vertices, &lowered)?;
         let sides = Sides::of(v, w);
         let settling = covered_now(self.settled.get(&sides).copied(), self.refines);
         let unit = UnitDone::CoverYes(v, w);
@@ -287,7 +344,8 @@ impl Unwinding {
         }
     }
 
-    /// Keeps the pair apart by a store that meets the first vertex's label and not the second's.
+    /// Keeps the pair apart by a store. The unit is legal where the pair may be settled and the store meets the first
+    /// vertex's label and not the second's.
     pub fn cover_no(
         &mut self,
         graph: &Graph,
@@ -295,10 +353,10 @@ impl Unwinding {
         w: VertexId,
         store: Store,
     ) -> Result<(), Memory>
-        requires legal { Legal graph.now self.old }
-        requires can { CanPart graph.now self.old v w store }
+        requires left { v.0 < length self.old.vertices }
+        requires right { w.0 < length self.old.vertices }
         ensures done { OnOk result (self.new ≡ after_part self.old v w store) }
-        ensures legal { Legal graph.now self.new }
+        ensures legal { Legal graph.now self.old → CanPart graph.now self.old v w store → Legal graph.now self.new }
         ensures unchanged { OnErr result (self.new ≡ self.old) }
     {
         let _ = graph.entry();
