@@ -1,6 +1,7 @@
 -- The labels that a Refine gives have terms of width 1.
 use Rattle.std.proofs.Common.{◌≡◌, ℕ, ◌+◌, ◌<◌, ◌≤◌, Bool, true, false, List, [], ◌∷◌, ◌++◌, length, reverse, refl, sym, ap, ◌∙◌, subst, arith, zero, suc, if◌then◌else◌}
 use Rattle.std.specs.List.{All}
+use Rattle.std.proofs.lemmas.List.{reverse-append}
 use Rattle.std.proofs.lemmas.List.Elements.{All-nil, All-cons, All-append}
 use Rattle.bv_term.specs.declared.term.TermId.{TermId}
 use Rattle.bv_term.specs.WellFormed.{Table}
@@ -35,7 +36,8 @@ labels_along_path table vs (x ∷ xs) (f ∷ fs) all h =
 turned : (table : Table) (fs : List TermId) → IsLabel table fs → IsLabel table (reverse fs)
 turned table [] h = All-nil (Wide table)
 turned table (f ∷ fs) h =
-    All-append (Wide table) (reverse fs) (f ∷ []) (turned table fs (λ k d lt. h (suc k) d (omega (arith, lt)))) (All-cons (Wide table) f [] (h 0 f (omega arith)) (All-nil (Wide table)))
+    subst (IsLabel table) (sym (reverse-append (f ∷ []) fs))
+    (All-append (Wide table) (reverse fs) (f ∷ []) (turned table fs (λ k d lt. h (suc k) d (omega (arith, lt)))) (All-cons (Wide table) f [] (h 0 f (omega arith)) (All-nil (Wide table))))
 
 pub labels_labelled : (table : Table) (vs : List Vertex) (xs : List ℕ) (fs : List TermId) → AreLabelled table vs → IsLabel table fs
     → All (λ l. IsLabel table l.label) (new_labels_of table vs xs (reverse fs))

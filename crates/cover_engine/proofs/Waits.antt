@@ -1,15 +1,15 @@
 -- The vertices that may be open leaves, through each unit.
-use Rattle.std.proofs.Common.{◌≡◌, ◌≢◌, ℕ, ◌+◌, ◌-◌, ◌<◌, ◌≤◌, Bool, true, false, not, cond, List, [], ◌∷◌, ◌++◌, length, Option, Some, None, ◌⊎◌, inl, inr, refl, sym, ap, ◌∙◌, subst, arith, zero, suc, get_or, slice_get, replicate, nat_eq, nat_lt, eq-eqb, ◌||◌, ◌&&◌, IsTrue, BTreeSet}
+use Rattle.std.proofs.Common.{◌≡◌, ◌≢◌, ℕ, ◌+◌, ◌-◌, ◌<◌, ◌≤◌, Bool, true, false, not, cond, List, [], ◌∷◌, ◌++◌, length, Option, Some, None, ◌⊎◌, inl, inr, refl, sym, ap, ◌∙◌, subst, arith, zero, suc, get_or, slice_get, replicate, nat_eq, nat_lt, eq-eqb, ◌||◌, ◌&&◌, IsTrue, BTreeSet, if◌then◌else◌}
 use Rattle.std.specs.BTreeSet.{Updates, btree_set_len}
 use Rattle.std.specs.BTreeMap.{is_at}
 use Rattle.std.specs.Ordering.{nat_cmp, is_lt}
 use Rattle.std.specs.List.{list_any}
-use Rattle.std.proofs.lemmas.Bool.{cases_Bool, cases_eq, cases_lt, and_parts, both_ways, eqb-true, lt-ltb, ltb-true, ne_eqb, or_cases, or_from, or_left, or_parts, or_right}
+use Rattle.std.proofs.lemmas.Bool.{cases_Bool, cases_eq, cases_lt, and_parts, both_ways, eqb-true, le-ltb, lt-ltb, ltb-true, ne_eqb, or_cases, or_from, or_left, or_parts, or_right}
 use Rattle.std.proofs.lemmas.List.{get_or_append_left, get_or-append-add, get_or_default}
 use Rattle.std.specs.Prelude.{Result, Ok, Err, IfOk, OnErr}
 use Rattle.bv_term.specs.declared.term.TermId.{TermId}
 use Rattle.bv_term.specs.declared.term.Term.{Term}
-use Rattle.bv_term.specs.Laws.{IsPut}
+use Rattle.bv_term.specs.Laws.{Extends, IsPut}
 use Rattle.bv_term.specs.WellFormed.{Table}
 use Rattle.c_graph.specs.declared.graph.Node.{Node}
 use Rattle.c_graph.specs.declared.graph.NodeId.{NodeId}
@@ -90,6 +90,11 @@ ends_push nodes (x ∷ xs) n e h =
     by : (a b : Bool) → a ≡ true → b ≡ true → a && b ≡ true
     by true b p q = q
     by false b p q = absurd cc
+
+-- a node that is an end was noted, or there was no memory for it
+pub ends_pushed : (nodes : List Node) (xs new : List ℕ) (n : ℕ) (b : Bool) → new ≡ (if b then xs ++ n ∷ [] else xs) → is_end (slice_get nodes n) ≡ true → all_end nodes xs ≡ true → all_end nodes new ≡ true
+ends_pushed nodes xs new n true is e h = ap (all_end nodes) is ∙ ends_push nodes xs n h e
+ends_pushed nodes xs new n false is e h = ap (all_end nodes) is ∙ h
 
 pub has_push : (xs : List ℕ) (n m : ℕ) → has n xs ≡ true → has n (xs ++ m ∷ []) ≡ true
 has_push [] n m h = absurd cc
@@ -185,8 +190,10 @@ none_open_waits nodes table vs counts ends set a known empty k lt = elim (cases_
 -- in the words of the unwinding
 
 zero_not : (n : ℕ) → nat_eq n 0 ≡ not (nat_lt 0 n)
-zero_not zero = refl
-zero_not (suc n) = refl
+zero_not n = elim (cases_eq n 0) [
+  | inl e ↦ eq-eqb n 0 e ∙ sym (ap not (le-ltb 0 n (omega (arith, e))))
+  | inr ne ↦ ne_eqb n 0 ne ∙ sym (ap not (lt-ltb 0 n (omega (arith, ne))))
+]
 
 opens_is : (g : Flow) (u : Unwound) (counts : List ℕ) (k : ℕ) → AreCovers u.vertices u.pairs counts → k < length u.vertices
     → opens g.nodes u.terms u.vertices counts k ≡ is_open_leaf g u (record { 0 = k })
@@ -283,3 +290,11 @@ waiting_put vs old new counts ends set t put a k lt none zero' no_false away = a
 pub put_or_same : {E : Type 0} (r : Result TermId E) (old new : Branches) (t : Term) → IfOk r (λ id. IsPut old.terms new.terms t) → OnErr r (new ≡ old) → IsPut old.terms new.terms t
 put_or_same (Ok id) old new t a b = a
 put_or_same (Err e) old new t a b = inl (ap (λ (x : Branches). x.terms) b)
+
+false_kept : (old new : Table) → Extends old new → (x : TermId) → is_false_term old x ≡ true → is_false_term new x ≡ true
+false_kept old new g x e =
+    bit_stays 0 (slice_get old.terms x.0) (slice_get new.terms x.0) (λ s is. ap (λ (ts : List Term). slice_get ts x.0) g.1.1 ∙ get_front old.terms g.1.0 x.0 s is) e
+
+pub waiting_stays : (vs : List Vertex) (old new : Table) (counts ends : List ℕ) (set : BTreeSet ℕ) → Extends old new → AreWaiting vs old counts ends set → AreWaiting vs new counts ends set
+waiting_stays vs old new counts ends set g a k lt none zero' no_false away =
+    a k lt none zero' (fine_before old new (false_kept old new g) (vertex_at vs k).label no_false) away

@@ -203,6 +203,14 @@ fn certificates_as_text() {
 }
 
 #[test]
+fn unwindings() {
+    unwinding_laws::legal_is_well_labelled();
+    unwinding_laws::growing_tables_keep_legality();
+    unwinding_laws::legal_is_a_tree();
+    unwinding_laws::legal_paths_are_of_edges();
+}
+
+#[test]
 fn diagrams_that_grow() {
     formula_diagrams::laws::truths_stay();
 }

@@ -6,4 +6,5 @@ pub mod Units
 pub mod Refinement
 pub mod Expansion
 pub mod Journals
+pub mod Rooting
 pub mod Tables

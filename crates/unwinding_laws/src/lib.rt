@@ -5,7 +5,7 @@
 #![tactic(auto)]
 
 ghost use Rattle.cover_engine.specs.WellLabelled.{LegalIsWellLabelled};
-ghost use Rattle.unwinding_laws.specs.Laws.{GrowingTablesKeepLegality};
+ghost use Rattle.unwinding_laws.specs.Laws.{GrowingTablesKeepLegality, LegalIsATree, LegalPathsAreOfEdges};
 
 /// A legal unwinding is well labelled, whatever legal units made it: its root's label is true, each vertex's label with
 /// the edge to a child implies the child's label, a vertex has no children or one for each edge that leads on, and each
@@ -17,4 +17,16 @@ pub fn legal_is_well_labelled()
 /// An unwinding stays legal where further terms come to its table, as `Unwinding::put` adds them.
 pub fn growing_tables_keep_legality()
     ensures { GrowingTablesKeepLegality }
+{}
+
+/// A legal unwinding is a tree of paths of its graph: its first vertex is at the entry and is the only one without a
+/// parent; each other one has a parent of a lower number, among whose children it is, and came by an edge that leads from
+/// the parent's node to its own. Both sides of each pair are vertices, and the left side is not the root.
+pub fn legal_is_a_tree()
+    ensures { LegalIsATree }
+{}
+
+/// The edges that lead to vertices of a legal unwinding, as `Unwinding::path_to` answers them, are edges of the graph.
+pub fn legal_paths_are_of_edges()
+    ensures { LegalPathsAreOfEdges }
 {}

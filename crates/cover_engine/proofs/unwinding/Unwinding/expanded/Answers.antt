@@ -1,4 +1,4 @@
-use Rattle.std.proofs.Common.{◌≡◌, ◌<◌, ◌∙◌, ◌++◌, ◌+◌, ◌≤◌, ℕ, true, [], ap, sym, subst, length, rules, arith}
+use Rattle.std.proofs.Common.{◌≡◌, ◌<◌, ◌∙◌, ◌++◌, ◌+◌, ◌≤◌, ℕ, true, [], ap, sym, subst, length, List, rules, arith}
 use Rattle.std.proofs.lemmas.Grind.{common_steps, get_or_default_zero}
 use Rattle.c_graph.specs.Shape.{outs}
 use Rattle.reach_tree.specs.declared.vertex.Vertex.{Vertex}
@@ -20,8 +20,9 @@ invariant_of-self-in-Ok c =
     let out : c.in_ok-edges.edges.items ≡ outs c.args.graph.now (vertex_at c.self.inside.tree.vertices c.args.v.0).node =
     c.in_ok-edges.ensures ∙ ap (λ (x : Vertex). outs c.args.graph.now x.node) (vertex-read c.vertices.result.now c.self.inside.tree.vertices c.index-vertices-v.result c.args.v.0 c.vertices.ensures.value lv) in
     let sized : length c.self.inside.covers.items ≡ length c.self.inside.tree.vertices = c.self.invariant.0.counts_are.sized in
+    let first : length c.vertices-first.result.now ≡ length c.self.inside.tree.vertices = ap (λ (xs : List Vertex). length xs) c.vertices-first.ensures.value in
     let there : (j : ℕ) → length c.self.inside.tree.vertices ≤ j → j < length c.self.inside.tree.vertices + c.len-born.result → waits c.wait_from.new.waiting j ≡ true =
-    λ j le lt. c.in_ok-wait_from.ensures.there j (omega (arith, le)) (omega (arith, lt)) in
+    λ j le lt. c.in_ok-wait_from.ensures.there j (omega (arith, le, first)) (omega (arith, lt, first)) in
     let waiting : AreWaiting c.self.inside.tree.vertices c.expand_both.new.tree.terms c.self.inside.covers.items c.self.inside.ends.items c.self.inside.waiting =
     subst (λ (table : Table). AreWaiting c.self.inside.tree.vertices table c.self.inside.covers.items c.self.inside.ends.items c.self.inside.waiting) (sym c.expand_both.ensures.terms) c.self.invariant.1 in
     (kept_expanded c.args.graph.now c.self.inside.tree.vertices c.expand_both.new.tree.vertices c.self.inside.pairs c.self.inside.journal.items c.expand_both.new.journal.items c.self.inside.apart.items
