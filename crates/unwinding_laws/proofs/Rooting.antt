@@ -220,13 +220,13 @@ one_there g vs h x e is = elim (cases_lt x (length vs)) [
 
 edges_there : (g : Flow) (vs : List Vertex) → Rooted g vs → (xs : List ℕ) → All (λ e. e.0 < length g.edges) (edges_to vs xs)
 edges_there g vs h [] = λ k d lt. absurd (omega (arith, lt))
-edges_there g vs h (x ∷ xs) = by (vertex_at vs x).by (λ e is. one_there g vs h x e is)
+edges_there g vs h (x ∷ xs) = by (vertex_at vs x).by (λ e is. one_there g vs h x e is) (edges_there g vs h xs)
   where
-    by : (o : Option EdgeId) → ((e : EdgeId) → o ≡ Some e → e.0 < length g.edges) → All (λ e. e.0 < length g.edges) (edge_in o ++ edges_to vs xs)
-    by None there = edges_there g vs h xs
-    by (Some e) there = λ k d lt. elim k as (λ j. j < suc (length (edges_to vs xs)) → (slice_index_or (e ∷ edges_to vs xs) j d).0 < length g.edges) [
+    by : (o : Option EdgeId) → ((e : EdgeId) → o ≡ Some e → e.0 < length g.edges) → All (λ e. e.0 < length g.edges) (edges_to vs xs) → All (λ e. e.0 < length g.edges) (edge_in o ++ edges_to vs xs)
+    by None there rest = rest
+    by (Some e) there rest = λ k d lt. elim k as (λ j. j < suc (length (edges_to vs xs)) → (slice_index_or (e ∷ edges_to vs xs) j d).0 < length g.edges) [
       | zero ↦ (λ _. there e refl)
-      | suc j ↦ (λ l. edges_there g vs h xs j d (omega (arith, l)))
+      | suc j ↦ (λ l. rest j d (omega (arith, l)))
     ] lt
 
 pub legal_edges : (g : Flow) (u : Unwound) (path : List ℕ) → Legal g u → All (λ e. e.0 < length g.edges) (edges_to u.vertices path)
