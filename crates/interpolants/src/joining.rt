@@ -63,16 +63,16 @@ pub trait Algebra {
         ensures keeps { keeps self.old self.new }
         ensures made { IfOk result (has self.new) };
 
-    /// Each keeps what it has.
+    // Each keeps what it has.
     ghost none: { (a : Self) → keeps a a };
 
-    /// What is kept twice is kept.
+    // What is kept twice is kept.
     ghost again: { (a b c : Self) → keeps a b → keeps b c → keeps a c };
 
-    /// Formulas stay.
+    // Formulas stay.
     ghost stays: { (a b : Self) (f : Formula) → keeps a b → has a f → has b f };
 
-    /// The cells stay.
+    // The cells stay.
     ghost same_cells: { (a b : Self) → keeps a b → cells b ≡ cells a };
 }
 
