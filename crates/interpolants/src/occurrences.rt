@@ -2,7 +2,6 @@
 
 ghost use Rattle.std.specs.Prelude.{◌≡◌, ◌≤◌, length, IfOk};
 ghost use Rattle.std.specs.List.Sorted.{IsStrictlyIncreasing};
-ghost use Rattle.resolution_log.specs.Codes.{CoversAll};
 ghost use Rattle.interpolants.specs.Sources.{is_noted};
 
 use lv_base::Memory;
@@ -27,6 +26,50 @@ impl Model for Ends {
     ghost view = { λ e. (e.vars.items, e.ends.items) };
 
     ghost invariant = { λ e. IsStrictlyIncreasing e.vars.items × (length e.vars.items ≤ 67108864) × (length e.ends.items ≡ length e.vars.items) };
+}
+
+// A number, or the one behind a variable of the clause, whichever is greatest.
+fn raised(bound: u64, clause: &[Lit]) -> u64 {
+    let mut bound = bound;
+    for lit in clause {
+        bound = bound.max(u64::from(lit.var) + 1);
+    }
+    bound
+}
+
+// The number behind all variables of clauses.
+fn bound_of(clauses: &Clauses) -> u64 {
+    let mut bound = 0u64;
+    for number in 0..clauses.len() {
+        bound = raised(bound, clauses.clause(number));
+    }
+    bound
+}
+
+// All variables below a number.
+fn all_below(alloc: Global, bound: u32) -> Result<Vec<u32>, Memory>
+    ensures rising { IfOk result (λ vars. IsStrictlyIncreasing vars.items) }
+    ensures length { IfOk result (λ vars. length vars.items ≡ bound) }
+{
+    let mut vars = Vec::new(alloc);
+    for var in 0..bound {
+        vars.push(var)?;
+    }
+    Ok(vars)
+}
+
+// Rising variables, those of the clauses among them: all below a number, so that each is its own place, where these are no more than the
+// clauses have literals.
+fn numbered(alloc: Global, clauses: &Clauses) -> Result<Vec<u32>, Memory>
+    ensures rising { IfOk result (λ vars. IsStrictlyIncreasing vars.items) }
+    ensures few { IfOk result (λ vars. length vars.items ≤ 67108864) }
+{
+    let bound = bound_of(clauses);
+    if bound <= clauses.literals() {
+        return all_below(alloc, bound as u32);
+    }
+    let vars = variables(alloc, clauses)?;
+    Ok(vars)
 }
 
 // Notes a number for each variable of a clause.
@@ -58,9 +101,9 @@ fn ends_of(alloc: Global, vars: &[u32], clauses: &Clauses) -> Result<Vec<u32>, M
 impl Ends {
     /// The last occurrences in these clauses.
     pub fn new(alloc: Global, clauses: &Clauses) -> Result<Ends, Memory>
-        ensures { IfOk result (λ e. CoversAll e.0 clauses.now) }
+        ensures { IfOk result (λ e. length e.1 ≡ length e.0) }
     {
-        let vars = variables(alloc, clauses)?;
+        let vars = numbered(alloc, clauses)?;
         let ends = ends_of(alloc, &vars, clauses)?;
         Ok(Ends { vars, ends })
     }
