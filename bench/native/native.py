@@ -56,6 +56,7 @@ def translated(text, is_root, is_main):
     text = re.sub(r"#\[derive\(([^)]*)\)\]", derive, text)
     text = re.sub(r"\s*\+ Drop\b", "", text)
     text = re.sub(r"(<(?:\w+, )*\w+): Drop>", r"\1>", text)
+    text = re.sub(r"(\btype \w+): Drop;", r"\1;", text)
     text = re.sub(r"\+ Clone\b", "+ CloneR", text)
     text = text.replace("Box::new(", "rstd::box_new(").replace("Box::into_inner(", "rstd::box_into(")
     text = re.sub(r"\.to_vec\(", ".to_vec_r(", text)

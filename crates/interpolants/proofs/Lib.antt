@@ -1,0 +1,5 @@
+pub mod Leading
+pub mod Cutting
+pub mod Listing
+pub mod Marking
+pub mod Bits

@@ -1,0 +1,24 @@
+use Rattle.std.proofs.Common.{◌≡◌, ◌≢◌, ◌+◌, ◌-◌, List, [], ◌∷◌, ◌++◌, length, sym, ap, ◌∙◌, arith}
+use Rattle.std.proofs.lemmas.Bool.{both_ways, eq-eqb, eqb-true}
+use Rattle.bv_term.specs.declared.term.TermId.{TermId}
+use Rattle.formula_diagrams.proofs.Putting.{extends-twice}
+use Rattle.interpolants.proofs.Listing.{formulas-one, formulas-more}
+use Rattle.interpolants.proofs.formulas.chain.Goals as goal
+
+pub returns-then-is_empty-clause-formulas : goal.returns-then-is_empty-clause-formulas
+returns-then-is_empty-clause-formulas c =
+    let e = c.in_ok-push.ensures.items ∙ ap (λ (ts : List TermId). ts ++ c.in_ok-first.first ∷ []) c.new-formulas.ensures.items in
+    let none : length c.args.path.now ≡ 0 = eqb-true (length c.args.path.now) 0 (sym c.is_empty.ensures ∙ c.if-is_empty.true) in
+    let few : length c.args.query.now.starts - 1 ≡ 0 = omega (arith, none, c.requires.query.starts) in
+    formulas-one c.put_end.new.terms c.put_inner.new.terms _ _ c.in_ok-first.first _ _ e c.put_inner.ensures.extends c.in_ok-first.ensures.bit
+    c.in_ok-first.ensures.value c.in_ok-put_inner.ensures.adds none few
+
+pub returns-clause-formulas : goal.returns-clause-formulas
+returns-clause-formulas c =
+    let e = c.in_ok-push.ensures.items ∙ ap (λ (ts : List TermId). ts ++ c.in_ok-first.first ∷ []) c.new-formulas.ensures.items in
+    let some : length c.args.path.now ≢ 0 = λ q. both_ways _ (sym c.is_empty.ensures ∙ c.if-is_empty.false) (eq-eqb (length c.args.path.now) 0 q) in
+    let many : length c.args.query.now.starts - 1 + 1 ≡ length c.args.path.now = omega (arith, some, c.requires.query.starts) in
+    let whole = extends-twice _ _ _ c.put_inner.ensures.extends c.put_end-2.ensures.extends in
+    formulas-more c.put_end.new.terms c.put_inner.new.terms c.put_end-2.new.terms _ _ c.in_ok-first.first c.in_ok-last.last _ _ _ e
+    c.put_inner.ensures.extends c.put_end-2.ensures.extends whole c.in_ok-first.ensures.bit c.in_ok-first.ensures.value
+    c.in_ok-put_inner.ensures.adds many c.in_ok-last.ensures.bit c.in_ok-last.ensures.value c.in_ok-push-2.ensures.items

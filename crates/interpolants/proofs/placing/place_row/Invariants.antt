@@ -1,0 +1,8 @@
+use Rattle.std.proofs.Common.{ℕ, List}
+use Rattle.std.specs.Prelude.{All}
+use Rattle.path_query.specs.Facts.{IsBundle}
+use Rattle.interpolants.specs.Cuts.{AreCutBits}
+use Rattle.interpolants.proofs.placing.place_row.Given as goal
+
+abbrev pub invariant-loop-back : goal.invariant-loop-back
+invariant-loop-back l = (cells : List ℕ) → All (IsBundle cells) l.bundles → AreCutBits cells l.fn.bits → AreCutBits cells l.bits

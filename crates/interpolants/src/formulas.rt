@@ -1,0 +1,181 @@
+//! A formula for each cut of a path.
+
+ghost use Rattle.std.specs.Prelude.{◌≡◌, ◌<◌, ◌-◌, ℕ, List, length, suc, All, IfOk, OnOk};
+ghost use Rattle.bv_term.specs.Laws.{Extends};
+ghost use Rattle.c_graph.specs.Shape.{widths_of};
+ghost use Rattle.formula_diagrams.specs.Writings.{IsOneBit};
+ghost use Rattle.path_query.specs.Facts.{IsBundle, IsQuery};
+ghost use Rattle.resolution_log.specs.Chains.{IsRefutation};
+ghost use Rattle.interpolants.specs.Cuts.{Adds, AreCutBits, AreFormulas};
+
+use crate::cone::Cone;
+use crate::occurrences::Ends;
+use crate::placing::place_bits;
+use crate::plain::put_end;
+use crate::recall::Memo;
+use crate::walk::{Cut, cut_formula};
+use bv_term::{TermId, Terms};
+use c_graph::{EdgeId, Graph};
+use formula_diagrams::{DiagramFail, Diagrams, NodeId};
+use lv_base::Memory;
+use path_query::{Bundle, PathQuery};
+use resolution_log::Log;
+use std::alloc::Global;
+
+/// A formula whose diagram would have more nodes is made of plain terms.
+const MOST_NODES: u32 = 4_000;
+
+// What is known of the question and its refutation at every cut.
+#[derive(Drop)]
+struct Known {
+    ends: Ends,
+    cone: Cone,
+}
+
+fn known_of(alloc: Global, query: &PathQuery, log: &Log) -> Result<Known, Memory> {
+    let ends = Ends::new(alloc, &query.clauses)?;
+    let cone = Cone::new(alloc, query.clauses.len(), log.chains())?;
+    Ok(Known { ends, cone })
+}
+
+// The formula of a cut as a decision diagram, which is written into the table.
+fn put_diagram(
+    alloc: Global,
+    cut: &Cut,
+    memo: &mut Memo,
+    terms: &mut Terms,
+) -> Result<TermId, DiagramFail>
+    requires { AreCutBits terms.old.cells cut.now.bits.now }
+    ensures extends { Extends terms.old terms.new }
+    ensures bit { IfOk result (IsOneBit terms.new) }
+{
+    let cells = Vec::from_slice(alloc, terms.cells())?;
+    let mut diagrams = Diagrams::new(alloc, cells, MOST_NODES);
+    let formula = cut_formula(alloc, &mut diagrams, memo, cut)?;
+    let term = diagrams.written(alloc, NodeId(formula.0), terms)?;
+    Ok(term)
+}
+
+// The formula of a cut made of plain terms.
+fn put_plain(alloc: Global, cut: &Cut, memo: &mut Memo, terms: &mut Terms) -> Result<TermId, Memory>
+    requires { AreCutBits terms.old.cells cut.now.bits.now }
+    ensures extends { Extends terms.old terms.new }
+    ensures bit { IfOk result (IsOneBit terms.new) }
+{
+    let formula = cut_formula(alloc, terms, memo, cut)?;
+    Ok(TermId(formula.0))
+}
+
+// The formula of a cut.
+fn put_formula(
+    alloc: Global,
+    cut: &Cut,
+    memo: &mut Memo,
+    terms: &mut Terms,
+) -> Result<TermId, Memory>
+    requires { AreCutBits terms.old.cells cut.now.bits.now }
+    ensures extends { Extends terms.old terms.new }
+    ensures bit { IfOk result (IsOneBit terms.new) }
+{
+    match put_diagram(alloc, cut, memo, terms) {
+        Ok(term) => Ok(term),
+        Err(DiagramFail::TooLarge) => put_plain(alloc, cut, memo, terms),
+        Err(DiagramFail::Memory) => Err(Memory),
+    }
+}
+
+// The cells of a cut.
+fn bundles_at(query: &PathQuery, number: usize) -> &[Bundle]
+    requires { number < length query.now.cuts }
+    ensures { (cells : List ℕ) → All (All (IsBundle cells)) query.now.cuts → All (IsBundle cells) result.now }
+{
+    query.cuts.as_slice()[number].as_slice()
+}
+
+// The formula of a cut that is neither the first nor the last.
+fn put_at(
+    alloc: Global,
+    query: &PathQuery,
+    log: &Log,
+    known: &Known,
+    number: usize,
+    memo: &mut Memo,
+    terms: &mut Terms,
+) -> Result<TermId, Memory>
+    requires start { number < length query.now.starts }
+    requires cut { number < length query.now.cuts }
+    requires bundles { All (All (IsBundle terms.old.cells)) query.now.cuts }
+    ensures extends { Extends terms.old terms.new }
+    ensures bit { IfOk result (IsOneBit terms.new) }
+{
+    let bits = place_bits(alloc, bundles_at(query, number))?;
+    let cut = Cut {
+        clauses: &query.clauses,
+        log,
+        ends: &known.ends,
+        cone: &known.cone,
+        bits: &bits,
+        edge: query.starts.as_slice()[number],
+    };
+    put_formula(alloc, &cut, memo, terms)
+}
+
+// Adds the formulas of the cuts that are neither the first nor the last.
+fn put_inner(
+    alloc: Global,
+    query: &PathQuery,
+    log: &Log,
+    formulas: &mut Vec<TermId>,
+    terms: &mut Terms,
+) -> Result<(), Memory>
+    requires cuts { length query.now.cuts ≡ suc (length query.now.starts) }
+    requires bundles { All (All (IsBundle terms.old.cells)) query.now.cuts }
+    ensures extends { Extends terms.old terms.new }
+    ensures adds { OnOk result (Adds terms.new (length query.now.starts - 1) formulas.old.items formulas.new.items) }
+{
+    let known = known_of(alloc, query, log)?;
+    let clauses = query.clauses.len() as usize;
+    let mut memo = Memo::new(alloc, clauses + log.chains().len())?;
+    for number in 1..query.starts.as_slice().len() {
+        let formula = put_at(alloc, query, log, &known, number, &mut memo, terms)?;
+        formulas.push(formula)?;
+    }
+    Ok(())
+}
+
+/// From a refutation of a path's clauses one formula for each cut of the path, the first true and the last false.
+///
+/// By McMillan's rules a clause of the steps before the cut is the disjunction of its literals whose variables occur behind the cut, a
+/// clause behind the cut is true, a resolution on a variable that occurs behind the cut is a conjunction, and one on any other variable
+/// is a disjunction. The formula of a cut is that of the last result. A variable stands for a bit of the cut whose literal has it, with
+/// that literal's sign, and the formula also says that all bits whose literals have one variable agree.
+///
+/// At each cut it takes time in proportion to the pairs of the log from which the last result comes, but for what joining takes:
+/// formulas are decision diagrams, and so have one number where they are equal, or plain terms where a diagram has more than some
+/// thousand nodes. After a failure further terms may stand in the table.
+pub fn chain(
+    alloc: Global,
+    graph: &Graph,
+    path: &[EdgeId],
+    query: &PathQuery,
+    log: &Log,
+    terms: &mut Terms,
+) -> Result<Vec<TermId>, Memory>
+    requires query { IsQuery (widths_of graph.now.cells) (length path.now) query.now }
+    requires refuted { IsRefutation query.now.clauses log.now }
+    requires cells { terms.old.cells ≡ widths_of graph.now.cells }
+    ensures extends { Extends terms.old terms.new }
+    ensures formulas { IfOk result (λ r. AreFormulas terms.new (length path.now) r.items) }
+{
+    let _ = graph.entry();
+    let mut formulas = Vec::new(alloc);
+    let first = put_end(terms, true)?;
+    formulas.push(first)?;
+    put_inner(alloc, query, log, &mut formulas, terms)?;
+    if path.is_empty() {
+        return Ok(formulas);
+    }
+    let last = put_end(terms, false)?;
+    formulas.push(last)?;
+    Ok(formulas)
+}
