@@ -6,6 +6,8 @@
 //! obligation are satisfiable exactly where it fails: they say that it does.
 #![tactic(auto)]
 
+mod clauses;
 mod questions;
 
+pub use clauses::node_clauses;
 pub use questions::{Question, obligation_count, question_at};
