@@ -5,7 +5,6 @@ use Rattle.prop.specs.declared.BlastFail.{BlastFail}
 use Rattle.prop.specs.declared.BlastFail.TheVariants.{Over, Memory}
 use Rattle.prop.specs.Logic.{all_hold, negated}
 use Rattle.bit_gates.specs.Net.{net_clauses}
-use Rattle.bv_term.specs.declared.term.TermId.{TermId}
 use Rattle.bv_term.specs.WellFormed.{Table}
 use Rattle.bit_blast.specs.Held.{Held, blast_of, new_of}
 use Rattle.c_graph.specs.declared.graph.NodeId.{NodeId}
