@@ -97,6 +97,13 @@ impl Unwinding {
         self.tree.vertices()
     }
 
+    /// How many vertices there are. It takes no memory.
+    pub fn count(&self) -> u32
+        ensures { result ≡ length self.now.vertices }
+    {
+        self.tree.vertices().len() as u32
+    }
+
     /// The table of the terms of the labels.
     pub fn terms(&self) -> &Terms
         ensures { result.now ≡ self.now.terms }

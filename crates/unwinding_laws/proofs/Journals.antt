@@ -8,7 +8,7 @@ use Rattle.reach_tree.specs.Trees.{vertex_at, root_at}
 use Rattle.cover_engine.specs.declared.unit.UnitDone.{UnitDone}
 use Rattle.cover_engine.specs.declared.unit.UnitDone.TheVariants.{Expand, Refine, CoverYes, CoverNo}
 use Rattle.cover_engine.specs.Unwindings.{Unwound}
-use Rattle.cover_engine.specs.Units.{Can, CanAll, after, after_all, start, Legal}
+use Rattle.cover_engine.specs.Units.{Can, CanAll, Legal, after, after_all, start}
 use Rattle.cover_engine.specs.WellLabelled.{ChildFollows, LegalIsWellLabelled}
 use Rattle.unwinding_laws.proofs.Vertices.{meets_none}
 use Rattle.unwinding_laws.proofs.Units.{Good, good_part, good_cover}
@@ -55,8 +55,9 @@ good_start g table = record {
   };
 }
 
-pub good_legal : (g : Flow) (u : Unwound) → Legal g u → Good g u
-good_legal g u l = subst (Good g) (sym l.made) (good_all g (start g u.terms) u.journal (good_start g u.terms) l.units)
+-- what is kept from unit to unit holds of a legal unwinding
+pub legal_good : (g : Flow) (u : Unwound) → Legal g u → Good g u
+legal_good g u l = subst (Good g) (sym l.made) (good_all g (start g u.terms) u.journal (good_start g u.terms) l.units)
 
 pub legal_well_labelled : LegalIsWellLabelled
-legal_well_labelled g u flow table l = (good_legal g u l).well
+legal_well_labelled g u flow table l = (legal_good g u l).well

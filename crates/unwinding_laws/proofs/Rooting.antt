@@ -27,7 +27,7 @@ use Rattle.cover_engine.proofs.Subtrees.{path_some}
 use Rattle.unwinding_laws.specs.Laws.{IsChild, IsTree}
 use Rattle.unwinding_laws.proofs.Vertices.{changed_length, changed_other, changed_same, vertex_back, vertex_front}
 use Rattle.unwinding_laws.proofs.Units.{Good}
-use Rattle.unwinding_laws.proofs.Journals.{good_legal}
+use Rattle.unwinding_laws.proofs.Journals.{legal_good}
 
 -- what is kept from unit to unit
 record Rooted (g : Flow) (vs : List Vertex) : Type 0 where
@@ -185,7 +185,7 @@ root_above g vs h (suc n) k lt lk = elim (cases_lt 0 k) [
 pub legal_tree : (g : Flow) (u : Unwound) → Legal g u → IsTree g u
 legal_tree g u l =
     let h : Rooted g u.vertices = rooted_legal g u l in
-    let good : Good g u = good_legal g u l in
+    let good : Good g u = legal_good g u l in
     record {
       some = h.some;
       root = h.root;

@@ -1,2 +1,0 @@
-pub mod CutFormulas
-pub mod Laws

@@ -1,0 +1,2 @@
+pub mod Blasted
+pub mod Nodes

@@ -1,0 +1,27 @@
+-- The clauses of an obligation are refuted exactly where it holds.
+use Rattle.std.specs.Prelude.{ℕ, ◌<◌, ◌↔◌, true, false, List, length}
+use Rattle.bv_term.specs.WellFormed.{IsTable}
+use Rattle.c_graph.specs.declared.graph.NodeId.{NodeId}
+use Rattle.c_graph.specs.Shape.{Flow, IsFlow, widths_of}
+use Rattle.c_graph.specs.Steps.{IsWhole}
+use Rattle.c_graph.specs.Runs.{Formulas, HoldsAt, IsMapOf}
+use Rattle.obligations.specs.Stated.{AreRefuted, node_says}
+
+-- the formula of a node holds in every store, and in none
+abbrev pub HoldsAlways : Flow → Formulas → NodeId → Type 0
+HoldsAlways g m v = (store : List ℕ) → IsWhole (widths_of g.cells) store → HoldsAt m v store
+
+abbrev pub HoldsNever : Flow → Formulas → NodeId → Type 0
+HoldsNever g m v = (store : List ℕ) → IsWhole (widths_of g.cells) store → HoldsAt m v store → ⊥
+
+-- it is refuted that the entry's formula fails exactly where it holds in every store
+abbrev pub EntryExact : Type 0
+EntryExact =
+    (g : Flow) (m : Formulas) → IsFlow g → IsTable m.terms → IsMapOf g m
+    → (AreRefuted (node_says false m g.entry)) ↔ (HoldsAlways g m g.entry)
+
+-- it is refuted that a node's formula holds exactly where no store meets it
+abbrev pub ErrorExact : Type 0
+ErrorExact =
+    (g : Flow) (m : Formulas) (v : NodeId) → IsTable m.terms → IsMapOf g m → v.0 < length g.nodes
+    → (AreRefuted (node_says true m v)) ↔ (HoldsNever g m v)

@@ -1,0 +1,14 @@
+//! What the clauses of an obligation say, each law as the contract of a function that does nothing.
+#![tactic(auto)]
+
+ghost use Rattle.obligation_laws.specs.Laws.{EntryExact, ErrorExact};
+
+/// No assignment satisfies the clauses of the entry's obligation exactly where the entry's formula holds in every store.
+pub fn entry_exact()
+    ensures { EntryExact }
+{}
+
+/// No assignment satisfies the clauses of an error node's obligation exactly where no store meets the node's formula.
+pub fn error_exact()
+    ensures { ErrorExact }
+{}
