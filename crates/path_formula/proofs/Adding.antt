@@ -73,6 +73,12 @@ rest_cut table first h ops kept i old now new drawn draws o b e lt eo eb c r =
     = r.clauses ∙ ap (λ (t : Added). r.done ++ t.clauses) (next table h ops kept i o b lt eo eb) in
     subst (λ (t : List (List Lit)). Cut e old t new) (sym w) (cut_more e old r.done m.clauses s.clauses now new r.there c)
 
+-- an operation of a list is so whatever stands for those past the end
+pub got_again : (xs : List Operation) (i : ℕ) (d : Operation) → i < length xs → get_or xs i d ≡ get_or xs i (get_or xs i d)
+got_again [] i d less = absurd (omega (arith, less))
+got_again (y ∷ ys) zero d less = refl
+got_again (y ∷ ys) (suc k) d less = got_again ys k d (omega (arith, less))
+
 -- an operation that is left out
 pub rest_skip : (table : Table) (first h : Held) (ops : List Operation) (kept : List Bool) (i : ℕ) (old now : List (List Lit)) (drawn draws : List Bundle)
     → i < length ops → false ≡ get_or kept i false
@@ -80,13 +86,8 @@ pub rest_skip : (table : Table) (first h : Held) (ops : List Operation) (kept : 
 rest_skip table first h [] kept i old now drawn draws lt eb r = absurd (omega (arith, lt))
 rest_skip table first h (x ∷ ops) kept i old now drawn draws lt eb r =
     let o = get_or (x ∷ ops) i x in
-    rest_turn table first h h (x ∷ ops) kept i old now now drawn draws draws o false lt (same (x ∷ ops) i x o lt) eb
+    rest_turn table first h h (x ∷ ops) kept i old now now drawn draws draws o false lt (got_again (x ∷ ops) i x lt) eb
     (sym (append-nil now)) (sym (append-nil draws)) refl r
-  where
-    same : (xs : List Operation) (i : ℕ) (d e : Operation) → i < length xs → get_or xs i d ≡ get_or xs i (get_or xs i d)
-    same [] i d e less = absurd (omega (arith, less))
-    same (y ∷ ys) zero d e less = refl
-    same (y ∷ ys) (suc k) d e less = same ys k d e (omega (arith, less))
 
 past-end : {A : Type 0} (xs : List A) (i : ℕ) → length xs ≤ i → drop i xs ≡ []
 past-end [] zero le = refl

@@ -77,6 +77,10 @@ pub plans_none : (g : Flow) (es : List EdgeId) → [] ≡ plans g es → es ≡ 
 plans_none g [] h = refl
 plans_none g (e ∷ es) h = absurd (omega (arith, ap length h, length-append (plans g es) (plan_of g e es ∷ [])))
 
+pub plans_end : (g : Flow) (es : List EdgeId) (steps : List Step) → length steps ≡ 0 → map planned steps ≡ plans g es → es ≡ []
+plans_end g es [] z h = plans_none g es h
+plans_end g es (s ∷ ss) z h = absurd (omega (arith, z))
+
 abbrev made : List (List Lit) → List ℕ → List Bundle → List (List Bundle) → PathQuery
 made c s f u = record { clauses = c; starts = s; draws = f; cuts = u }
 

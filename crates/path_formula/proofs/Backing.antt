@@ -35,3 +35,8 @@ pub ops_at : (edges : List Edge) (k : ℕ) (e : Edge) → k < length edges → e
 ops_at [] k e lt h = absurd (omega (arith, lt))
 ops_at (x ∷ xs) zero e lt h = ap (λ (t : Edge). t.ops) h
 ops_at (x ∷ xs) (suc k) e lt h = ops_at xs k e (omega (arith, lt)) h
+
+pub ops_past : (edges : List Edge) (k : ℕ) → length edges ≤ k → [] ≡ operations_at edges k
+ops_past [] k le = refl
+ops_past (x ∷ xs) zero le = absurd (omega (arith, le))
+ops_past (x ∷ xs) (suc k) le = ops_past xs k (omega (arith, le))

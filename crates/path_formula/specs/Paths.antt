@@ -19,9 +19,9 @@ abbrev pub bundles_of : List (List Lit) → List ℕ → List Bundle
 bundles_of held [] = []
 bundles_of held (c ∷ cs) = record { cell = c; bits = cell_at held c } ∷ bundles_of held cs
 
--- the step's edge is there, and so are the cells that are needed behind it
+-- the cells that are needed behind the step are there
 abbrev pub IsStep : Flow → Step → Type 0
-IsStep g s = (s.edge.0 < length g.edges) × AreThere g.terms.cells s.behind.items
+IsStep g s = AreThere g.terms.cells s.behind.items
 
 -- what a question keeps while its steps are added
 pub record IsDraft (table : Table) (d : Draft) : Type 0 where

@@ -107,14 +107,18 @@ fn back_over_all(
     Ok(kept)
 }
 
-/// The operations of an edge.
-#[tactic(auto, using(crate::proofs::Backing::ops_at))]
+/// The operations of an edge, none past the last edge.
+#[tactic(auto, using(crate::proofs::Backing::ops_at, crate::proofs::Backing::ops_past))]
 pub fn operations_of(graph: &Graph, edge: EdgeId) -> &[Operation]
-    requires { edge.0 < length graph.now.edges }
     ensures value { result.now ≡ operations_at graph.now.edges edge.0 }
     ensures fits { All (OperationFits graph.now.terms) result.now }
 {
-    graph.edges()[edge.0 as usize].ops.as_slice()
+    let edges = graph.edges();
+    if (edge.0 as usize) < edges.len() {
+        edges[edge.0 as usize].ops.as_slice()
+    } else {
+        &[]
+    }
 }
 
 /// Goes back over an edge: from the cells that are needed behind it to those that are needed before it. It answers, for
@@ -125,7 +129,6 @@ pub fn needed_before(
     edge: EdgeId,
     needed: &mut BTreeSet<usize>,
 ) -> Result<Vec<bool>, Memory>
-    requires { edge.0 < length graph.now.edges }
     ensures kept { IfOk result (λ r. r.items ≡ kept_of graph.now.terms needed.old.keys (operations_at graph.now.edges edge.0)) }
     ensures needed { OnOk result (needed.new.keys ≡ needed_by_all graph.now.terms needed.old.keys (operations_at graph.now.edges edge.0)) }
     ensures there { OnOk result (All (λ c. c < length graph.now.terms.cells) needed.old.keys → All (λ c. c < length graph.now.terms.cells) needed.new.keys) }

@@ -248,7 +248,6 @@ pub fn add_edge(
     bits: &mut Bits,
     draws: &mut Vec<Bundle>,
 ) -> Result<(), BlastFail>
-    requires edge { edge.0 < length graph.now.edges }
     requires over { IsOver graph.now.terms bits.old }
     ensures clauses { OnOk result (clauses.new ≡ clauses.old ++ (added_all graph.now.terms bits.old (operations_at graph.now.edges edge.0) kept.now).clauses) }
     ensures draws { OnOk result (draws.new.items ≡ draws.old.items ++ (added_all graph.now.terms bits.old (operations_at graph.now.edges edge.0) kept.now).draws) }

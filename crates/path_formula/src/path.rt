@@ -55,7 +55,6 @@ fn step_back(
     edge: EdgeId,
     needed: &mut BTreeSet<usize>,
 ) -> Result<Step, Memory>
-    requires edge { edge.0 < length graph.now.edges }
     requires there { AreThere graph.now.terms.cells needed.old.keys }
     ensures step { IfOk result (IsStep graph.now) }
     ensures there { OnOk result (AreThere graph.now.terms.cells needed.new.keys) }
@@ -75,7 +74,6 @@ fn steps_of(
     path: &[EdgeId],
     needed: &mut BTreeSet<usize>,
 ) -> Result<Vec<Step>, Memory>
-    requires edges { All (λ e. e.0 < length graph.now.edges) path.now }
     requires none { needed.old.keys ≡ [] }
     ensures many { IfOk result (λ r. length r.items ≡ length path.now) }
     ensures steps { IfOk result (λ r. All (IsStep graph.now) r.items) }
@@ -186,7 +184,6 @@ fn take_step(alloc: Global, graph: &Graph, step: &Step, draft: &mut Draft) -> Re
 /// limit, or for want of memory or variables. It takes time in proportion to the operations of the path and to the cells
 /// that are needed at its cuts, times a logarithm.
 pub fn path_clauses(alloc: Global, graph: &Graph, path: &[EdgeId]) -> Result<PathQuery, BlastFail>
-    requires { All (λ e. e.0 < length graph.now.edges) path.now }
     ensures query { IfOk result (IsQuery (widths_of graph.now.cells) (length path.now)) }
     ensures question { IfOk result (λ q. q ≡ question_of graph.now path.now) }
     ensures cut { IfErr result (λ e. (left : List (List Lit)) × Cut e [] (question_of graph.now path.now).clauses left) }
