@@ -7,7 +7,7 @@ use Rattle.prop.specs.declared.BlastFail.{BlastFail}
 use Rattle.bit_gates.specs.Cut.{Cut}
 use Rattle.bit_gates.proofs.Cuts.{cut_more}
 use Rattle.bv_term.specs.WellFormed.{Table}
-use Rattle.bit_blast.specs.Held.{Held, fresh_lits}
+use Rattle.bit_blast.specs.Held.{Held}
 use Rattle.c_graph.specs.declared.graph.Operation.{Operation}
 use Rattle.c_graph.specs.declared.graph.Operation.TheVariants.{Assume, Set, SetAt, Draw}
 use Rattle.c_graph.specs.Shape.{OperationFits}

@@ -1,5 +1,5 @@
 -- A path's question, one more step each turn.
-use Rattle.std.proofs.Common.{◌≡◌, ℕ, ◌+◌, ◌≤◌, ◌<◌, length, List, [], ◌∷◌, ◌++◌, map, drop, get_or, arith, ap, sym, ◌∙◌, refl, suc, zero, subst, append_assoc}
+use Rattle.std.proofs.Common.{◌≡◌, ℕ, ◌+◌, ◌≤◌, length, List, [], ◌∷◌, ◌++◌, map, drop, get_or, arith, ap, sym, ◌∙◌, refl, subst, append_assoc}
 use Rattle.std.proofs.lemmas.List.{length-append, map-append, append-nil, drop_more, drop_all}
 use Rattle.prop.specs.declared.Lit.{Lit}
 use Rattle.prop.specs.declared.BlastFail.{BlastFail}
@@ -13,7 +13,6 @@ use Rattle.path_query.specs.declared.query.PathQuery.{PathQuery}
 use Rattle.path_formula.specs.declared.path.Draft.{Draft}
 use Rattle.path_formula.specs.declared.path.Step.{Step}
 use Rattle.path_formula.specs.Needs.{kept_of, needed_by_all, operations_at}
-use Rattle.path_formula.specs.Added.{Added}
 use Rattle.path_formula.specs.Paths.{bundles_of}
 use Rattle.path_formula.specs.Questions.{Begun, Plan, Stepped, plan_of, plans, planned, needed_along, stepped, asked, question_in, question_of}
 

@@ -1,5 +1,5 @@
 -- Going back over operations, one more each turn.
-use Rattle.std.proofs.Common.{◌≡◌, ℕ, ◌+◌, ◌≤◌, ◌<◌, length, List, [], ◌∷◌, drop, get_or, set, arith, ap, sym, ◌∙◌, refl, suc, zero, subst, Bool}
+use Rattle.std.proofs.Common.{◌≡◌, ℕ, ◌+◌, ◌≤◌, ◌<◌, length, List, [], ◌∷◌, drop, get_or, set, arith, ap, sym, ◌∙◌, refl, suc, zero, Bool}
 use Rattle.std.proofs.lemmas.List.{drop_more, drop-set, drop_all}
 use Rattle.bv_term.specs.WellFormed.{Table}
 use Rattle.c_graph.specs.declared.graph.Operation.{Operation}

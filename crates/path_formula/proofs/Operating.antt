@@ -1,5 +1,5 @@
 -- An operation's clauses, from those of its parts.
-use Rattle.std.proofs.Common.{◌≡◌, ℕ, ◌+◌, ◌<◌, length, List, [], ◌∷◌, ◌++◌, ap, sym, ◌∙◌, refl, subst, append_assoc}
+use Rattle.std.proofs.Common.{◌≡◌, ℕ, ◌+◌, ◌<◌, length, List, [], ◌∷◌, ◌++◌, ap, ◌∙◌, subst, append_assoc}
 use Rattle.prop.specs.declared.Lit.{Lit}
 use Rattle.prop.specs.declared.BlastFail.{BlastFail}
 use Rattle.prop.specs.Logic.{count, OnFail}

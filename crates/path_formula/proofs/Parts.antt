@@ -3,7 +3,7 @@ use Rattle.std.proofs.Common.{◌≡◌, ℕ, ◌+◌, ◌≤◌, ◌<◌, lengt
 use Rattle.prop.specs.declared.Lit.{Lit}
 use Rattle.bit_words.specs.Elements.{AllLong}
 use Rattle.bit_words.proofs.WordPuts.{map-length}
-use Rattle.bv_term.specs.WellFormed.{Table, IsTable, IsArray, IsWidth, widths}
+use Rattle.bv_term.specs.WellFormed.{Table, IsTable, IsArray, widths}
 use Rattle.bv_term.proofs.Growing.{widths-of}
 use Rattle.bit_blast.specs.Emission.{cell_at}
 use Rattle.bit_blast.specs.Held.{Held, IsOver, fresh_lits}

@@ -1,5 +1,5 @@
 -- Going over a term's parts, the highest first, finds the cells that it reads.
-use Rattle.std.proofs.Common.{◌≡◌, ℕ, ◌+◌, ◌-◌, ◌≤◌, ◌<◌, length, List, [], ◌∷◌, arith, ap, sym, ◌∙◌, refl, suc, zero, subst, ◌||◌, Bool}
+use Rattle.std.proofs.Common.{◌≡◌, ℕ, ◌+◌, ◌-◌, ◌≤◌, ◌<◌, length, List, [], ◌∷◌, arith, ap, sym, ◌∙◌, suc, subst, ◌||◌, Bool}
 use Rattle.std.specs.Prelude.{slice_get, Some}
 use Rattle.std.specs.List.Sorted.{IsPermutation}
 use Rattle.std.specs.Ordering.{nat_cmp}
@@ -7,7 +7,7 @@ use Rattle.std.specs.BinaryHeap.{IsUpperBound}
 use Rattle.std.specs.BTreeSet.{insert_key}
 use Rattle.bv_term.specs.declared.term.Term.{Term}
 use Rattle.bv_term.specs.WellFormed.{Table}
-use Rattle.bit_blast.specs.Cone.{numbers, uses_of, operands_at, falling, cone_of, pending, Wanted, AllWanted}
+use Rattle.bit_blast.specs.Cone.{numbers, uses_of, operands_at, falling, pending, Wanted, AllWanted}
 use Rattle.bit_blast.specs.Done.{is_done}
 use Rattle.bit_blast.specs.Emission.{term_at}
 use Rattle.bit_blast.proofs.ConeLemmas.{falling-next, falling-again, falling-end, falling-start, operands-at}

@@ -1,5 +1,5 @@
 -- A refused part refuses the whole.
-use Rattle.std.proofs.Common.{◌≡◌, ℕ, ◌+◌, ◌<◌, length, List, [], ◌∷◌, ◌++◌, arith, ap, sym, ◌∙◌, refl, subst}
+use Rattle.std.proofs.Common.{◌≡◌, ◌+◌, ◌<◌, length, List, [], ◌∷◌, ◌++◌, arith, ap, sym, ◌∙◌, refl, subst}
 use Rattle.std.proofs.lemmas.List.{append-nil, take_all}
 use Rattle.prop.specs.declared.Lit.{Lit}
 use Rattle.prop.specs.declared.BlastFail.{BlastFail}

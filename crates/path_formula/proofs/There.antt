@@ -1,5 +1,5 @@
 -- Needed cells are cells of the table.
-use Rattle.std.proofs.Common.{◌≡◌, ℕ, ◌+◌, ◌≤◌, ◌<◌, length, List, [], ◌∷◌, All, arith, ap, sym, ◌∙◌, suc, zero, subst, Bool, true, false, not, eqb, ◌&&◌, ◌||◌}
+use Rattle.std.proofs.Common.{ℕ, ◌+◌, ◌≤◌, ◌<◌, length, List, [], ◌∷◌, All, arith, suc, zero, Bool, not, eqb, ◌&&◌, ◌||◌}
 use Rattle.std.specs.Ordering.{nat_cmp}
 use Rattle.std.specs.BTreeMap.{is_at}
 use Rattle.std.specs.BTreeSet.{insert_key}
@@ -9,7 +9,7 @@ use Rattle.bit_gates.proofs.Within.{chosen}
 use Rattle.bv_term.specs.declared.term.Term.{Term}
 use Rattle.bv_term.specs.declared.term.Term.TheVariants.{Constant, Cell, Element, Add, Subtract, Multiply, Divide, Remainder, And, Or, Xor, Not, ShiftLeft, ShiftRight, ShiftSigned, Equal, Less, LessSigned, Select, ZeroExtend, SignExtend, Truncate, Bit}
 use Rattle.bv_term.specs.WellFormed.{Table, IsTable, Fits}
-use Rattle.bit_blast.specs.Cone.{falling, wants, cone_of}
+use Rattle.bit_blast.specs.Cone.{falling, wants}
 use Rattle.bit_blast.specs.Done.{is_done}
 use Rattle.bit_blast.specs.Emission.{term_at}
 use Rattle.bit_blast.proofs.Ready.{fits-at}

@@ -47,8 +47,8 @@ fn back_over_set_at(
     ensures gives { IfOk result (λ b. b ≡ some_needed needed.old.keys (cells_from first count)) }
     ensures needed { OnOk result (needed.new.keys
         ≡ cond (some_needed needed.old.keys (cells_from first count))
-            (with_read terms.now term.0 (with_read terms.now index.0 (with_cells needed.old.keys (cells_from first count))))
-            needed.old.keys) }
+        (with_read terms.now term.0 (with_read terms.now index.0 (with_cells needed.old.keys (cells_from first count))))
+        needed.old.keys) }
 {
     if !has_some(needed, first, count) {
         return Ok(false);

@@ -26,7 +26,10 @@ fn own_cells(term: Term) -> Span
 {
     match term {
         Term::Constant(_, _) => Span { first: 0, count: 0 },
-        Term::Cell(cell) => Span { first: cell, count: 1 },
+        Term::Cell(cell) => Span {
+            first: cell,
+            count: 1,
+        },
         Term::Element(first, count, _) => Span { first, count },
         Term::Add(_, _) => Span { first: 0, count: 0 },
         Term::Subtract(_, _) => Span { first: 0, count: 0 },

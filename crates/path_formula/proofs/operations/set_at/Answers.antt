@@ -1,4 +1,4 @@
-use Rattle.std.proofs.Common.{◌≡◌, ◌≤◌, length, ap, sym, ◌∙◌, arith, slice_index}
+use Rattle.std.proofs.Common.{◌≡◌, length, ap, ◌∙◌, arith, slice_index}
 use Rattle.bv_term.specs.WellFormed.{widths}
 use Rattle.path_formula.proofs.Parts.{array_long, narrow}
 use Rattle.path_formula.proofs.Operating.{stored_first, stored_second, stored_third}

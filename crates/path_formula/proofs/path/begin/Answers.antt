@@ -1,16 +1,10 @@
-use Rattle.std.proofs.Common.{rules, ◌≡◌, ◌<◌, ◌≤◌, ◌+◌, ◌++◌, ◌∷◌, [], All, List, length, map, suc, IfErr, IfOk, OnOk, ℕ, Bool, true, false, ap, sym, ◌∙◌, refl, arith, subst}
-use Rattle.std.proofs.lemmas.Result.{err_from_is_err_and, on_ok_weaker}
-use Rattle.c_graph.specs.Shape.{widths_of}
-use Rattle.bit_blast.specs.Held.{IsOver}
-use Rattle.path_query.specs.Facts.{IsQuery}
-use Rattle.bit_gates.specs.Cut.{Cut}
+use Rattle.std.proofs.Common.{◌≡◌, ◌++◌, ◌∷◌, [], List, ℕ, ap, sym, ◌∙◌, arith, subst}
 use Rattle.path_query.specs.declared.query.Bundle.{Bundle}
 use Rattle.bv_term.specs.WellFormed.{Table}
 use Rattle.bit_blast.specs.Held.{new_of}
 use Rattle.path_formula.proofs.Parts.{many_cells}
 use Rattle.path_formula.proofs.Drafts.{few_cells, held_there, draft_begun}
-use Rattle.path_formula.specs.Questions.{Begun, Stepped, needed_along, planned, plans, question_in, question_of, stepped}
-use Rattle.path_formula.specs.Paths.{AreThere, bundles_of, IsDraft, IsStep}
+use Rattle.path_formula.specs.Paths.{AreThere, bundles_of}
 use Rattle.path_formula.proofs.path.begin.Goals as goal
 
 pub cut_of-requires-clause-few : goal.cut_of-requires-clause-few
@@ -18,7 +12,7 @@ cut_of-requires-clause-few c =
     let ws = c.args.graph.now.terms.cells in
     let we : c.cells.result.now ≡ ws = c.cells.ensures.value ∙ ap (λ (t : Table). t.cells) c.terms.ensures.value in
     let few = few_cells ws c.new-clauses.result c.in_ok-bits.bits c.next-next.result c.terms.ensures.flow.table.cells
-        (c.in_ok-bits.ensures.held ∙ ap (λ (t : List ℕ). new_of c.new-clauses.result t) we) c.next-next.ensures c.next-next.type_inv in
+    (c.in_ok-bits.ensures.held ∙ ap (λ (t : List ℕ). new_of c.new-clauses.result t) we) c.next-next.ensures c.next-next.type_inv in
     let many = many_cells c.args.graph.now.terms c.in_ok-bits.bits (c.in_ok-bits.ensures.over c.args.graph.now.terms (sym we)) in
     omega (arith, few, many)
 

@@ -1,15 +1,11 @@
-use Rattle.std.proofs.Common.{rules, ◌≡◌, ◌<◌, ◌≤◌, ◌+◌, ◌++◌, ◌∷◌, [], All, List, length, map, suc, IfErr, IfOk, OnOk, ℕ, Bool, true, false, ap, sym, ◌∙◌, refl, arith, subst}
-use Rattle.std.proofs.lemmas.Result.{err_from_is_err_and, on_ok_weaker}
-use Rattle.c_graph.specs.Shape.{widths_of}
-use Rattle.bit_blast.specs.Held.{IsOver}
-use Rattle.path_query.specs.Facts.{IsQuery}
-use Rattle.bit_gates.specs.Cut.{Cut}
+use Rattle.std.proofs.Common.{rules, ◌≡◌, ◌∷◌, [], All, List, length, ap, ◌∙◌, arith, subst}
+use Rattle.std.proofs.lemmas.Result.{err_from_is_err_and}
 use Rattle.std.proofs.lemmas.List.{length-append}
 use Rattle.path_formula.specs.declared.path.Step.{Step}
 use Rattle.path_formula.proofs.Drafts.{all_rest}
 use Rattle.path_formula.proofs.Asking.{plans_pop, plans_end, going_turn, going_cut, going_end}
-use Rattle.path_formula.specs.Questions.{Begun, Stepped, needed_along, planned, plans, question_in, question_of, stepped}
-use Rattle.path_formula.specs.Paths.{AreThere, bundles_of, IsDraft, IsStep}
+use Rattle.path_formula.specs.Questions.{planned}
+use Rattle.path_formula.specs.Paths.{IsStep}
 use Rattle.path_formula.proofs.path.path_clauses.Goals as goal
 
 pub take_step-requires-clause-step : goal.take_step-requires-clause-step
@@ -36,12 +32,17 @@ loop-step-preserved c =
     let items = c.in-Some.ensures.items in
     let q = plans_pop g es c.loop-step.steps.items c.pop.new.self.items c.in-Some.step items c.loop-step.invariant.3.1 in
     let s = c.in_ok-take_step.ensures.stepped in
-    let d = c.loop-step.draft in
-    (
+    let d = c.loop-step.draft in (
       c.in_ok-take_step.ensures.draft,
       (all_rest (IsStep g) c.pop.new.self.items c.in-Some.step (subst (λ (t : List Step). All (IsStep g) t) items c.loop-step.invariant.1)).0,
-      omega (arith, ap length s.starts, length-append d.starts.items (length d.clauses ∷ []), ap length items,
-          length-append c.pop.new.self.items (c.in-Some.step ∷ []), c.loop-step.invariant.2),
+      omega (
+        arith,
+        ap length s.starts,
+        length-append d.starts.items (length d.clauses ∷ []),
+        ap length items,
+        length-append c.pop.new.self.items (c.in-Some.step ∷ []),
+        c.loop-step.invariant.2,
+      ),
       (
         q.behind,
         q.rest_is,

@@ -1,4 +1,4 @@
-use Rattle.std.proofs.Common.{◌≡◌, ◌≤◌, ◌+◌, length, map, drop, All}
+use Rattle.std.proofs.Common.{◌≡◌, ◌+◌, length, map, drop, All}
 use Rattle.path_formula.specs.Paths.{AreThere, IsStep}
 use Rattle.path_formula.specs.Questions.{needed_along, planned, plans}
 use Rattle.path_formula.proofs.path.steps_of.Given as goal

@@ -1,16 +1,13 @@
-use Rattle.std.proofs.Common.{rules, ◌≡◌, ◌<◌, ◌≤◌, ◌+◌, ◌++◌, ◌∷◌, [], All, List, length, map, suc, IfErr, IfOk, OnOk, ℕ, Bool, true, false, ap, sym, ◌∙◌, refl, arith, subst}
+use Rattle.std.proofs.Common.{◌≡◌, ◌++◌, ◌∷◌, [], List, ℕ, ap, sym, ◌∙◌, subst}
 use Rattle.std.proofs.lemmas.Result.{err_from_is_err_and, on_ok_weaker, IfErr-weaker}
-use Rattle.c_graph.specs.Shape.{widths_of}
-use Rattle.bit_blast.specs.Held.{IsOver}
-use Rattle.path_query.specs.Facts.{IsQuery}
 use Rattle.bit_gates.specs.Cut.{Cut}
 use Rattle.prop.specs.declared.BlastFail.{BlastFail}
 use Rattle.prop.specs.declared.BlastFail.TheVariants.{Memory}
 use Rattle.path_query.specs.declared.query.Bundle.{Bundle}
 use Rattle.path_formula.proofs.Refusals.{memory_whole}
 use Rattle.path_formula.proofs.Drafts.{draft_stepped, step_whole, more_clauses}
-use Rattle.path_formula.specs.Questions.{Begun, Stepped, needed_along, planned, plans, question_in, question_of, stepped}
-use Rattle.path_formula.specs.Paths.{AreThere, bundles_of, IsDraft, IsStep}
+use Rattle.path_formula.specs.Questions.{planned, stepped}
+use Rattle.path_formula.specs.Paths.{AreThere}
 use Rattle.path_formula.proofs.path.take_step.Goals as goal
 
 pub returns-in_err-cut-clause-cut : goal.returns-in_err-cut-clause-cut
@@ -34,12 +31,12 @@ returns-clause-draft c =
     c.renew.ensures.clauses c.in_ok-renew.ensures.held c.deref.ensures.value c.in_ok-add_edge.ensures.clauses in
     on_ok_weaker c.push_cut.result
     (λ e.
-      draft_stepped c.args.graph.now.terms c.args.draft.now _ c.deref-2.result.now c.requires.draft c.in_ok-add_edge.ensures.over
-      (subst (λ (t : List ℕ). AreThere c.args.graph.now.terms.cells t) (sym c.deref-2.ensures.value) c.requires.step)
-      (more_clauses old more c.add_edge.new.clauses whole)
-      (c.in_ok-push_start.ensures.pushed ∙ ap (λ (t : ℕ). c.args.draft.now.starts.items ++ t ∷ []) c.len.ensures.value)
-      (c.in_ok-add_edge.ensures.bundles c.requires.draft.draws)
-      (e ∙ ap (λ (t : List Bundle). c.args.draft.now.cuts.items ++ t ∷ []) c.in_ok-cut.ensures.cut))
+    draft_stepped c.args.graph.now.terms c.args.draft.now _ c.deref-2.result.now c.requires.draft c.in_ok-add_edge.ensures.over
+    (subst (λ (t : List ℕ). AreThere c.args.graph.now.terms.cells t) (sym c.deref-2.ensures.value) c.requires.step)
+    (more_clauses old more c.add_edge.new.clauses whole)
+    (c.in_ok-push_start.ensures.pushed ∙ ap (λ (t : ℕ). c.args.draft.now.starts.items ++ t ∷ []) c.len.ensures.value)
+    (c.in_ok-add_edge.ensures.bundles c.requires.draft.draws)
+    (e ∙ ap (λ (t : List Bundle). c.args.draft.now.cuts.items ++ t ∷ []) c.in_ok-cut.ensures.cut))
     c.push_cut.ensures.pushed
 
 pub returns-clause-cut : goal.returns-clause-cut

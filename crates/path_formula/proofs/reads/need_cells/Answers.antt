@@ -1,9 +1,9 @@
-use Rattle.std.proofs.Common.{rules, ◌≡◌, List, ℕ, length, ap, sym, ◌∙◌, arith}
+use Rattle.std.proofs.Common.{rules, ◌≡◌, length, ap, ◌∙◌, arith}
 use Rattle.std.specs.BinaryHeap.{heap_items}
 use Rattle.bit_blast.specs.Cone.{numbers}
 use Rattle.path_formula.specs.declared.reads.Span.{Span}
 use Rattle.path_formula.specs.Reads.{cells_from, with_cells}
-use Rattle.path_formula.proofs.Reading.{read_start, read_step, read_again, read_end}
+use Rattle.path_formula.proofs.Reading.{read_step, read_again, read_end}
 use Rattle.path_formula.proofs.reads.need_cells.Goals as goal
 
 pub loop-k-preserved-then-k-below : goal.loop-k-preserved-then-k-below
