@@ -354,6 +354,31 @@ pub mod collections {
             self.m.clear()
         }
     }
+    pub struct BTreeSet<K> {
+        m: std::collections::BTreeSet<K>,
+    }
+    impl<K: Ord> BTreeSet<K> {
+        pub fn new(_: Global) -> Self {
+            BTreeSet {
+                m: std::collections::BTreeSet::new(),
+            }
+        }
+        pub fn insert(&mut self, k: K) -> Result<bool, AllocFailed<K>> {
+            Ok(self.m.insert(k))
+        }
+        pub fn remove(&mut self, k: &K) -> bool {
+            self.m.remove(k)
+        }
+        pub fn contains(&self, k: &K) -> bool {
+            self.m.contains(k)
+        }
+        pub fn len(&self) -> usize {
+            self.m.len()
+        }
+        pub fn iter(&self) -> std::collections::btree_set::Iter<'_, K> {
+            self.m.iter()
+        }
+    }
     pub struct BinaryHeap<K> {
         m: std::collections::BinaryHeap<K>,
     }

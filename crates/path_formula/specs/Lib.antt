@@ -1,0 +1,5 @@
+pub mod Reads
+pub mod Needs
+pub mod Added
+pub mod Paths
+pub mod Questions
