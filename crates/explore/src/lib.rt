@@ -6,6 +6,7 @@
 //! lower are settled, rising, until one covers it; where none does, it is expanded.
 #![tactic(auto)]
 
+mod beside;
 mod strategy;
 
 pub use strategy::{Explored, explore};

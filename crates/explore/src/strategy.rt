@@ -1,6 +1,11 @@
-ghost use Rattle.std.specs.Prelude.{◌<◌};
+ghost use Rattle.std.specs.Prelude.{◌<◌, ◌≡◌, IfOk, IsTrue, Some, length, slice_get, true};
+ghost use Rattle.c_graph.specs.declared.graph.Node.TheVariants.{Plain};
+ghost use Rattle.c_graph.specs.Shape.{widths_of};
+ghost use Rattle.reach_tree.specs.Trees.{vertex_at};
+ghost use Rattle.cover_engine.specs.Unwindings.{is_open_leaf};
 
-use c_graph::{Graph, Node, NodeId};
+use crate::beside::Beside;
+use c_graph::{Graph, Node};
 use cdcl_solver::QueryFail;
 use cover_engine::Unwinding;
 use lv_base::Memory;
@@ -61,137 +66,166 @@ struct Budget {
     learn: u64,
 }
 
+/// An exploration on its way: the unwinding, and what helps to settle its pairs.
+#[derive(Drop)]
+struct Work {
+    unwinding: Unwinding,
+    witnesses: Witnesses,
+    beside: Beside,
+}
+
 // The open leaf of highest number, unless the unwinding is complete or its units are spent.
-fn next_leaf(graph: &Graph, unwinding: &mut Unwinding, budget: Budget) -> Result<VertexId, End> {
+fn next_leaf(graph: &Graph, unwinding: &mut Unwinding, budget: Budget) -> Result<VertexId, End>
+    ensures leaf { IfOk result (λ v. (v.0 < length unwinding.new.vertices) × (is_open_leaf graph.now unwinding.new v ≡ true)) }
+    ensures unchanged { unwinding.new ≡ unwinding.old }
+{
     match unwinding.highest_open(graph) {
         None => Err(End::Complete),
-        Some(_) if unwinding.journal().len() as u64 >= budget.units => Err(End::Units),
-        Some(leaf) => Ok(leaf),
+        Some(leaf) => {
+            if unwinding.journal().len() as u64 >= budget.units {
+                Err(End::Units)
+            } else {
+                Ok(leaf)
+            }
+        }
     }
 }
 
-// Whether edges lead on from the node.
-fn is_plain(graph: &Graph, node: NodeId) -> bool {
-    match graph.nodes().get(node.0 as usize) {
-        Some(Node::Plain) => true,
-        _ => false,
+// Whether edges lead on from the vertex's node.
+fn is_plain(graph: &Graph, unwinding: &Unwinding, v: VertexId) -> bool
+    ensures { IsTrue result → slice_get graph.now.nodes (vertex_at unwinding.now.vertices v.0).node.0 ≡ Some Plain }
+{
+    let vertices = unwinding.vertices();
+    let number = v.0 as usize;
+    if number >= vertices.len() {
+        return false;
+    }
+    let node = vertices[number].node.0 as usize;
+    let nodes = graph.nodes();
+    if node >= nodes.len() {
+        return false;
+    }
+    match nodes[node] {
+        Node::Plain => true,
+        Node::Error(_, _) | Node::End | Node::Call(_, _) => false,
     }
 }
 
-// How many vertices the node of a vertex has.
-fn count_beside(unwinding: &Unwinding, v: VertexId) -> usize {
-    match unwinding.vertices().get(v.0 as usize) {
-        Some(vertex) => unwinding.at_node(vertex.node).len(),
-        None => 0,
+// The vertices of a vertex's node that are numbered below it, rising.
+fn below_of(alloc: Global, work: &mut Work, v: VertexId) -> Result<Vec<VertexId>, Memory> {
+    let vertices = work.unwinding.vertices();
+    work.beside.follow(vertices)?;
+    let mut below = Vec::new(alloc);
+    let Some(vertex) = vertices.get(v.0 as usize) else {
+        return Ok(below);
+    };
+    for other in work.beside.at(vertex.node) {
+        if other.0 < v.0 {
+            below.push(*other)?;
+        }
     }
-}
-
-// The vertex of v's node at a place among them, where it is numbered below v.
-fn candidate(unwinding: &Unwinding, v: VertexId, place: usize) -> Option<VertexId> {
-    let vertex = unwinding.vertices().get(v.0 as usize)?;
-    let found = unwinding.at_node(vertex.node).get(place)?;
-    if found.0 < v.0 { Some(*found) } else { None }
+    Ok(below)
 }
 
 // Settles the pair where it may be settled. It answers whether it covers.
 fn try_pair(
     alloc: Global,
     graph: &Graph,
-    unwinding: &mut Unwinding,
+    work: &mut Work,
     v: VertexId,
     w: VertexId,
-    witnesses: &mut Witnesses,
     budget: Budget,
-) -> Result<bool, End> {
-    let count = unwinding.vertices().len();
-    if v.0 as usize >= count || w.0 as usize >= count || !unwinding.may_settle(v, w) {
+) -> Result<bool, End>
+    requires { 0 < budget.learn }
+    ensures cells { work.new.unwinding.terms.cells ≡ work.old.unwinding.terms.cells }
+    ensures cells { work.new.unwinding.terms.cells ≡ work.old.unwinding.terms.cells }
+{
+    let count = work.unwinding.vertices().len();
+    if v.0 as usize >= count || w.0 as usize >= count || !work.unwinding.may_settle(v, w) {
         return Ok(false);
     }
-    let _ = next_leaf(graph, unwinding, budget)?;
-    match settle_with(alloc, graph, unwinding, v, w, witnesses, budget.learn)? {
+    let _ = next_leaf(graph, &mut work.unwinding, budget)?;
+    match settle_with(alloc, graph, &mut work.unwinding, v, w, &mut work.witnesses, budget.learn)? {
         Settled::Covered => Ok(true),
         Settled::Apart => Ok(false),
         Settled::Spent(log) => Err(End::Learned(log)),
     }
 }
 
-// Settles the pairs of a vertex with those of its node that are numbered lower, rising, until one covers it. It answers whether
-// one does.
+// Settles the pairs of a vertex with those of its node that are numbered lower, rising, until one covers it. It answers
+// whether one does.
 fn settle_all(
     alloc: Global,
     graph: &Graph,
-    unwinding: &mut Unwinding,
+    work: &mut Work,
     v: VertexId,
-    witnesses: &mut Witnesses,
     budget: Budget,
-) -> Result<bool, End> {
-    for place in 0..count_beside(unwinding, v) {
-        let Some(w) = candidate(unwinding, v, place) else {
-            return Ok(false);
-        };
-        if try_pair(alloc, graph, unwinding, v, w, witnesses, budget)? {
+) -> Result<bool, End>
+    requires { 0 < budget.learn }
+    ensures cells { work.new.unwinding.terms.cells ≡ work.old.unwinding.terms.cells }
+{
+    for w in below_of(alloc, work, v)? {
+        if try_pair(alloc, graph, work, v, w, budget)? {
             return Ok(true);
         }
     }
     Ok(false)
 }
 
-// Refines an error leaf, and then settles the pairs of the vertices of its path.
-fn refine_turn(
+// Refines a leaf at an error, and then settles the pairs of the vertices of its path, from the root down.
+fn refine_at(
     alloc: Global,
     graph: &Graph,
-    unwinding: &mut Unwinding,
-    v: VertexId,
-    witnesses: &mut Witnesses,
+    work: &mut Work,
+    leaf: VertexId,
     budget: Budget,
-) -> Result<(), End> {
-    match refine_leaf(alloc, graph, unwinding, v, budget.learn)? {
+) -> Result<(), End>
+    requires leaf { leaf.0 < length work.old.unwinding.vertices }
+    requires cells { work.old.unwinding.terms.cells ≡ widths_of graph.now.cells }
+    requires learn { 0 < budget.learn }
+    ensures cells { work.new.unwinding.terms.cells ≡ work.old.unwinding.terms.cells }
+{
+    match refine_leaf(alloc, graph, &mut work.unwinding, leaf, budget.learn)? {
         Refined::Strengthened(_) => {}
         Refined::Feasible(values) => return Err(End::Feasible(values)),
         Refined::Spent(log) => return Err(End::Learned(log)),
     }
-    let path = unwinding.path_to(alloc, v)?;
-    for u in path.vertices.as_slice() {
-        let _ = settle_all(alloc, graph, unwinding, *u, witnesses, budget)?;
+    let path = work.unwinding.path_to(alloc, leaf)?;
+    for vertex in path.vertices.as_slice() {
+        let _ = settle_all(alloc, graph, work, *vertex, budget)?;
     }
     Ok(())
 }
 
-// One turn: the highest open leaf is refined, covered or expanded.
-fn turn(
-    alloc: Global,
-    graph: &Graph,
-    unwinding: &mut Unwinding,
-    witnesses: &mut Witnesses,
-    budget: Budget,
-) -> Result<(), End> {
-    let v = next_leaf(graph, unwinding, budget)?;
-    // An open leaf is at an error where no edge leads on.
-    if !is_plain(graph, unwinding.vertices()[v.0 as usize].node) {
-        return refine_turn(alloc, graph, unwinding, v, witnesses, budget);
-    }
-    if settle_all(alloc, graph, unwinding, v, witnesses, budget)? {
+// One turn: the highest open leaf is covered, expanded or refined. Settling its pairs without covering it leaves it the highest.
+fn turn(alloc: Global, graph: &Graph, work: &mut Work, budget: Budget) -> Result<(), End>
+    requires cells { work.old.unwinding.terms.cells ≡ widths_of graph.now.cells }
+    requires learn { 0 < budget.learn }
+    ensures cells { work.new.unwinding.terms.cells ≡ work.old.unwinding.terms.cells }
+{
+    let first = next_leaf(graph, &mut work.unwinding, budget)?;
+    if is_plain(graph, &work.unwinding, first) && settle_all(alloc, graph, work, first, budget)? {
         return Ok(());
     }
-    let _ = next_leaf(graph, unwinding, budget)?;
-    unwinding.expanded(alloc, graph, v)?;
+    let leaf = next_leaf(graph, &mut work.unwinding, budget)?;
+    if !is_plain(graph, &work.unwinding, leaf) {
+        return refine_at(alloc, graph, work, leaf, budget);
+    }
+    work.unwinding.expanded(alloc, graph, leaf)?;
     Ok(())
 }
 
-// Makes turns until there is an end. Each makes a unit, so that there are never more turns than units.
-fn run(
-    alloc: Global,
-    graph: &Graph,
-    unwinding: &mut Unwinding,
-    budget: Budget,
-) -> End {
-    let mut witnesses = Witnesses::new(alloc);
+// Makes turns until there is an end. Each makes a unit, so there are no more turns than units.
+fn run(alloc: Global, graph: &Graph, work: &mut Work, budget: Budget) -> End
+    requires cells { work.old.unwinding.terms.cells ≡ widths_of graph.now.cells }
+    requires learn { 0 < budget.learn }
+{
     for _ in 0..budget.units {
-        if let Err(end) = turn(alloc, graph, unwinding, &mut witnesses, budget) {
+        if let Err(end) = turn(alloc, graph, work, budget) {
             return end;
         }
     }
-    match next_leaf(graph, unwinding, budget) {
+    match next_leaf(graph, &mut work.unwinding, budget) {
         Ok(_) => End::Units,
         Err(end) => end,
     }
@@ -202,9 +236,14 @@ pub fn explore(alloc: Global, graph: &Graph, units: u64, learn: u64) -> Result<E
     requires units { 0 < units }
     requires learn { 0 < learn }
 {
-    let mut unwinding = Unwinding::new(alloc, graph)?;
-    let budget = Budget { units, learn };
-    match run(alloc, graph, &mut unwinding, budget) {
+    let mut work = Work {
+        unwinding: Unwinding::new(alloc, graph)?,
+        witnesses: Witnesses::new(alloc),
+        beside: Beside::new(alloc, graph.nodes().len())?,
+    };
+    let end = run(alloc, graph, &mut work, Budget { units, learn });
+    let Work { unwinding, .. } = work;
+    match end {
         End::Complete => Ok(Explored::Complete(unwinding)),
         End::Feasible(values) => Ok(Explored::Feasible(unwinding, values)),
         End::Units => Ok(Explored::Units(unwinding)),

@@ -1,9 +1,11 @@
-ghost use Rattle.std.specs.Prelude.{◌≡◌};
+ghost use Rattle.std.specs.Prelude.{◌≡◌, ◌<◌, IfOk};
+ghost use Rattle.clause_learning.specs.Solve.{IsAnswer};
 
-use cdcl_solver::{QueryFail, SolveFail};
+use cdcl_solver::{Answer, QueryFail, SolveFail, solve};
 use lv_base::Memory;
-use prop::BlastFail;
+use prop::{BlastFail, Clauses};
 use resolution_log::Log;
+use std::alloc::Global;
 use std::marker::Model;
 
 /// Input values in order. Contracts see the list of them.
@@ -71,10 +73,14 @@ pub fn no_clauses(fail: BlastFail) -> QueryFail {
     }
 }
 
-/// What a failure to solve is for a question.
-pub fn no_answer(fail: SolveFail) -> QueryFail {
-    match fail {
-        SolveFail::OverLog(log) => QueryFail::OverLog(log),
-        SolveFail::Memory => QueryFail::Memory,
+/// Asks the solver.
+pub fn answer_to(alloc: Global, clauses: &Clauses, learn: u64) -> Result<Answer, QueryFail>
+    requires { 0 < learn }
+    ensures { IfOk result (IsAnswer clauses.now learn) }
+{
+    match solve(alloc, clauses, learn) {
+        Ok(answer) => Ok(answer),
+        Err(SolveFail::OverLog(log)) => Err(QueryFail::OverLog(log)),
+        Err(SolveFail::Memory) => Err(QueryFail::Memory),
     }
 }

@@ -1,13 +1,19 @@
 //! An error leaf: its path has a run, or is strengthened.
 
-ghost use Rattle.std.specs.Prelude.{◌<◌, length};
+ghost use Rattle.std.specs.Prelude.{◌<◌, ◌≡◌, IfOk, length, map};
+ghost use Rattle.bv_term.specs.Laws.{Extends};
+ghost use Rattle.c_graph.specs.Shape.{widths_of};
+ghost use Rattle.path_query.specs.Facts.{IsQuery};
+ghost use Rattle.reach_tree.specs.Trees.{IsLabel};
+ghost use Rattle.resolution_log.specs.Chains.{IsRefutation};
+ghost use Rattle.term_copy.specs.Copies.{number_in};
 
-use crate::answers::{Refined, no_answer, no_clauses, no_memory};
+use crate::answers::{Refined, answer_to, no_clauses, no_memory};
 use crate::values::drawn_values;
 use bv_term::{TermId, Terms};
-use c_graph::Graph;
-use cdcl_solver::{Answer, QueryFail, solve};
-use cover_engine::{FormulaList, Path, Unwinding};
+use c_graph::{EdgeId, Graph};
+use cdcl_solver::{Answer, QueryFail};
+use cover_engine::{FormulaList, Unwinding};
 use interpolants::chain;
 use lv_base::Memory;
 use path_formula::path_clauses;
@@ -17,24 +23,39 @@ use resolution_log::Log;
 use std::alloc::Global;
 use term_copy::number_in;
 
+// The new numbers of terms.
+fn numbers_of(alloc: Global, to: &[TermId], terms: &[TermId]) -> Result<Vec<TermId>, Memory>
+    ensures { IfOk result (λ r. r.items ≡ map (number_in to.now) terms.now) }
+{
+    let mut numbers = Vec::new(alloc);
+    for term in terms {
+        numbers.push(number_in(to, *term))?;
+    }
+    Ok(numbers)
+}
+
 // The formulas of a path's cuts, read from a refutation, as terms of the unwinding.
 fn formulas_of(
     alloc: Global,
     graph: &Graph,
     unwinding: &mut Unwinding,
-    path: &Path,
+    path: &[EdgeId],
     query: &PathQuery,
     log: &Log,
-) -> Result<FormulaList, Memory> {
+) -> Result<FormulaList, Memory>
+    requires cells { unwinding.old.terms.cells ≡ widths_of graph.now.cells }
+    requires query { IsQuery (widths_of graph.now.cells) (length path.now) query.now }
+    requires refuted { IsRefutation query.now.clauses log.now }
+    ensures formulas { IfOk result (IsLabel unwinding.new.terms) }
+    ensures extends { Extends unwinding.old.terms unwinding.new.terms }
+    ensures vertices { unwinding.new.vertices ≡ unwinding.old.vertices }
+{
     let cells = graph.terms().cells().to_vec(alloc)?;
     let mut terms = Terms::new(alloc, cells);
-    let formulas = chain(alloc, graph, path.edges.as_slice(), query, log, &mut terms)?;
-    let numbers = unwinding.take_terms(alloc, &terms)?;
-    let mut renumbered: Vec<TermId> = Vec::new(alloc);
-    for formula in formulas {
-        renumbered.push(number_in(&numbers, formula))?;
-    }
-    Ok(FormulaList::new(renumbered))
+    let formulas = chain(alloc, graph, path, query, log, &mut terms)?;
+    let to = unwinding.take_terms(alloc, &terms)?;
+    let numbers = numbers_of(alloc, &to, &formulas)?;
+    Ok(FormulaList::new(numbers))
 }
 
 // Strengthens the path by the formulas of a refutation.
@@ -43,10 +64,16 @@ fn strengthen(
     graph: &Graph,
     unwinding: &mut Unwinding,
     v: VertexId,
-    path: &Path,
+    path: &[EdgeId],
     query: &PathQuery,
     log: Log,
-) -> Result<Refined, Memory> {
+) -> Result<Refined, Memory>
+    requires vertex { v.0 < length unwinding.old.vertices }
+    requires cells { unwinding.old.terms.cells ≡ widths_of graph.now.cells }
+    requires query { IsQuery (widths_of graph.now.cells) (length path.now) query.now }
+    requires refuted { IsRefutation query.now.clauses log }
+    ensures cells { unwinding.new.terms.cells ≡ unwinding.old.terms.cells }
+{
     let formulas = formulas_of(alloc, graph, unwinding, path, query, &log)?;
     unwinding.refined(alloc, graph, v, formulas)?;
     Ok(Refined::Strengthened(log))
@@ -64,18 +91,22 @@ pub fn refine_leaf(
     learn: u64,
 ) -> Result<Refined, QueryFail>
     requires vertex { v.0 < length unwinding.old.vertices }
+    requires cells { unwinding.old.terms.cells ≡ widths_of graph.now.cells }
     requires learn { 0 < learn }
+    ensures cells { unwinding.new.terms.cells ≡ unwinding.old.terms.cells }
 {
     let path = unwinding.path_to(alloc, v).map_err(no_memory)?;
-    let query = path_clauses(alloc, graph, path.edges.as_slice()).map_err(no_clauses)?;
-    match solve(alloc, &query.clauses, learn).map_err(no_answer)? {
-        Answer::Sat(found) => {
-            let values = drawn_values(alloc, graph, path.edges.as_slice(), &query, &found);
+    let edges = path.edges.as_slice();
+    let query = path_clauses(alloc, graph, edges).map_err(no_clauses)?;
+    match answer_to(alloc, &query.clauses, learn) {
+        Ok(Answer::Sat(found)) => {
+            let values = drawn_values(alloc, graph, edges, &query, &found);
             Ok(Refined::Feasible(values.map_err(no_memory)?))
         }
-        Answer::Unsat(log) => {
-            strengthen(alloc, graph, unwinding, v, &path, &query, log).map_err(no_memory)
+        Ok(Answer::Unsat(log)) => {
+            strengthen(alloc, graph, unwinding, v, edges, &query, log).map_err(no_memory)
         }
-        Answer::Spent(log) => Ok(Refined::Spent(log)),
+        Ok(Answer::Spent(log)) => Ok(Refined::Spent(log)),
+        Err(end) => Err(end),
     }
 }

@@ -4,13 +4,13 @@ ghost use Rattle.std.specs.Prelude.{◌≡◌, ◌<◌, All, length, true};
 ghost use Rattle.c_graph.specs.Shape.{HasWidth};
 ghost use Rattle.cover_engine.specs.Unwindings.{may_settle};
 
-use crate::answers::{Settled, no_answer, no_clauses, no_memory};
+use crate::answers::{Settled, answer_to, no_clauses, no_memory};
 use crate::pair::pair_clauses;
 use crate::witnesses::Witnesses;
 use bit_blast::Bits;
 use bv_term::{Term, TermId, Terms};
 use c_graph::{Graph, Named, Store};
-use cdcl_solver::{Answer, QueryFail, solve};
+use cdcl_solver::{Answer, QueryFail};
 use cover_engine::Unwinding;
 use lv_base::Memory;
 use prop::{Assignment, Lit};
@@ -56,6 +56,11 @@ fn is_among(left: &[TermId], right: &[TermId]) -> bool {
     true
 }
 
+// How many cells a table is over. A graph's cells have variables of 32 bits, so there are fewer than the greatest number.
+fn count_of(terms: &Terms) -> u32 {
+    terms.cells().len().min(u32::MAX as usize) as u32
+}
+
 // The number of some bits, lowest first.
 fn number_of(found: &Assignment, bits: &[Lit]) -> u128 {
     let mut number = 0u128;
@@ -90,9 +95,9 @@ fn asked(
     requires right { All (λ t. HasWidth terms.now t 1) right.now }
 {
     let (clauses, bits) = pair_clauses(alloc, terms, left, right).map_err(no_clauses)?;
-    match solve(alloc, &clauses, learn).map_err(no_answer)? {
+    match answer_to(alloc, &clauses, learn)? {
         Answer::Sat(found) => {
-            let named = named_by(alloc, terms.cells().len() as u32, &bits, &found);
+            let named = named_by(alloc, count_of(terms), &bits, &found);
             Ok(Decision::Apart(named.map_err(no_memory)?))
         }
         Answer::Unsat(_) => Ok(Decision::Covered),
@@ -143,6 +148,7 @@ pub fn settle_with(
     requires left { v.0 < length unwinding.old.vertices }
     requires right { w.0 < length unwinding.old.vertices }
     requires may { may_settle unwinding.old v w ≡ true }
+    ensures cells { unwinding.new.terms.cells ≡ unwinding.old.terms.cells }
 {
     let decision = decide(alloc, unwinding.terms(), unwinding.label(v), unwinding.label(w), witnesses, learn)?;
     match decision {
@@ -151,7 +157,7 @@ pub fn settle_with(
             Ok(Settled::Covered)
         }
         Decision::Apart(named) => {
-            let store = Store::new(unwinding.terms().cells().len() as u32, named);
+            let store = Store::new(count_of(unwinding.terms()), named);
             unwinding.cover_no(graph, v, w, store).map_err(no_memory)?;
             Ok(Settled::Apart)
         }
@@ -172,6 +178,7 @@ pub fn settle(
     requires left { v.0 < length unwinding.old.vertices }
     requires right { w.0 < length unwinding.old.vertices }
     requires may { may_settle unwinding.old v w ≡ true }
+    ensures cells { unwinding.new.terms.cells ≡ unwinding.old.terms.cells }
 {
     settle_with(alloc, graph, unwinding, v, w, &mut Witnesses::new(alloc), learn)
 }
