@@ -1,15 +1,16 @@
 //! The vertices of each node. They are what the pairs of a vertex are made with.
 
 use c_graph::NodeId;
+use cover_engine::Unwinding;
 use lv_base::Memory;
-use reach_tree::{Vertex, VertexId};
+use reach_tree::VertexId;
 use std::alloc::Global;
 
 /// For each node the vertices that stand at it, rising, of those that were looked at so far.
 #[derive(Drop)]
 pub struct Beside {
     lists: Vec<Vec<VertexId>>,
-    known: usize,
+    known: u32,
 }
 
 impl Beside {
@@ -23,11 +24,12 @@ impl Beside {
     }
 
     /// Looks at the vertices that came since.
-    pub fn follow(&mut self, vertices: &[Vertex]) -> Result<(), Memory> {
-        for number in self.known..vertices.len() {
-            let node = vertices[number].node.0 as usize;
+    pub fn follow(&mut self, unwinding: &Unwinding) -> Result<(), Memory> {
+        let vertices = unwinding.vertices();
+        for number in self.known..unwinding.count() {
+            let node = vertices[number as usize].node.0 as usize;
             if let Some(list) = self.lists.get_mut(node) {
-                list.push(VertexId(number as u32))?;
+                list.push(VertexId(number))?;
             }
             self.known = number + 1;
         }

@@ -112,11 +112,12 @@ fn is_plain(graph: &Graph, unwinding: &Unwinding, v: VertexId) -> bool
 }
 
 // The vertices of a vertex's node that are numbered below it, rising.
-fn below_of(alloc: Global, work: &mut Work, v: VertexId) -> Result<Vec<VertexId>, Memory> {
-    let vertices = work.unwinding.vertices();
-    work.beside.follow(vertices)?;
+fn below_of(alloc: Global, work: &mut Work, v: VertexId) -> Result<Vec<VertexId>, Memory>
+    ensures cells { work.new.unwinding.terms.cells ≡ work.old.unwinding.terms.cells }
+{
+    work.beside.follow(&work.unwinding)?;
     let mut below = Vec::new(alloc);
-    let Some(vertex) = vertices.get(v.0 as usize) else {
+    let Some(vertex) = work.unwinding.vertices().get(v.0 as usize) else {
         return Ok(below);
     };
     for other in work.beside.at(vertex.node) {
@@ -137,7 +138,6 @@ fn try_pair(
     budget: Budget,
 ) -> Result<bool, End>
     requires { 0 < budget.learn }
-    ensures cells { work.new.unwinding.terms.cells ≡ work.old.unwinding.terms.cells }
     ensures cells { work.new.unwinding.terms.cells ≡ work.old.unwinding.terms.cells }
 {
     let count = work.unwinding.vertices().len();
