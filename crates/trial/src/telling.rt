@@ -4,7 +4,7 @@ use crate::Refusal;
 use c_rules::Examined;
 use cover_engine::{UnitDone, Unwinding};
 use explore::Explored;
-use lv_base::place_of;
+use lv_base::{Place, place_of};
 use refine::Values;
 use run_replay::{Ending, Replay};
 use std::alloc::Global;
@@ -68,6 +68,14 @@ fn print_counts<R: Print>(rt: &R, unwinding: &Unwinding) -> Result<(), Refusal> 
     }
 }
 
+// The place of an offset, line 0 where it is in no source.
+fn place_in(source: &[u8], at: usize) -> Place {
+    if source.len() > 1 << 20 || at > source.len() {
+        return Place { line: 0, column: 0 };
+    }
+    place_of(source, at)
+}
+
 // The verdict on values that drive the program to an error: its replay has to meet one.
 fn print_error<R: Print>(
     alloc: Global,
@@ -78,8 +86,8 @@ fn print_error<R: Print>(
 ) -> Result<(), Refusal> {
     let mut replay = Replay::new(alloc, examined)?;
     let printed = match replay.run(values.as_slice(), TURNS) {
-        Ending::Error(kind, at, _) if at as usize <= source.len() => {
-            let place = place_of(source, at as usize);
+        Ending::Error(kind, at, _) => {
+            let place = place_in(source, at as usize);
             let (name, line, column) = (kind.name(), place.line, place.column);
             println!(rt; "UNSAFE {name} at {line}:{column}")
         }
