@@ -10,7 +10,7 @@ use prop::{BlastFail, Clauses};
 use std::alloc::Global;
 
 // Adds that the formula of a node holds, or that it fails.
-fn state(
+pub fn state(
     alloc: Global,
     graph: &Graph,
     map: &Map,
@@ -39,7 +39,7 @@ fn state(
 }
 
 // Literals for the cells, before any clause.
-fn begin(alloc: Global, map: &Map, clauses: &mut Clauses) -> Result<Bits, BlastFail>
+pub fn begin(alloc: Global, map: &Map, clauses: &mut Clauses) -> Result<Bits, BlastFail>
     requires { clauses.old ≡ [] }
     ensures clauses { clauses.new ≡ [] }
     ensures begun { IfOk result (λ b. b ≡ begun_over map.now) }
