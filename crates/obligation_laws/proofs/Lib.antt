@@ -4,3 +4,4 @@ pub mod Blasted
 pub mod Nodes
 pub mod Going
 pub mod Edges
+pub mod Inductive

@@ -5,8 +5,9 @@ use Rattle.c_graph.specs.declared.graph.NodeId.{NodeId}
 use Rattle.c_graph.specs.declared.graph.Edge.{Edge}
 use Rattle.c_graph.specs.Shape.{Flow, IsFlow, widths_of}
 use Rattle.c_graph.specs.Steps.{IsWhole, Leads}
-use Rattle.c_graph.specs.Runs.{Formulas, HoldsAt, IsMapOf}
-use Rattle.obligations.specs.Stated.{AreRefuted, edge_says, node_says}
+use Rattle.c_graph.specs.Runs.{Formulas, HoldsAt, IsInductive, IsMapOf}
+use Rattle.obligations.specs.Stated.{AreRefuted, edge_says, node_says, obligation_says}
+use Rattle.obligations.specs.Questions.{count_of}
 
 -- the formula of a node holds in every store, and in none
 abbrev pub HoldsAlways : Flow → Formulas → NodeId → Type 0
@@ -38,3 +39,11 @@ abbrev pub EdgeSound : Type 0
 EdgeSound =
     (g : Flow) (m : Formulas) (e : ℕ) (edge : Edge) → IsFlow g → IsTable m.terms → IsMapOf g m → slice_get g.edges e ≡ Some edge
     → AreRefuted (edge_says g m e) → HoldsOn g m edge
+
+-- each obligation is refuted
+abbrev pub AllRefuted : Flow → Formulas → Type 0
+AllRefuted g m = (n : ℕ) → n < count_of g → AreRefuted (obligation_says g m n)
+
+-- a map of which all obligations are refuted is inductive
+abbrev pub RefutedMeansInductive : Type 0
+RefutedMeansInductive = (g : Flow) (m : Formulas) → IsFlow g → IsTable m.terms → IsMapOf g m → AllRefuted g m → IsInductive g m

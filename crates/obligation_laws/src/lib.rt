@@ -1,7 +1,7 @@
 //! What the clauses of an obligation say, each law as the contract of a function that does nothing.
 #![tactic(auto)]
 
-ghost use Rattle.obligation_laws.specs.Laws.{EdgeSound, EntryExact, ErrorExact};
+ghost use Rattle.obligation_laws.specs.Laws.{EdgeSound, EntryExact, ErrorExact, RefutedMeansInductive};
 
 /// No assignment satisfies the clauses of the entry's obligation exactly where the entry's formula holds in every store.
 pub fn entry_exact()
@@ -17,4 +17,9 @@ pub fn error_exact()
 /// to stores that meet the formula at its end, though operations that give nothing that is needed add no clauses.
 pub fn edge_sound()
     ensures { EdgeSound }
+{}
+
+/// A map is inductive where no assignment satisfies the clauses of any of its obligations.
+pub fn refuted_means_inductive()
+    ensures { RefutedMeansInductive }
 {}
