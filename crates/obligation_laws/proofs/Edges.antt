@@ -119,7 +119,7 @@ cells_ok : (n : ℕ) (cs : List (List Lit)) → CellsBelow n cs → AllOk Below 
 cells_ok n [] h = tt
 cells_ok n (c ∷ cs) h = (ok_below n c h.0, cells_ok n cs h.1)
 
-begins : (table : Table) (v : ℕ → Bool) (s : List ℕ) → IsTable table → spelled_store v (new_of [] table.cells).cells ≡ s → Reach table (new_of [] table.cells) v s
+pub begins : (table : Table) (v : ℕ → Bool) (s : List ℕ) → IsTable table → spelled_store v (new_of [] table.cells).cells ≡ s → Reach table (new_of [] table.cells) v s
 begins table v s is e =
     let h = new_of [] table.cells in
     let st : IsStart table.cells h = new_starts [] table.cells is.cells in
@@ -168,7 +168,7 @@ between g m from to ops flow table is lf lt fits refuted store draws after whole
 
 -- the edge of a number
 
-got_there : (nodes : List Node) (k : ℕ) (x : Node) → slice_get nodes k ≡ Some x → k < length nodes
+pub got_there : (nodes : List Node) (k : ℕ) (x : Node) → slice_get nodes k ≡ Some x → k < length nodes
 got_there [] k x e = absurd cc
 got_there (y ∷ ys) zero x e = omega arith
 got_there (y ∷ ys) (suc k) x e = let h = got_there ys k x e in omega (arith, h)
@@ -181,14 +181,14 @@ pub record IsEdge (edges : List Edge) (k : ℕ) (edge : Edge) : Type 0 where
   pub to : to_of edges k ≡ edge.to
   pub ops : operations_at edges k ≡ edge.ops
 
-edge_at : (edges : List Edge) (k : ℕ) (edge : Edge) → slice_get edges k ≡ Some edge → IsEdge edges k edge
+pub edge_at : (edges : List Edge) (k : ℕ) (edge : Edge) → slice_get edges k ≡ Some edge → IsEdge edges k edge
 edge_at [] k edge e = absurd cc
 edge_at (x ∷ xs) zero edge e =
     let i = edge_is x edge e in
     record { from = ap (λ (t : Edge). t.from) i; to = ap (λ (t : Edge). t.to) i; ops = ap (λ (t : Edge). t.ops) i }
 edge_at (x ∷ xs) (suc k) edge e = let r = edge_at xs k edge e in record { from = r.from; to = r.to; ops = r.ops }
 
-edge_of : (P : Edge → Type 0) (edges : List Edge) (k : ℕ) (edge : Edge) → All P edges → slice_get edges k ≡ Some edge → P edge
+pub edge_of : (P : Edge → Type 0) (edges : List Edge) (k : ℕ) (edge : Edge) → All P edges → slice_get edges k ≡ Some edge → P edge
 edge_of P [] k edge a e = absurd cc
 edge_of P (x ∷ xs) zero edge a e = subst P (edge_is x edge e) (All-head P x xs a)
 edge_of P (x ∷ xs) (suc k) edge a e = edge_of P xs k edge (All-tail P x xs a) e

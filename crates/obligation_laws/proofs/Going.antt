@@ -44,7 +44,7 @@ ok_cells : (n : ℕ) (cs : List (List Lit)) → AllOk Below n cs → CellsBelow 
 ok_cells n [] h = tt
 ok_cells n (c ∷ cs) h = (below_ok n c h.0, ok_cells n cs h.1)
 
-lits_up : (n m : ℕ) (ls : List Lit) → n ≤ m → LitsBelow n ls → LitsBelow m ls
+pub lits_up : (n m : ℕ) (ls : List Lit) → n ≤ m → LitsBelow n ls → LitsBelow m ls
 lits_up n m [] le h = tt
 lits_up n m (l ∷ ls) le h = (omega (arith, le, h.0), lits_up n m ls le h.1)
 
@@ -203,7 +203,7 @@ cell_long [] c lt = absurd (omega (arith, lt))
 cell_long (x ∷ cells) zero lt = (omega arith, refl)
 cell_long (x ∷ cells) (suc c) lt = let r = cell_long cells c (omega (arith, lt)) in (omega (arith, r.0), r.1)
 
-cell_wide : (cells : List (List Lit)) (ws : List ℕ) (c : ℕ) → map length cells ≡ ws → c < length ws → (c < length cells) × (length (cell_at cells c) ≡ slice_index ws c)
+pub cell_wide : (cells : List (List Lit)) (ws : List ℕ) (c : ℕ) → map length cells ≡ ws → c < length ws → (c < length cells) × (length (cell_at cells c) ≡ slice_index ws c)
 cell_wide cells ws c e lt =
     let size : length (map length cells) ≡ length ws = ap length e in
     let r = cell_long cells c (omega (arith, lt, size)) in
@@ -304,11 +304,11 @@ spells n w x v lt =
     fits zero less = lt
     fits (suc c) less = absurd (omega (arith, less))
 
-fresh_long : (n w : ℕ) → length (fresh_lits n w) ≡ w
+pub fresh_long : (n w : ℕ) → length (fresh_lits n w) ≡ w
 fresh_long n zero = refl
 fresh_long n (suc w) = ap suc (fresh_long (suc n) w)
 
-fresh_low : (n w m : ℕ) → n + w ≤ m → LitsBelow m (fresh_lits n w)
+pub fresh_low : (n w m : ℕ) → n + w ≤ m → LitsBelow m (fresh_lits n w)
 fresh_low n zero m le = tt
 fresh_low n (suc w) m le = (omega (arith, le), fresh_low (suc n) w m (omega (arith, le)))
 

@@ -5,3 +5,5 @@ pub mod Nodes
 pub mod Going
 pub mod Edges
 pub mod Inductive
+pub mod Running
+pub mod Exact

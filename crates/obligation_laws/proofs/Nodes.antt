@@ -25,7 +25,7 @@ unit_holds v cs ls l e h t =
     let one : clause_holds v (l ∷ []) ≡ true = rw t refl in
     all_hold-append v cs (ls ∷ []) ∙ ap (λ (b : Bool). b && (clause_holds v ls && true)) h ∙ ap (λ (k : List Lit). clause_holds v k && true) e ∙ ap (λ (b : Bool). b && true) one
 
-unit_held : (v : ℕ → Bool) (cs : List (List Lit)) (ls : List Lit) (l : Lit) → ls ≡ l ∷ [] → all_hold v (cs ++ ls ∷ []) ≡ true → (all_hold v cs ≡ true) × (lit_value v l ≡ true)
+pub unit_held : (v : ℕ → Bool) (cs : List (List Lit)) (ls : List Lit) (l : Lit) → ls ≡ l ∷ [] → all_hold v (cs ++ ls ∷ []) ≡ true → (all_hold v cs ≡ true) × (lit_value v l ≡ true)
 unit_held v cs ls l e h =
     let both : (all_hold v cs && (clause_holds v ls && true)) ≡ true = sym (all_hold-append v cs (ls ∷ [])) ∙ h in
     parts (all_hold v cs) (clause_holds v ls) (lit_value v l) (ap (clause_holds v) e) both
@@ -120,7 +120,7 @@ holds_at g m v store is lt = (
 pub to_store : (g : Flow) (m : Formulas) (store : List ℕ) → IsMapOf g m → IsWhole (widths_of g.cells) store → IsStore m.terms.cells store × (length store ≡ length m.terms.cells)
 to_store g m store is w = (subst (λ (cs : List ℕ). IsStore cs store) (sym is.cells) w.fits, w.length ∙ ap length (sym is.cells))
 
-from_store : (g : Flow) (m : Formulas) (store : List ℕ) → IsMapOf g m → IsStore m.terms.cells store → length store ≡ length m.terms.cells → IsWhole (widths_of g.cells) store
+pub from_store : (g : Flow) (m : Formulas) (store : List ℕ) → IsMapOf g m → IsStore m.terms.cells store → length store ≡ length m.terms.cells → IsWhole (widths_of g.cells) store
 from_store g m store is s n = record { length = n ∙ ap length is.cells; fits = subst (λ (cs : List ℕ). IsStore cs store) is.cells s }
 
 pub entry_exact : EntryExact

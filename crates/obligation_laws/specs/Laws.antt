@@ -40,6 +40,12 @@ EdgeSound =
     (g : Flow) (m : Formulas) (e : ℕ) (edge : Edge) → IsFlow g → IsTable m.terms → IsMapOf g m → slice_get g.edges e ≡ Some edge
     → AreRefuted (edge_says g m e) → HoldsOn g m edge
 
+-- and the other way about
+abbrev pub EdgeExact : Type 0
+EdgeExact =
+    (g : Flow) (m : Formulas) (e : ℕ) (edge : Edge) → IsFlow g → IsTable m.terms → IsMapOf g m → slice_get g.edges e ≡ Some edge
+    → (AreRefuted (edge_says g m e)) ↔ (HoldsOn g m edge)
+
 -- each obligation is refuted
 abbrev pub AllRefuted : Flow → Formulas → Type 0
 AllRefuted g m = (n : ℕ) → n < count_of g → AreRefuted (obligation_says g m n)

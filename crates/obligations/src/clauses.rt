@@ -9,7 +9,7 @@ use c_graph::{Graph, Map, NodeId};
 use prop::{BlastFail, Clauses};
 use std::alloc::Global;
 
-// Adds that the formula of a node holds, or that it fails.
+/// Adds that the formula of a node holds, or that it fails.
 pub fn state(
     alloc: Global,
     graph: &Graph,
@@ -38,7 +38,7 @@ pub fn state(
     }
 }
 
-// Literals for the cells, before any clause.
+/// Literals for the cells, before any clause.
 pub fn begin(alloc: Global, map: &Map, clauses: &mut Clauses) -> Result<Bits, BlastFail>
     requires { clauses.old ≡ [] }
     ensures clauses { clauses.new ≡ [] }
