@@ -24,8 +24,8 @@ use Rattle.blast_laws.proofs.Runs.{new_starts, stores_spelled}
 use Rattle.path_formula.specs.Reads.{with_read}
 use Rattle.path_formula.specs.Needs.{gives, kept_of, needed_by_all, operations_at}
 use Rattle.path_formula.specs.Added.{Added, added, added_all, added_if, joined}
-use Rattle.obligations.specs.Stated.{AreRefuted, from_of, stated, to_of}
-use Rattle.obligation_laws.specs.Laws.{EdgeSound}
+use Rattle.obligations.specs.Stated.{AreRefuted, edge_says, from_of, stated, to_of}
+use Rattle.obligation_laws.specs.Laws.{HoldsOn}
 use Rattle.obligation_laws.proofs.Alike.{AgreeOn, read_alike}
 use Rattle.obligation_laws.proofs.Following.{follows, leaves}
 use Rattle.obligation_laws.proofs.Going.{Goes, Reach, stands_both, goes_nowhere, goes_on, holds_goes, fails_goes, set_goes, store_goes, draw_goes, renew_goes}
@@ -193,7 +193,8 @@ edge_of P [] k edge a e = absurd cc
 edge_of P (x ∷ xs) zero edge a e = subst P (edge_is x edge e) (All-head P x xs a)
 edge_of P (x ∷ xs) (suc k) edge a e = edge_of P xs k edge (All-tail P x xs a) e
 
-pub edge_sound : EdgeSound
+pub edge_sound : (g : Flow) (m : Formulas) (e : ℕ) (edge : Edge) → IsFlow g → IsTable m.terms → IsMapOf g m → slice_get g.edges e ≡ Some edge
+    → AreRefuted (edge_says g m e) → HoldsOn g m edge
 edge_sound g m e edge flow table is at refuted store draws after whole met leads =
     let i = edge_at g.edges e edge at in
     let fits = edge_of (EdgeFits g.nodes g.terms) g.edges e edge flow.edges at in

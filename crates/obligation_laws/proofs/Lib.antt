@@ -4,6 +4,6 @@ pub mod Blasted
 pub mod Nodes
 pub mod Going
 pub mod Edges
-pub mod Inductive
 pub mod Running
 pub mod Exact
+pub mod Inductive

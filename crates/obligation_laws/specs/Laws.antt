@@ -34,13 +34,7 @@ HoldsOn g m edge =
     (store : List ℕ) (draws : List ℤ) (after : List ℕ)
     → IsWhole (widths_of g.cells) store → HoldsAt m edge.from store → Leads g.terms edge store draws after → HoldsAt m edge.to after
 
--- where it is refuted that an edge fails, the formulas hold on along it; operations that were left out change nothing
-abbrev pub EdgeSound : Type 0
-EdgeSound =
-    (g : Flow) (m : Formulas) (e : ℕ) (edge : Edge) → IsFlow g → IsTable m.terms → IsMapOf g m → slice_get g.edges e ≡ Some edge
-    → AreRefuted (edge_says g m e) → HoldsOn g m edge
-
--- and the other way about
+-- it is refuted that an edge fails exactly where it does so; operations that were left out change nothing
 abbrev pub EdgeExact : Type 0
 EdgeExact =
     (g : Flow) (m : Formulas) (e : ℕ) (edge : Edge) → IsFlow g → IsTable m.terms → IsMapOf g m → slice_get g.edges e ≡ Some edge
@@ -50,6 +44,6 @@ EdgeExact =
 abbrev pub AllRefuted : Flow → Formulas → Type 0
 AllRefuted g m = (n : ℕ) → n < count_of g → AreRefuted (obligation_says g m n)
 
--- a map of which all obligations are refuted is inductive
-abbrev pub RefutedMeansInductive : Type 0
-RefutedMeansInductive = (g : Flow) (m : Formulas) → IsFlow g → IsTable m.terms → IsMapOf g m → AllRefuted g m → IsInductive g m
+-- all obligations of a map are refuted exactly where it is inductive
+abbrev pub InductiveExact : Type 0
+InductiveExact = (g : Flow) (m : Formulas) → IsFlow g → IsTable m.terms → IsMapOf g m → (AllRefuted g m) ↔ (IsInductive g m)
