@@ -39,7 +39,7 @@ start_over table h s = record { cells = s.widths; done = none h.done s.done }
     none [] e k d = absurd (false≢true d)
     none (x ∷ ds) e k d = absurd cc
 
-single : (ls : List Lit) → length ls ≡ 1 → (l : Lit) × (ls ≡ l ∷ [])
+pub single : (ls : List Lit) → length ls ≡ 1 → (l : Lit) × (ls ≡ l ∷ [])
 single [] e = absurd (omega (arith, e))
 single (l ∷ []) e = (l, refl)
 single (l ∷ k ∷ ls) e = absurd (omega (arith, e))

@@ -1,2 +1,9 @@
+pub mod Alike
+pub mod Following
 pub mod Blasted
 pub mod Nodes
+pub mod Going
+pub mod Edges
+pub mod Running
+pub mod Exact
+pub mod Inductive

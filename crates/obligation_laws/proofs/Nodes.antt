@@ -20,12 +20,12 @@ use Rattle.obligation_laws.specs.Laws.{EntryExact, ErrorExact}
 use Rattle.obligation_laws.proofs.Blasted.{Blasted, blasted, store_agrees}
 
 -- one more clause of one literal
-unit_holds : (v : ℕ → Bool) (cs : List (List Lit)) (ls : List Lit) (l : Lit) → ls ≡ l ∷ [] → all_hold v cs ≡ true → lit_value v l ≡ true → all_hold v (cs ++ ls ∷ []) ≡ true
+pub unit_holds : (v : ℕ → Bool) (cs : List (List Lit)) (ls : List Lit) (l : Lit) → ls ≡ l ∷ [] → all_hold v cs ≡ true → lit_value v l ≡ true → all_hold v (cs ++ ls ∷ []) ≡ true
 unit_holds v cs ls l e h t =
     let one : clause_holds v (l ∷ []) ≡ true = rw t refl in
     all_hold-append v cs (ls ∷ []) ∙ ap (λ (b : Bool). b && (clause_holds v ls && true)) h ∙ ap (λ (k : List Lit). clause_holds v k && true) e ∙ ap (λ (b : Bool). b && true) one
 
-unit_held : (v : ℕ → Bool) (cs : List (List Lit)) (ls : List Lit) (l : Lit) → ls ≡ l ∷ [] → all_hold v (cs ++ ls ∷ []) ≡ true → (all_hold v cs ≡ true) × (lit_value v l ≡ true)
+pub unit_held : (v : ℕ → Bool) (cs : List (List Lit)) (ls : List Lit) (l : Lit) → ls ≡ l ∷ [] → all_hold v (cs ++ ls ∷ []) ≡ true → (all_hold v cs ≡ true) × (lit_value v l ≡ true)
 unit_held v cs ls l e h =
     let both : (all_hold v cs && (clause_holds v ls && true)) ≡ true = sym (all_hold-append v cs (ls ∷ [])) ∙ h in
     parts (all_hold v cs) (clause_holds v ls) (lit_value v l) (ap (clause_holds v) e) both
@@ -104,23 +104,23 @@ get_index [] k d lt = absurd (omega (arith, lt))
 get_index (t ∷ ts) zero d lt = refl
 get_index (t ∷ ts) (suc k) d lt = get_index ts k d (omega (arith, lt))
 
-abbrev formula : Formulas → NodeId → TermId
+abbrev pub formula : Formulas → NodeId → TermId
 formula m v = slice_index_or m.at v.0 (record { 0 = 0 })
 
-formula_wide : (g : Flow) (m : Formulas) (v : NodeId) → IsMapOf g m → v.0 < length g.nodes → HasWidth m.terms (formula m v) 1
+pub formula_wide : (g : Flow) (m : Formulas) (v : NodeId) → IsMapOf g m → v.0 < length g.nodes → HasWidth m.terms (formula m v) 1
 formula_wide g m v is lt = is.formulas v.0 (record { 0 = 0 }) (omega (arith, lt, is.nodes))
 
-holds_at : (g : Flow) (m : Formulas) (v : NodeId) (store : List ℕ) → IsMapOf g m → v.0 < length g.nodes → (HoldsAt m v store) ↔ (Holds m.terms store (formula m v))
+pub holds_at : (g : Flow) (m : Formulas) (v : NodeId) (store : List ℕ) → IsMapOf g m → v.0 < length g.nodes → (HoldsAt m v store) ↔ (Holds m.terms store (formula m v))
 holds_at g m v store is lt = (
   (λ h. h (formula m v) (get_index m.at v.0 (record { 0 = 0 }) (omega (arith, lt, is.nodes)))),
   (λ h t e. subst (λ (x : TermId). Holds m.terms store x) (at_index m.at v.0 (record { 0 = 0 }) t e) h),
 )
 
 -- a whole store of the graph is a store of the map's cells, and the other way about
-to_store : (g : Flow) (m : Formulas) (store : List ℕ) → IsMapOf g m → IsWhole (widths_of g.cells) store → IsStore m.terms.cells store × (length store ≡ length m.terms.cells)
+pub to_store : (g : Flow) (m : Formulas) (store : List ℕ) → IsMapOf g m → IsWhole (widths_of g.cells) store → IsStore m.terms.cells store × (length store ≡ length m.terms.cells)
 to_store g m store is w = (subst (λ (cs : List ℕ). IsStore cs store) (sym is.cells) w.fits, w.length ∙ ap length (sym is.cells))
 
-from_store : (g : Flow) (m : Formulas) (store : List ℕ) → IsMapOf g m → IsStore m.terms.cells store → length store ≡ length m.terms.cells → IsWhole (widths_of g.cells) store
+pub from_store : (g : Flow) (m : Formulas) (store : List ℕ) → IsMapOf g m → IsStore m.terms.cells store → length store ≡ length m.terms.cells → IsWhole (widths_of g.cells) store
 from_store g m store is s n = record { length = n ∙ ap length is.cells; fits = subst (λ (cs : List ℕ). IsStore cs store) is.cells s }
 
 pub entry_exact : EntryExact

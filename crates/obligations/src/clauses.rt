@@ -9,8 +9,8 @@ use c_graph::{Graph, Map, NodeId};
 use prop::{BlastFail, Clauses};
 use std::alloc::Global;
 
-// Adds that the formula of a node holds, or that it fails.
-fn state(
+/// Adds that the formula of a node holds, or that it fails.
+pub fn state(
     alloc: Global,
     graph: &Graph,
     map: &Map,
@@ -38,8 +38,8 @@ fn state(
     }
 }
 
-// Literals for the cells, before any clause.
-fn begin(alloc: Global, map: &Map, clauses: &mut Clauses) -> Result<Bits, BlastFail>
+/// Literals for the cells, before any clause.
+pub fn begin(alloc: Global, map: &Map, clauses: &mut Clauses) -> Result<Bits, BlastFail>
     requires { clauses.old ≡ [] }
     ensures clauses { clauses.new ≡ [] }
     ensures begun { IfOk result (λ b. b ≡ begun_over map.now) }

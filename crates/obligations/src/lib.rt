@@ -7,7 +7,11 @@
 #![tactic(auto)]
 
 mod clauses;
+mod edges;
+mod numbered;
 mod questions;
 
 pub use clauses::node_clauses;
+pub use edges::edge_clauses;
+pub use numbered::obligation;
 pub use questions::{Question, obligation_count, question_at};
