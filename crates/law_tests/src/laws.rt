@@ -214,3 +214,27 @@ fn unwindings() {
 fn diagrams_that_grow() {
     formula_diagrams::laws::truths_stay();
 }
+
+#[test]
+fn maps_and_obligations() {
+    map_laws::extracted_is_inductive();
+    obligation_laws::entry_exact();
+    obligation_laws::error_exact();
+    obligation_laws::edge_exact();
+    obligation_laws::inductive_exact();
+}
+
+#[test]
+fn operands_of_terms() {
+    term_laws::laws::terms_are_made();
+    term_laws::laws::renamed_fits();
+    term_laws::laws::renamed_means();
+}
+
+#[test]
+fn formulas_of_cuts() {
+    interpolants::laws::steps_lead();
+    interpolants::laws::cuts_lead();
+    interpolants::laws::first_is_true();
+    interpolants::laws::last_is_false();
+}
