@@ -3,3 +3,4 @@ pub mod Cutting
 pub mod Listing
 pub mod Marking
 pub mod Bits
+pub mod Settling
