@@ -4,3 +4,5 @@ pub mod Listing
 pub mod Marking
 pub mod Bits
 pub mod Settling
+pub mod Agreeing
+pub mod Walking

@@ -2,6 +2,8 @@ pub mod Cuts
 pub mod Memos
 pub mod Keeping
 pub mod Merging
+pub mod Meanings
 pub mod Sources
 pub mod Rules
+pub mod Walks
 pub mod Laws
