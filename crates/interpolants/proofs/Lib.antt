@@ -6,3 +6,4 @@ pub mod Bits
 pub mod Settling
 pub mod Agreeing
 pub mod Walking
+pub mod Ending

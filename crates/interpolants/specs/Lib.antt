@@ -3,7 +3,7 @@ pub mod Memos
 pub mod Keeping
 pub mod Merging
 pub mod Meanings
-pub mod Sources
 pub mod Rules
+pub mod Sources
 pub mod Walks
 pub mod Laws
