@@ -1,6 +1,9 @@
 pub mod Cuts
 pub mod Memos
 pub mod Keeping
-pub mod Sources
+pub mod Merging
+pub mod Meanings
 pub mod Rules
+pub mod Sources
+pub mod Walks
 pub mod Laws

@@ -1,7 +1,9 @@
 -- What the clauses of a log come from, and where variables occur.
-use Rattle.std.specs.Prelude.{ℕ, ◌-◌, ◌<◌, ◌≡◌, ◌&&◌, Bool, true, false, List, length, slice_index, slice_index_or, nat_lt, if◌then◌else◌}
+use Rattle.std.specs.Prelude.{ℕ, ◌+◌, ◌-◌, ◌<◌, ◌≡◌, ◌&&◌, Bool, true, false, List, [], ◌∷◌, cond, length, slice_index, slice_index_or, nat_lt, if◌then◌else◌}
+use Rattle.prop.specs.declared.Lit.{Lit}
 use Rattle.prop.specs.Trues.{listed}
-use Rattle.resolution_log.specs.Codes.{place}
+use Rattle.resolution_log.specs.Codes.{place, vars_of}
+use Rattle.interpolants.specs.Rules.{is_behind}
 
 -- the lowest clause that the clause of a number comes from, chains in order coming from these; a number that names none may come from all
 abbrev pub low_of : ℕ → List ℕ → ℕ → ℕ
@@ -14,3 +16,12 @@ IsMet lows needed k edge = (k < length lows) × (slice_index_or needed k false �
 -- the number that is noted for a variable is behind the edge
 abbrev pub is_noted : List ℕ → List ℕ → ℕ → ℕ → Bool
 is_noted vars ends x edge = listed vars x && nat_lt edge (slice_index ends (place vars x))
+
+-- the number behind the last of clauses that has the variable, the first of them having the number n, and else the number b
+abbrev pub last_end : ℕ → ℕ → List (List Lit) → ℕ → ℕ
+last_end b n [] x = b
+last_end b n (c ∷ cs) x = last_end (cond (listed (vars_of c) x) (n + 1) b) (n + 1) cs x
+
+-- what is noted says of each variable whether a clause from an edge on has it
+abbrev pub AreEnds : List (List Lit) → List ℕ × List ℕ → Type 0
+AreEnds clauses e = (x edge : ℕ) → is_noted e.0 e.1 x edge ≡ is_behind clauses edge x

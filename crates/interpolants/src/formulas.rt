@@ -7,6 +7,7 @@ ghost use Rattle.formula_diagrams.specs.Writings.{IsOneBit};
 ghost use Rattle.path_query.specs.Facts.{IsBundle, IsQuery};
 ghost use Rattle.resolution_log.specs.Chains.{IsRefutation};
 ghost use Rattle.interpolants.specs.Cuts.{Adds, AreCutBits, AreFormulas};
+ghost use Rattle.interpolants.specs.Meanings.{IsPlacing};
 
 use crate::cone::Cone;
 use crate::occurrences::Ends;
@@ -45,7 +46,8 @@ fn put_diagram(
     memo: &mut Memo,
     terms: &mut Terms,
 ) -> Result<TermId, DiagramFail>
-    requires { AreCutBits terms.old.cells cut.now.bits.now }
+    requires bits { AreCutBits terms.old.cells cut.now.bits.now }
+    requires placing { IsPlacing cut.now.bits.now }
     ensures extends { Extends terms.old terms.new }
     ensures bit { IfOk result (IsOneBit terms.new) }
 {
@@ -58,7 +60,8 @@ fn put_diagram(
 
 // The formula of a cut made of plain terms.
 fn put_plain(alloc: Global, cut: &Cut, memo: &mut Memo, terms: &mut Terms) -> Result<TermId, Memory>
-    requires { AreCutBits terms.old.cells cut.now.bits.now }
+    requires bits { AreCutBits terms.old.cells cut.now.bits.now }
+    requires placing { IsPlacing cut.now.bits.now }
     ensures extends { Extends terms.old terms.new }
     ensures bit { IfOk result (IsOneBit terms.new) }
 {
@@ -73,7 +76,8 @@ fn put_formula(
     memo: &mut Memo,
     terms: &mut Terms,
 ) -> Result<TermId, Memory>
-    requires { AreCutBits terms.old.cells cut.now.bits.now }
+    requires bits { AreCutBits terms.old.cells cut.now.bits.now }
+    requires placing { IsPlacing cut.now.bits.now }
     ensures extends { Extends terms.old terms.new }
     ensures bit { IfOk result (IsOneBit terms.new) }
 {

@@ -1,9 +1,10 @@
 //! The bits of a cut's cells, with the literals that stand for them.
 
-ghost use Rattle.std.specs.Prelude.{◌≡◌, ◌<◌, ℕ, List, All, IfSome, IfOk, slice_get, Some, length};
+ghost use Rattle.std.specs.Prelude.{◌≡◌, ◌<◌, ℕ, List, All, IfSome, IfNone, IfOk, OnOk, slice_get, Some, length};
 ghost use Rattle.formula_diagrams.specs.Shape.{IsBitIn};
 ghost use Rattle.path_query.specs.Facts.{IsBundle};
 ghost use Rattle.interpolants.specs.Cuts.{AreCutBits, IsPlaced};
+ghost use Rattle.interpolants.specs.Meanings.{HasBit, IsBitOf, IsPaired, IsPlacing};
 
 use crate::items::{Placed, Twins};
 use formula_diagrams::BitOf;
@@ -29,7 +30,8 @@ pub struct CutBits {
 
 impl CutBits {
     fn new(alloc: Global) -> CutBits
-        ensures { (cells : List ℕ) → AreCutBits cells result }
+        ensures placing { IsPlacing result }
+        ensures bits { (cells : List ℕ) → AreCutBits cells result }
     {
         CutBits {
             bits: Vec::new(alloc),
@@ -40,7 +42,9 @@ impl CutBits {
 
     /// A bit whose literal has the variable.
     pub fn find(&self, var: u32) -> Option<Placed>
-        ensures { (cells : List ℕ) → AreCutBits cells self.now → IfSome result (IsPlaced cells) }
+        ensures bit { (cells : List ℕ) → AreCutBits cells self.now → IfSome result (IsPlaced cells) }
+        ensures found { IfSome result (IsBitOf self.now.bits.items var) }
+        ensures none { IsPlacing self.now → IfNone result (HasBit self.now.bits.items var → ⊥) }
     {
         let place = self.places.get(&var).copied()?;
         let placed = self.bits.get(place).copied()?;
@@ -52,7 +56,8 @@ impl CutBits {
 
     // Puts a bit beside the one before it with the same variable.
     fn pair_up(&mut self, placed: Placed) -> Result<(), Memory>
-        ensures { (cells : List ℕ) → IsPlaced cells placed → AreCutBits cells self.old → AreCutBits cells self.new }
+        ensures paired { IsPlacing self.old → OnOk result (IsPaired self.old self.new placed) }
+        ensures bits { (cells : List ℕ) → IsPlaced cells placed → AreCutBits cells self.old → AreCutBits cells self.new }
     {
         match self.find(placed.lit.var) {
             Some(other) => {
@@ -64,12 +69,11 @@ impl CutBits {
     }
 
     fn add(&mut self, placed: Placed) -> Result<(), Memory>
-        ensures { (cells : List ℕ) → IsPlaced cells placed → AreCutBits cells self.old → AreCutBits cells self.new }
+        ensures placing { IsPlacing self.old → OnOk result (IsPlacing self.new) }
+        ensures bits { (cells : List ℕ) → IsPlaced cells placed → AreCutBits cells self.old → AreCutBits cells self.new }
     {
         self.pair_up(placed)?;
-        if self.places.insert(placed.lit.var, self.bits.len()).is_err() {
-            return Err(Memory);
-        }
+        self.places.insert(placed.lit.var, self.bits.len())?;
         self.bits.push(placed)?;
         Ok(())
     }
@@ -77,7 +81,8 @@ impl CutBits {
 
 // Adds a bit of a cell, if the cell has it.
 fn place_bit(bits: &mut CutBits, bundle: &Bundle, bit: u32) -> Result<(), Memory>
-    ensures { (cells : List ℕ) → IsBundle cells bundle.now → AreCutBits cells bits.old → AreCutBits cells bits.new }
+    ensures placing { IsPlacing bits.old → OnOk result (IsPlacing bits.new) }
+    ensures bits { (cells : List ℕ) → IsBundle cells bundle.now → AreCutBits cells bits.old → AreCutBits cells bits.new }
 {
     let lits = bundle.bits.as_slice();
     let at = bit as usize;
@@ -93,7 +98,8 @@ fn place_bit(bits: &mut CutBits, bundle: &Bundle, bit: u32) -> Result<(), Memory
 
 // Adds one bit of each cell that has it, the last cell first.
 fn place_row(bits: &mut CutBits, bundles: &[Bundle], bit: u32) -> Result<(), Memory>
-    ensures { (cells : List ℕ) → All (IsBundle cells) bundles.now → AreCutBits cells bits.old → AreCutBits cells bits.new }
+    ensures placing { IsPlacing bits.old → OnOk result (IsPlacing bits.new) }
+    ensures bits { (cells : List ℕ) → All (IsBundle cells) bundles.now → AreCutBits cells bits.old → AreCutBits cells bits.new }
 {
     for back in 0..bundles.len() {
         place_bit(bits, &bundles[bundles.len() - 1 - back], bit)?;
@@ -113,7 +119,8 @@ fn widest(bundles: &[Bundle]) -> u32 {
 
 /// The bits of a cut's cells.
 pub fn place_bits(alloc: Global, bundles: &[Bundle]) -> Result<CutBits, Memory>
-    ensures { (cells : List ℕ) → All (IsBundle cells) bundles.now → IfOk result (AreCutBits cells) }
+    ensures placing { IfOk result IsPlacing }
+    ensures bits { (cells : List ℕ) → All (IsBundle cells) bundles.now → IfOk result (AreCutBits cells) }
 {
     let mut bits = CutBits::new(alloc);
     for bit in 0..widest(bundles) {

@@ -1,8 +1,13 @@
 //! The formula of one cut, by a walk over the log (K. McMillan, Interpolation and SAT-Based Model Checking, 2003).
 
-ghost use Rattle.std.specs.Prelude.{◌≡◌, ◌<◌, ℕ, List, All, IfOk, OnOk, length, slice_get, Some};
+ghost use Rattle.std.specs.Prelude.{◌≡◌, ◌<◌, ◌&&◌, ◌||◌, ℕ, Bool, true, not, List, All, IfOk, OnOk, length, slice_get, Some};
+ghost use Rattle.prop.specs.Logic.{lit_value};
+ghost use Rattle.formula_diagrams.specs.Truths.{choice};
 ghost use Rattle.interpolants.specs.Cuts.{AreCutBits, IsPlaced};
+ghost use Rattle.interpolants.specs.Meanings.{Agree, HasBit, IsPlacing, agree_from, read, said, twin_agrees};
 ghost use Rattle.interpolants.specs.Memos.{AllKnown};
+ghost use Rattle.interpolants.specs.Rules.{joined, some_holds};
+ghost use Rattle.interpolants.specs.Walks.{AreAgreed, AreBits, noted_behind, value_of};
 
 use crate::cone::Cone;
 use crate::items::{Formula, Placed, Twins};
@@ -26,6 +31,12 @@ pub struct Cut<'a> {
     pub edge: u32,
 }
 
+fn are_same(one: bool, other: bool) -> bool
+    ensures { result ≡ choice one other (not other) }
+{
+    if one { other } else { !other }
+}
+
 // What says that a literal is true. A variable that occurs before and behind the cut is that of a bit of the cut: the clauses of a path
 // have it so. Of a variable that had no bit nothing could be said.
 fn literal<A: Algebra>(
@@ -34,12 +45,17 @@ fn literal<A: Algebra>(
     bits: &CutBits,
     lit: Lit,
 ) -> Result<Formula, A::Fail>
-    requires { AreCutBits (A.cells algebra.old) bits.now }
+    requires bits { AreCutBits (A.cells algebra.old) bits.now }
+    requires placing { IsPlacing bits.now }
     ensures keeps { A.keeps algebra.old algebra.new }
     ensures made { IfOk result (A.has algebra.new) }
+    ensures told { (store : List ℕ) → Agree bits.now.bits.items store → HasBit bits.now.bits.items lit.var → IfOk result (λ r. A.truth algebra.new r store ≡ lit_value (read bits.now.bits.items store) lit) }
 {
     match bits.find(lit.var) {
-        Some(placed) => algebra.bit(alloc, placed.bit, placed.lit.positive == lit.positive),
+        Some(placed) => {
+            let value = are_same(placed.lit.positive, lit.positive);
+            algebra.bit(alloc, placed.bit, value)
+        }
         None => algebra.constant(true),
     }
 }
@@ -53,12 +69,36 @@ fn add_literal<A: Algebra>(
     lit: Lit,
 ) -> Result<Formula, A::Fail>
     requires bits { AreCutBits (A.cells algebra.old) bits.now }
+    requires placing { IsPlacing bits.now }
     requires so_far { A.has algebra.old so_far }
     ensures keeps { A.keeps algebra.old algebra.new }
     ensures made { IfOk result (A.has algebra.new) }
+    ensures told { (store : List ℕ) → Agree bits.now.bits.items store → HasBit bits.now.bits.items lit.var → IfOk result (λ r. A.truth algebra.new r store ≡ (A.truth algebra.old so_far store || lit_value (read bits.now.bits.items store) lit)) }
 {
     let other = literal(alloc, algebra, bits, lit)?;
     algebra.either(alloc, so_far, other)
+}
+
+// Adds a literal to a disjunction, if its variable occurs behind the cut.
+fn add_behind<A: Algebra>(
+    alloc: Global,
+    algebra: &mut A,
+    cut: &Cut,
+    so_far: Formula,
+    lit: Lit,
+) -> Result<Formula, A::Fail>
+    requires bits { AreCutBits (A.cells algebra.old) cut.now.bits.now }
+    requires placing { IsPlacing cut.now.bits.now }
+    requires so_far { A.has algebra.old so_far }
+    ensures keeps { A.keeps algebra.old algebra.new }
+    ensures made { IfOk result (A.has algebra.new) }
+    ensures told { (store : List ℕ) → AreAgreed cut.now store → (noted_behind cut.now lit.var ≡ true → HasBit cut.now.bits.now.bits.items lit.var) → IfOk result (λ r. A.truth algebra.new r store ≡ (A.truth algebra.old so_far store || (noted_behind cut.now lit.var && lit_value (value_of cut.now store) lit))) }
+{
+    if cut.ends.is_behind(lit.var, cut.edge) {
+        add_literal(alloc, algebra, cut.bits, so_far, lit)
+    } else {
+        Ok(so_far)
+    }
 }
 
 // A clause before the cut: the disjunction of its literals whose variables occur behind the cut.
@@ -68,15 +108,15 @@ fn leaf<A: Algebra>(
     cut: &Cut,
     clause: &[Lit],
 ) -> Result<Formula, A::Fail>
-    requires { AreCutBits (A.cells algebra.old) cut.now.bits.now }
+    requires bits { AreCutBits (A.cells algebra.old) cut.now.bits.now }
+    requires placing { IsPlacing cut.now.bits.now }
     ensures keeps { A.keeps algebra.old algebra.new }
     ensures made { IfOk result (A.has algebra.new) }
+    ensures told { (store : List ℕ) → AreAgreed cut.now store → AreBits cut.now clause.now → IfOk result (λ r. A.truth algebra.new r store ≡ some_holds (noted_behind cut.now) (value_of cut.now store) clause.now) }
 {
     let mut so_far = algebra.constant(false)?;
     for lit in clause {
-        if cut.ends.is_behind(lit.var, cut.edge) {
-            so_far = add_literal(alloc, algebra, cut.bits, so_far, *lit)?;
-        }
+        so_far = add_behind(alloc, algebra, cut, so_far, *lit)?;
     }
     Ok(so_far)
 }
@@ -88,7 +128,8 @@ fn fresh<A: Algebra>(
     cut: &Cut,
     number: u32,
 ) -> Result<Formula, A::Fail>
-    requires { AreCutBits (A.cells algebra.old) cut.now.bits.now }
+    requires bits { AreCutBits (A.cells algebra.old) cut.now.bits.now }
+    requires placing { IsPlacing cut.now.bits.now }
     ensures keeps { A.keeps algebra.old algebra.new }
     ensures made { IfOk result (A.has algebra.new) }
 {
@@ -108,6 +149,7 @@ fn operand<A: Algebra>(
     number: u32,
 ) -> Result<Formula, A::Fail>
     requires bits { AreCutBits (A.cells algebra.old) cut.now.bits.now }
+    requires placing { IsPlacing cut.now.bits.now }
     requires known { AllKnown (A.has algebra.old) memo.old }
     ensures keeps { A.keeps algebra.old algebra.new }
     ensures made { IfOk result (A.has algebra.new) }
@@ -137,6 +179,7 @@ fn resolved<A: Algebra>(
     requires right { A.has algebra.old right }
     ensures keeps { A.keeps algebra.old algebra.new }
     ensures made { IfOk result (A.has algebra.new) }
+    ensures told { IfOk result (λ r. (store : List ℕ) → A.truth algebra.new r store ≡ joined (noted_behind cut.now pivot) (A.truth algebra.old left store) (A.truth algebra.old right store)) }
 {
     if cut.ends.is_behind(pivot, cut.edge) {
         algebra.both(alloc, left, right)
@@ -155,6 +198,7 @@ fn step<A: Algebra>(
     pair: (u32, u32),
 ) -> Result<Formula, A::Fail>
     requires bits { AreCutBits (A.cells algebra.old) cut.now.bits.now }
+    requires placing { IsPlacing cut.now.bits.now }
     requires known { AllKnown (A.has algebra.old) memo.old }
     requires so_far { A.has algebra.old so_far }
     ensures keeps { A.keeps algebra.old algebra.new }
@@ -174,6 +218,7 @@ fn chain_formula<A: Algebra>(
     chain: &Chain,
 ) -> Result<Formula, A::Fail>
     requires bits { AreCutBits (A.cells algebra.old) cut.now.bits.now }
+    requires placing { IsPlacing cut.now.bits.now }
     requires known { AllKnown (A.has algebra.old) memo.old }
     ensures keeps { A.keeps algebra.old algebra.new }
     ensures made { IfOk result (A.has algebra.new) }
@@ -197,6 +242,7 @@ fn visit<A: Algebra>(
 ) -> Result<Formula, A::Fail>
     requires place { place < 4294967296 }
     requires bits { AreCutBits (A.cells algebra.old) cut.now.bits.now }
+    requires placing { IsPlacing cut.now.bits.now }
     requires known { AllKnown (A.has algebra.old) memo.old }
     ensures keeps { A.keeps algebra.old algebra.new }
     ensures made { IfOk result (A.has algebra.new) }
@@ -218,6 +264,7 @@ fn last_formula<A: Algebra>(
     cut: &Cut,
 ) -> Result<Formula, A::Fail>
     requires bits { AreCutBits (A.cells algebra.old) cut.now.bits.now }
+    requires placing { IsPlacing cut.now.bits.now }
     requires known { AllKnown (A.has algebra.old) memo.old }
     ensures keeps { A.keeps algebra.old algebra.new }
     ensures made { IfOk result (A.has algebra.new) }
@@ -238,6 +285,7 @@ fn placed_literal<A: Algebra>(
     requires { IsPlaced (A.cells algebra.old) placed }
     ensures keeps { A.keeps algebra.old algebra.new }
     ensures made { IfOk result (A.has algebra.new) }
+    ensures told { IfOk result (λ r. (store : List ℕ) → A.truth algebra.new r store ≡ said store placed) }
 {
     algebra.bit(alloc, placed.bit, placed.lit.positive)
 }
@@ -248,6 +296,7 @@ fn agreement<A: Algebra>(alloc: Global, algebra: &mut A, twins: Twins) -> Result
     requires other { IsPlaced (A.cells algebra.old) twins.other }
     ensures keeps { A.keeps algebra.old algebra.new }
     ensures made { IfOk result (A.has algebra.new) }
+    ensures told { IfOk result (λ r. (store : List ℕ) → A.truth algebra.new r store ≡ twin_agrees store twins) }
 {
     let one = placed_literal(alloc, algebra, twins.one)?;
     let other = placed_literal(alloc, algebra, twins.other)?;
@@ -266,6 +315,7 @@ fn add_agreement<A: Algebra>(
     requires other { IsPlaced (A.cells algebra.old) twins.other }
     ensures keeps { A.keeps algebra.old algebra.new }
     ensures made { IfOk result (A.has algebra.new) }
+    ensures told { IfOk result (λ r. (store : List ℕ) → A.truth algebra.new r store ≡ (twin_agrees store twins && A.truth algebra.old so_far store)) }
 {
     let agree = agreement(alloc, algebra, twins)?;
     algebra.both(alloc, agree, so_far)
@@ -280,6 +330,7 @@ fn agreements<A: Algebra>(
     requires { AreCutBits (A.cells algebra.old) bits.now }
     ensures keeps { A.keeps algebra.old algebra.new }
     ensures made { IfOk result (A.has algebra.new) }
+    ensures told { IfOk result (λ r. (store : List ℕ) → A.truth algebra.new r store ≡ agree_from store true bits.now.twins.items) }
 {
     let mut so_far = algebra.constant(true)?;
     for twins in &bits.twins {
@@ -295,7 +346,8 @@ pub fn cut_formula<A: Algebra>(
     memo: &mut Memo,
     cut: &Cut,
 ) -> Result<Formula, A::Fail>
-    requires { AreCutBits (A.cells algebra.old) cut.now.bits.now }
+    requires bits { AreCutBits (A.cells algebra.old) cut.now.bits.now }
+    requires placing { IsPlacing cut.now.bits.now }
     ensures keeps { A.keeps algebra.old algebra.new }
     ensures made { IfOk result (A.has algebra.new) }
 {

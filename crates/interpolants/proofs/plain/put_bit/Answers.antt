@@ -10,3 +10,7 @@ pub returns-clause-bit : goal.returns-clause-bit
 returns-clause-bit c =
     bits-of-truth _ _ (λ store. is_set store c.args.bit)
     (bit-result _ _ _ _ _ c.in_ok-cell.ensures.table c.in_ok-cell.ensures.named c.put_term-2.ensures.table c.put_term-2.ensures.extends c.put_term-2.ensures.named)
+
+pub returns-clause-truth : goal.returns-clause-truth
+returns-clause-truth c =
+    bit-result _ _ _ _ _ c.in_ok-cell.ensures.table c.in_ok-cell.ensures.named c.put_term-2.ensures.table c.put_term-2.ensures.extends c.put_term-2.ensures.named
