@@ -36,6 +36,7 @@ impl Model for Recall {
 }
 
 impl Recall {
+    /// Nothing is known. It takes no memory.
     pub fn new(alloc: Global) -> Recall
         ensures { result ≡ [] }
     {
