@@ -34,7 +34,7 @@ HoldsOn g m edge =
     (store : List ℕ) (draws : List ℤ) (after : List ℕ)
     → IsWhole (widths_of g.cells) store → HoldsAt m edge.from store → Leads g.terms edge store draws after → HoldsAt m edge.to after
 
--- it is refuted that an edge fails exactly where it does so; operations that were left out change nothing
+-- it is refuted that an edge fails exactly where the formulas hold on along it; operations that were left out change nothing
 abbrev pub EdgeExact : Type 0
 EdgeExact =
     (g : Flow) (m : Formulas) (e : ℕ) (edge : Edge) → IsFlow g → IsTable m.terms → IsMapOf g m → slice_get g.edges e ≡ Some edge
