@@ -137,7 +137,7 @@ waiting_drops nodes table vs counts ends more old new n a closed grows noted kep
           let Q : ℕ → Type 0 = λ m. m < length vs → is_end (slice_get nodes (vertex_at vs m).node.0) ≡ true → has (vertex_at vs m).node.0 more ≡ true in
           let at_end : is_end (slice_get nodes (vertex_at vs k).node.0) ≡ true =
           shut (nat_lt k (length vs)) (is_none (vertex_at vs k).children) (some_false table (vertex_at vs k).label) (is_end (slice_get nodes (vertex_at vs k).node.0)) (nat_eq (get_or counts k 0) 0)
-              (lt-ltb k (length vs) lt) (childless vs k none) no_false (eq-eqb (get_or counts k 0) 0 zero') (subst P (sym is) closed) in
+          (lt-ltb k (length vs) lt) (childless vs k none) no_false (eq-eqb (get_or counts k 0) 0 zero') (subst P (sym is) closed) in
           let e : has (vertex_at vs k).node.0 more ≡ true = subst Q (sym is) noted lt at_end in
           let e2 : true ≡ false = sym e ∙ away in absurd cc
       | inr ne ↦ kept k ne (a k lt none zero' no_false apart)

@@ -63,7 +63,7 @@ impl Model for Unwinding {
     } };
 
     ghost invariant = { λ u. IsKept u.tree.vertices u.pairs u.journal.items u.apart.items u.covers.items u.refines u.settled
-      × AreWaiting u.tree.vertices u.tree.terms u.covers.items u.ends.items u.waiting };
+        × AreWaiting u.tree.vertices u.tree.terms u.covers.items u.ends.items u.waiting };
 }
 
 impl Unwinding {

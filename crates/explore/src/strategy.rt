@@ -145,7 +145,15 @@ fn try_pair(
         return Ok(false);
     }
     let _ = next_leaf(graph, &mut work.unwinding, budget)?;
-    match settle_with(alloc, graph, &mut work.unwinding, v, w, &mut work.witnesses, budget.learn)? {
+    match settle_with(
+        alloc,
+        graph,
+        &mut work.unwinding,
+        v,
+        w,
+        &mut work.witnesses,
+        budget.learn,
+    )? {
         Settled::Covered => Ok(true),
         Settled::Apart => Ok(false),
         Settled::Spent(log) => Err(End::Learned(log)),

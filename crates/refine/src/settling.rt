@@ -71,7 +71,12 @@ fn number_of(found: &Assignment, bits: &[Lit]) -> u128 {
 }
 
 // The cells that have other values than 0 under an assignment, rising.
-fn named_by(alloc: Global, cells: u32, bits: &Bits, found: &Assignment) -> Result<Vec<Named>, Memory> {
+fn named_by(
+    alloc: Global,
+    cells: u32,
+    bits: &Bits,
+    found: &Assignment,
+) -> Result<Vec<Named>, Memory> {
     let mut named = Vec::new(alloc);
     for cell in 0..cells {
         let value = number_of(found, bits.cell(cell));
@@ -121,7 +126,10 @@ fn decide(
     if is_among(left, right) || is_closed(terms, left) {
         return Ok(Decision::Covered);
     }
-    if let Some(named) = witnesses.find(alloc, terms, left, right).map_err(no_memory)? {
+    if let Some(named) = witnesses
+        .find(alloc, terms, left, right)
+        .map_err(no_memory)?
+    {
         return Ok(Decision::Apart(named));
     }
     let decision = asked(alloc, terms, left, right, learn)?;
@@ -150,7 +158,14 @@ pub fn settle_with(
     requires may { may_settle unwinding.old v w ≡ true }
     ensures cells { unwinding.new.terms.cells ≡ unwinding.old.terms.cells }
 {
-    let decision = decide(alloc, unwinding.terms(), unwinding.label(v), unwinding.label(w), witnesses, learn)?;
+    let decision = decide(
+        alloc,
+        unwinding.terms(),
+        unwinding.label(v),
+        unwinding.label(w),
+        witnesses,
+        learn,
+    )?;
     match decision {
         Decision::Covered => {
             unwinding.cover_yes(alloc, graph, v, w).map_err(no_memory)?;
@@ -180,5 +195,13 @@ pub fn settle(
     requires may { may_settle unwinding.old v w ≡ true }
     ensures cells { unwinding.new.terms.cells ≡ unwinding.old.terms.cells }
 {
-    settle_with(alloc, graph, unwinding, v, w, &mut Witnesses::new(alloc), learn)
+    settle_with(
+        alloc,
+        graph,
+        unwinding,
+        v,
+        w,
+        &mut Witnesses::new(alloc),
+        learn,
+    )
 }

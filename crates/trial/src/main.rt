@@ -27,6 +27,7 @@ const MOST_BYTES: usize = 1 << 20;
 
 // How many units and how many learned clauses a question may take, where no number is given.
 const UNITS: u64 = 100_000;
+
 const LEARN: u64 = 1_000_000;
 
 // Why there is no answer.
@@ -129,7 +130,16 @@ where
         return Err(Refusal::Words);
     }
     let source = load(alloc, rt, name.as_str())?;
-    answer(alloc, rt, &source, Request { model, units, learn })
+    answer(
+        alloc,
+        rt,
+        &source,
+        Request {
+            model,
+            units,
+            learn,
+        },
+    )
 }
 
 fn main(rt: HostRuntime) -> ExitCode {

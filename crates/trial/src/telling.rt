@@ -60,7 +60,9 @@ fn print_counts<R: Print>(rt: &R, unwinding: &Unwinding) -> Result<(), Refusal> 
     let vertices = unwinding.vertices().len();
     let terms = unwinding.terms().count();
     let longest = longest_label(unwinding);
-    let first = println!(rt; "# units {units}: expanded {expanded}, refined {refined}, covered {covered}, apart {apart}");
+    let first = println!(rt;
+        "# units {units}: expanded {expanded}, refined {refined}, covered {covered}, apart {apart}"
+    );
     let second = println!(rt; "# vertices {vertices}, terms {terms}, longest label {longest}");
     match (first, second) {
         (Ok(()), Ok(())) => Ok(()),

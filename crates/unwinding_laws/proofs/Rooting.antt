@@ -110,9 +110,9 @@ module _ (g : Flow) (vs : List Vertex) (v : VertexId) (lv : v.0 < length vs) (no
   old_child : (k : ℕ) → k < length vs → IsChild g vs k → IsChild g made k
   old_child k lt c =
       let apart : c.above.0 ≢ v.0 = λ e. (
-        let empty : (vertex_at vs c.above.0).children ≡ [] = subst (λ (j : ℕ). (vertex_at vs j).children ≡ []) (sym e) none in
-        let size : length (vertex_at vs c.above.0).children ≡ 0 = ap (λ (xs : List VertexId). length xs) empty in
-        omega (arith, size, c.among.1)) in
+      let empty : (vertex_at vs c.above.0).children ≡ [] = subst (λ (j : ℕ). (vertex_at vs j).children ≡ []) (sym e) none in
+      let size : length (vertex_at vs c.above.0).children ≡ 0 = ap (λ (xs : List VertexId). length xs) empty in
+      omega (arith, size, c.among.1)) in
       let la : c.above.0 < length vs = omega (arith, lt, c.lower) in
       child_stays g vs made k c (part (λ x. x.parent) (λ x. refl) k lt) (part (λ x. x.by) (λ x. refl) k lt) (part (λ x. x.node) (λ x. refl) k lt)
       (ap (λ (x : Vertex). x.children) (other c.above.0 la apart)) (part (λ x. x.node) (λ x. refl) c.above.0 la)

@@ -74,12 +74,13 @@ invariant_of-self-in-Ok c =
     waiting_falls c.self.inside.tree.terms c.self.inside.tree.vertices c.self.inside.tree.vertices c.self.inside.covers.items c.lower.new.counts.items c.deref-in-Ok.result.now c.self.inside.ends.items c.self.inside.waiting c.wait_for_leaves.new.waiting
     refl c.self.invariant.0.counts_are.sized (λ k. refl) (λ k. refl) (λ k e. e) c.lower.ensures.lowered c.self.invariant.1 c.wait_for_leaves.ensures.kept
     (subst (λ (xs : List ℕ). (k : ℕ) → 1 ≤ times k xs → (vertex_at c.self.inside.tree.vertices k).children ≡ [] → waits c.wait_for_leaves.new.waiting k ≡ true) (c.deref-3.ensures.value ∙ sym c.deref-in-Ok.ensures.value)
-    (subst (λ (vs : List Vertex). (k : ℕ) → 1 ≤ times k c.deref-3.result.now → (vertex_at vs k).children ≡ [] → waits c.wait_for_leaves.new.waiting k ≡ true) c.vertices-vertices.ensures.value c.in_ok-wait_for_leaves.ensures.there)) in
-    (kept_covered c.self.inside.tree.vertices c.self.inside.pairs c.drop_under.new.self (pairs_under c.self.inside.tree.vertices c.args.v c.self.inside.pairs) c.self.inside.journal.items c.note.new.journal.items c.self.inside.apart.items
-    c.self.inside.covers.items c.lower.new.counts.items c.raise.new.counts.items c.deref-in-Ok.result.now c.deref-in-Ok-2.result.now c.self.inside.refines c.self.inside.settled c.note.new.settled c.args.v c.args.w
-    c.self.invariant.0 lv lw (omega arith) c.in-Ok.ensures.journal kept refl low c.lower.ensures.sized c.lower.ensures.lowered high c.raise.ensures.sized c.raise.ensures.raised
-    (noted_covered c.self.inside.settled c.note.new.settled c.args.v c.args.w c.of-sides.result c.covered_now-settling.result c.copied.result c.self.inside.refines c.of-sides.ensures (c.copied.ensures ∙ c.get.ensures.value) c.covered_now-settling.ensures c.in-Ok.ensures.settled),
-    waiting_rises c.self.inside.tree.terms c.self.inside.tree.vertices c.lower.new.counts.items c.raise.new.counts.items c.deref-in-Ok-2.result.now c.self.inside.ends.items c.wait_for_leaves.new.waiting (c.lower.ensures.sized ∙ c.self.invariant.0.counts_are.sized) c.raise.ensures.raised mid)
+    (subst (λ (vs : List Vertex). (k : ℕ) → 1 ≤ times k c.deref-3.result.now → (vertex_at vs k).children ≡ [] → waits c.wait_for_leaves.new.waiting k ≡ true) c.vertices-vertices.ensures.value c.in_ok-wait_for_leaves.ensures.there)) in (
+      kept_covered c.self.inside.tree.vertices c.self.inside.pairs c.drop_under.new.self (pairs_under c.self.inside.tree.vertices c.args.v c.self.inside.pairs) c.self.inside.journal.items c.note.new.journal.items c.self.inside.apart.items
+          c.self.inside.covers.items c.lower.new.counts.items c.raise.new.counts.items c.deref-in-Ok.result.now c.deref-in-Ok-2.result.now c.self.inside.refines c.self.inside.settled c.note.new.settled c.args.v c.args.w
+          c.self.invariant.0 lv lw (omega arith) c.in-Ok.ensures.journal kept refl low c.lower.ensures.sized c.lower.ensures.lowered high c.raise.ensures.sized c.raise.ensures.raised
+          (noted_covered c.self.inside.settled c.note.new.settled c.args.v c.args.w c.of-sides.result c.covered_now-settling.result c.copied.result c.self.inside.refines c.of-sides.ensures (c.copied.ensures ∙ c.get.ensures.value) c.covered_now-settling.ensures c.in-Ok.ensures.settled),
+      waiting_rises c.self.inside.tree.terms c.self.inside.tree.vertices c.lower.new.counts.items c.raise.new.counts.items c.deref-in-Ok-2.result.now c.self.inside.ends.items c.wait_for_leaves.new.waiting (c.lower.ensures.sized ∙ c.self.invariant.0.counts_are.sized) c.raise.ensures.raised mid,
+    )
 
 pub returns-in-Ok-clause-done : goal.returns-in-Ok-clause-done
 returns-in-Ok-clause-done c =

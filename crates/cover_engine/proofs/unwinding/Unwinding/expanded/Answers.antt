@@ -24,16 +24,17 @@ invariant_of-self-in-Ok c =
     let there : (j : ℕ) → length c.self.inside.tree.vertices ≤ j → j < length c.self.inside.tree.vertices + c.len-born.result → waits c.wait_from.new.waiting j ≡ true =
     λ j le lt. c.in_ok-wait_from.ensures.there j (omega (arith, le, first)) (omega (arith, lt, first)) in
     let waiting : AreWaiting c.self.inside.tree.vertices c.expand_both.new.tree.terms c.self.inside.covers.items c.self.inside.ends.items c.self.inside.waiting =
-    subst (λ (table : Table). AreWaiting c.self.inside.tree.vertices table c.self.inside.covers.items c.self.inside.ends.items c.self.inside.waiting) (sym c.expand_both.ensures.terms) c.self.invariant.1 in
-    (kept_expanded c.args.graph.now c.self.inside.tree.vertices c.expand_both.new.tree.vertices c.self.inside.pairs c.self.inside.journal.items c.expand_both.new.journal.items c.self.inside.apart.items
-    c.self.inside.covers.items c.append.new.self.items c.self.inside.refines c.index-above.result.now c.len-born.result c.self.inside.settled c.args.v
-    c.self.invariant.0 lv none (omega arith) c.in-Ok.ensures.vertices c.in-Ok.ensures.journal
-    (c.in_ok-append.ensures.items ∙ ap (λ xs. c.self.inside.covers.items ++ xs) c.in_ok-covers.ensures)
-    (let l = ap length out in omega arith)
-    (c.index-above.ensures ∙ get_or_default_zero c.self.inside.covers.items c.args.v.0 c.index-above.result.now (omega (arith, lv, c.self.invariant.0.counts_are.sized))),
-    waiting_expanded c.args.graph.now c.self.inside.tree.vertices c.expand_both.new.tree.vertices c.expand_both.new.tree.terms c.args.v c.self.inside.covers.items c.append.new.self.items c.self.inside.ends.items
-        c.self.inside.waiting c.wait_from.new.waiting c.index-above.result.now c.len-born.result c.in-Ok.ensures.vertices lv none sized
-        (c.in_ok-append.ensures.items ∙ ap (λ xs. c.self.inside.covers.items ++ xs) c.in_ok-covers.ensures) (let l = ap length out in omega arith) waiting c.wait_from.ensures.kept there)
+    subst (λ (table : Table). AreWaiting c.self.inside.tree.vertices table c.self.inside.covers.items c.self.inside.ends.items c.self.inside.waiting) (sym c.expand_both.ensures.terms) c.self.invariant.1 in (
+      kept_expanded c.args.graph.now c.self.inside.tree.vertices c.expand_both.new.tree.vertices c.self.inside.pairs c.self.inside.journal.items c.expand_both.new.journal.items c.self.inside.apart.items
+          c.self.inside.covers.items c.append.new.self.items c.self.inside.refines c.index-above.result.now c.len-born.result c.self.inside.settled c.args.v
+          c.self.invariant.0 lv none (omega arith) c.in-Ok.ensures.vertices c.in-Ok.ensures.journal
+          (c.in_ok-append.ensures.items ∙ ap (λ xs. c.self.inside.covers.items ++ xs) c.in_ok-covers.ensures)
+          (let l = ap length out in omega arith)
+          (c.index-above.ensures ∙ get_or_default_zero c.self.inside.covers.items c.args.v.0 c.index-above.result.now (omega (arith, lv, c.self.invariant.0.counts_are.sized))),
+      waiting_expanded c.args.graph.now c.self.inside.tree.vertices c.expand_both.new.tree.vertices c.expand_both.new.tree.terms c.args.v c.self.inside.covers.items c.append.new.self.items c.self.inside.ends.items
+          c.self.inside.waiting c.wait_from.new.waiting c.index-above.result.now c.len-born.result c.in-Ok.ensures.vertices lv none sized
+          (c.in_ok-append.ensures.items ∙ ap (λ xs. c.self.inside.covers.items ++ xs) c.in_ok-covers.ensures) (let l = ap length out in omega arith) waiting c.wait_from.ensures.kept there,
+    )
 
 pub returns-in-Ok-clause-legal : goal.returns-in-Ok-clause-legal
 returns-in-Ok-clause-legal c =

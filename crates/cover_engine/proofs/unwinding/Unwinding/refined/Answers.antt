@@ -86,10 +86,11 @@ invariant_of-self-2 c =
     waiting_falls c.self.inside.tree.terms c.self.inside.tree.vertices c.relabel.new.self.vertices c.self.inside.covers.items c.lower.new.counts.items c.deref-5.result.now c.self.inside.ends.items c.self.inside.waiting c.wait_for_leaves.new.waiting
     shape.sized c.self.invariant.0.counts_are.sized shape.children nodes fine c.lower.ensures.lowered c.self.invariant.1 c.wait_for_leaves.ensures.kept
     (subst (λ (xs : List ℕ). (k : ℕ) → 1 ≤ times k xs → (vertex_at c.self.inside.tree.vertices k).children ≡ [] → waits c.wait_for_leaves.new.waiting k ≡ true) (c.deref-4.ensures.value ∙ sym c.deref-5.ensures.value)
-    (subst (λ (vs : List Vertex). (k : ℕ) → 1 ≤ times k c.deref-4.result.now → (vertex_at vs k).children ≡ [] → waits c.wait_for_leaves.new.waiting k ≡ true) c.vertices-2.ensures.value c.in_ok-wait_for_leaves.ensures.there)) in
-    (kept_refined c.self.inside.tree.terms c.self.inside.tree.vertices c.relabel.new.self.vertices c.self.inside.pairs c.drop_onto.new.self (pairs_onto (strengthened_along c.self.inside.tree.terms c.self.inside.tree.vertices (path_of c.self.inside.tree.vertices c.args.v) (reverse c.args.formulas)) c.self.inside.pairs) c.self.inside.journal.items c.push.new.self.items c.self.inside.apart.items c.self.inside.covers.items c.lower.new.counts.items c.deref-5.result.now
-    c.self.inside.refines c.self.inside.settled c.args.v c.args.formulas (reverse c.args.formulas) c.self.invariant.0 lv (omega arith) after c.in_ok-push.ensures.items kept refl low c.lower.ensures.sized c.lower.ensures.lowered,
-    subst (λ (table : Table). AreWaiting c.relabel.new.self.vertices table c.lower.new.counts.items c.self.inside.ends.items c.wait_for_leaves.new.waiting) (sym c.relabel.ensures.terms) waiting)
+    (subst (λ (vs : List Vertex). (k : ℕ) → 1 ≤ times k c.deref-4.result.now → (vertex_at vs k).children ≡ [] → waits c.wait_for_leaves.new.waiting k ≡ true) c.vertices-2.ensures.value c.in_ok-wait_for_leaves.ensures.there)) in (
+      kept_refined c.self.inside.tree.terms c.self.inside.tree.vertices c.relabel.new.self.vertices c.self.inside.pairs c.drop_onto.new.self (pairs_onto (strengthened_along c.self.inside.tree.terms c.self.inside.tree.vertices (path_of c.self.inside.tree.vertices c.args.v) (reverse c.args.formulas)) c.self.inside.pairs) c.self.inside.journal.items c.push.new.self.items c.self.inside.apart.items c.self.inside.covers.items c.lower.new.counts.items c.deref-5.result.now
+          c.self.inside.refines c.self.inside.settled c.args.v c.args.formulas (reverse c.args.formulas) c.self.invariant.0 lv (omega arith) after c.in_ok-push.ensures.items kept refl low c.lower.ensures.sized c.lower.ensures.lowered,
+      subst (λ (table : Table). AreWaiting c.relabel.new.self.vertices table c.lower.new.counts.items c.self.inside.ends.items c.wait_for_leaves.new.waiting) (sym c.relabel.ensures.terms) waiting,
+    )
 
 pub returns-clause-legal : goal.returns-clause-legal
 returns-clause-legal c =
