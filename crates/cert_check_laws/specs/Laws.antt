@@ -1,0 +1,19 @@
+-- What follows where a certificate is accepted.
+use Rattle.std.specs.Prelude.{ℕ, ℤ, ◌≡◌, List, Some, slice_get}
+use Rattle.lv_base.specs.declared.fault.ErrorKind.{ErrorKind}
+use Rattle.c_graph.specs.declared.graph.NodeId.{NodeId}
+use Rattle.c_graph.specs.declared.graph.Node.TheVariants.{Error}
+use Rattle.c_graph.specs.Shape.{Flow, IsFlow}
+use Rattle.c_graph.specs.Runs.{IsInductive, RunsTo}
+use Rattle.cert_text.specs.declared.Cert.{Cert}
+use Rattle.cert_check.specs.Answers.{IsAccepted}
+
+-- the map of an accepted certificate is inductive
+abbrev pub AcceptedIsInductive : Type 0
+AcceptedIsInductive = (g : Flow) (c : Cert) → IsFlow g → (a : IsAccepted g c) → IsInductive g a.formulas
+
+-- with an accepted certificate, no graph run from the entry reaches an error node
+abbrev pub AcceptedIsSafe : Type 0
+AcceptedIsSafe =
+    (g : Flow) (c : Cert) (draws : List ℤ) (v : NodeId) (kind : ErrorKind) (at : ℕ) (after : List ℕ)
+    → IsFlow g → IsAccepted g c → RunsTo g draws v after → slice_get g.nodes v.0 ≡ Some (Error kind at) → ⊥
