@@ -222,6 +222,8 @@ fn maps_and_obligations() {
     obligation_laws::error_exact();
     obligation_laws::edge_exact();
     obligation_laws::inductive_exact();
+    cert_check_laws::accepted_is_inductive();
+    cert_check_laws::accepted_is_safe();
 }
 
 #[test]
