@@ -1,8 +1,9 @@
 //! The map of a certificate.
-ghost use Rattle.std.specs.Prelude.{◌≡◌, ◌<◌, ◌↔◌, length, IfOk, IsTrue, OnOk};
-ghost use Rattle.c_graph.specs.Shape.{HasWidth};
+ghost use Rattle.std.specs.Prelude.{◌≡◌, ◌<◌, ◌↔◌, length, IfErr, IfOk, IsTrue, OnOk};
+ghost use Rattle.c_graph.specs.Shape.{HasWidth, widths_of};
 ghost use Rattle.c_graph.specs.Runs.{IsMapOf};
 ghost use Rattle.cert_check.specs.Answers.{AreBits, IsMapIn, IsTableIn, numbered};
+ghost use Rattle.cert_check.specs.Causes.{IsCountCause, IsFormulaCause, IsMapCause, IsTermCause, capped};
 
 use crate::{CheckFail, JOINED_LAYOUT, MapFault};
 use bv_term::{Term, TermId, Terms};
@@ -11,13 +12,20 @@ use cert_text::Cert;
 use std::alloc::Global;
 
 // A length as a number of 32 bits, the greatest where it is none.
-fn number_of(length: usize) -> u32 {
-    u32::try_from(length).unwrap_or(u32::MAX)
+fn number_of(length: usize) -> u32
+    ensures { result ≡ capped length }
+{
+    if length < 4_294_967_296 {
+        length as u32
+    } else {
+        u32::MAX
+    }
 }
 
 // The table of these terms over the graph's cells.
 fn table_of(alloc: Global, graph: &Graph, terms: &[Term]) -> Result<Terms, CheckFail>
-    ensures { IfOk result (IsTableIn graph.now terms.now) }
+    ensures table { IfOk result (IsTableIn graph.now terms.now) }
+    ensures cause { IfErr result (IsTermCause (widths_of graph.now.cells) terms.now) }
 {
     let cells = graph.terms().cells().to_vec(alloc)?;
     let mut table = Terms::new(alloc, cells);
@@ -43,6 +51,7 @@ fn formulas_of(alloc: Global, table: &Terms, numbers: &[u32]) -> Result<Vec<Term
     requires { length numbers.now < 4294967296 }
     ensures numbered { IfOk result (λ f. f.items ≡ numbered numbers.now) }
     ensures bits { IfOk result (λ f. AreBits table.now f.items) }
+    ensures cause { IfErr result (IsFormulaCause table.now numbers.now) }
 {
     let mut formulas = Vec::new(alloc);
     for (node, number) in numbers.iter().enumerate() {
@@ -59,6 +68,7 @@ fn formulas_of(alloc: Global, table: &Terms, numbers: &[u32]) -> Result<Vec<Term
 pub fn map_of(alloc: Global, graph: &Graph, cert: &Cert) -> Result<Map, CheckFail>
     ensures map { IfOk result (λ m. IsMapOf graph.now m) }
     ensures stored { IfOk result (IsMapIn graph.now cert.now) }
+    ensures cause { IfErr result (IsMapCause graph.now cert.now) }
 {
     if cert.layout != JOINED_LAYOUT {
         return Err(CheckFail::WrongMap(MapFault::Layout(cert.layout, JOINED_LAYOUT)));
@@ -75,7 +85,8 @@ pub fn map_of(alloc: Global, graph: &Graph, cert: &Cert) -> Result<Map, CheckFai
 
 /// Tests that there is one log for each obligation.
 pub fn count_logs(cert: &Cert, obligations: u32) -> Result<(), CheckFail>
-    ensures { OnOk result (length cert.now.logs.items ≡ obligations) }
+    ensures count { OnOk result (length cert.now.logs.items ≡ obligations) }
+    ensures cause { IfErr result (IsCountCause cert.now.logs.items obligations) }
 {
     if cert.logs.len() == obligations as usize {
         Ok(())

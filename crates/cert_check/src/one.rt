@@ -1,9 +1,10 @@
 //! One obligation.
-ghost use Rattle.std.specs.Prelude.{◌≡◌, ◌<◌, OnOk};
+ghost use Rattle.std.specs.Prelude.{◌≡◌, ◌<◌, IfErr, OnOk};
 ghost use Rattle.c_graph.specs.Runs.{IsMapOf};
 ghost use Rattle.resolution_log.specs.Chains.{IsRefutation};
 ghost use Rattle.obligations.specs.Questions.{count_of};
 ghost use Rattle.obligations.specs.Stated.{obligation_says};
+ghost use Rattle.cert_check.specs.Causes.{IsLogCause};
 
 use crate::CheckFail;
 use c_graph::{Graph, Map};
@@ -22,7 +23,8 @@ pub fn check_one(
 ) -> Result<(), CheckFail>
     requires map { IsMapOf graph.now map.now }
     requires number { number < count_of graph.now }
-    ensures { OnOk result (IsRefutation (obligation_says graph.now map.now number) log.now) }
+    ensures refuted { OnOk result (IsRefutation (obligation_says graph.now map.now number) log.now) }
+    ensures cause { IfErr result (IsLogCause graph.now map.now number log.now) }
 {
     let clauses = match obligation(alloc, graph, map, number) {
         Ok(clauses) => clauses,

@@ -1,14 +1,12 @@
 -- A certificate that is accepted has an inductive map.
-use Rattle.std.proofs.Common.{◌≡◌, ℕ, ◌<◌, Bool, true, List, [], length, sym, subst, slice_get, Some, get_or}
+use Rattle.std.proofs.Common.{ℕ, ◌<◌, List, [], length, sym, subst, get_or}
 use Rattle.std.proofs.lemmas.Option.{slice_get-get_or}
-use Rattle.prop.specs.Logic.{all_hold}
 use Rattle.resolution_log.specs.declared.Chain.{Chain}
 use Rattle.resolution_log.proofs.Results.{refutation_sound}
 use Rattle.c_graph.specs.Shape.{Flow}
 use Rattle.c_graph.proofs.Keeping.{inductive_means_safe}
 use Rattle.cert_text.specs.declared.Cert.{Cert}
-use Rattle.obligations.specs.Questions.{count_of}
-use Rattle.obligations.specs.Stated.{AreRefuted, obligation_says}
+use Rattle.obligations.specs.Stated.{obligation_says}
 use Rattle.obligation_laws.specs.Laws.{AllRefuted}
 use Rattle.obligation_laws.proofs.Inductive.{inductive_exact}
 use Rattle.cert_check.specs.Answers.{IsAccepted}
