@@ -1,13 +1,13 @@
 //! The formula of one cut, by a walk over the log (K. McMillan, Interpolation and SAT-Based Model Checking, 2003).
 
-ghost use Rattle.std.specs.Prelude.{◌≡◌, ◌<◌, ◌&&◌, ◌||◌, ℕ, Bool, true, not, List, All, IfOk, OnOk, length, slice_get, Some};
+ghost use Rattle.std.specs.Prelude.{◌≡◌, ◌<◌, ◌&&◌, ◌||◌, ℕ, Bool, true, not, List, All, IfOk, OnOk, length, slice_get, slice_index_or, Some};
 ghost use Rattle.prop.specs.Logic.{lit_value};
 ghost use Rattle.formula_diagrams.specs.Truths.{choice};
 ghost use Rattle.interpolants.specs.Cuts.{AreCutBits, IsPlaced};
 ghost use Rattle.interpolants.specs.Meanings.{Agree, HasBit, IsPlacing, agree_from, read, said, twin_agrees};
 ghost use Rattle.interpolants.specs.Memos.{AllKnown};
 ghost use Rattle.interpolants.specs.Rules.{joined, some_holds};
-ghost use Rattle.interpolants.specs.Walks.{AreAgreed, AreBits, noted_behind, value_of};
+ghost use Rattle.interpolants.specs.Walks.{AreAgreed, AreBits, AreCovered, AreTrue, HasEntry, IsCut, IsKept, leaf_truths, noted_behind, truth_of, value_of};
 
 use crate::cone::Cone;
 use crate::items::{Formula, Placed, Twins};
@@ -129,9 +129,10 @@ fn fresh<A: Algebra>(
     number: u32,
 ) -> Result<Formula, A::Fail>
     requires bits { AreCutBits (A.cells algebra.old) cut.now.bits.now }
-    requires placing { IsPlacing cut.now.bits.now }
+    requires exact { IsCut cut.now }
     ensures keeps { A.keeps algebra.old algebra.new }
     ensures made { IfOk result (A.has algebra.new) }
+    ensures told { (store : List ℕ) → AreAgreed cut.now store → AreCovered cut.now → (number < length cut.now.clauses.now → number < cut.now.edge) → IfOk result (λ r. A.truth algebra.new r store ≡ slice_index_or (leaf_truths cut.now store) number true) }
 {
     if number < cut.clauses.len() {
         leaf(alloc, algebra, cut, cut.clauses.clause(number))
@@ -149,11 +150,15 @@ fn operand<A: Algebra>(
     number: u32,
 ) -> Result<Formula, A::Fail>
     requires bits { AreCutBits (A.cells algebra.old) cut.now.bits.now }
-    requires placing { IsPlacing cut.now.bits.now }
+    requires exact { IsCut cut.now }
     requires known { AllKnown (A.has algebra.old) memo.old }
     ensures keeps { A.keeps algebra.old algebra.new }
     ensures made { IfOk result (A.has algebra.new) }
     ensures known { OnOk result (AllKnown (A.has algebra.new) memo.new) }
+    ensures long { length memo.new ≡ length memo.old }
+    ensures grows { (k : ℕ) → HasEntry memo.old k → HasEntry memo.new k }
+    ensures told { (store : List ℕ) → AreAgreed cut.now store → AreCovered cut.now → AreTrue (A.truth algebra.old) cut.now store memo.old → IsKept cut.now memo.old number → IfOk result (λ r. A.truth algebra.new r store ≡ truth_of cut.now store number) }
+    ensures truths { (store : List ℕ) → AreAgreed cut.now store → AreCovered cut.now → AreTrue (A.truth algebra.old) cut.now store memo.old → IsKept cut.now memo.old number → OnOk result (AreTrue (A.truth algebra.new) cut.now store memo.new) }
 {
     if cut.cone.is_behind(number, cut.edge) {
         return algebra.constant(true);
@@ -198,12 +203,16 @@ fn step<A: Algebra>(
     pair: (u32, u32),
 ) -> Result<Formula, A::Fail>
     requires bits { AreCutBits (A.cells algebra.old) cut.now.bits.now }
-    requires placing { IsPlacing cut.now.bits.now }
+    requires exact { IsCut cut.now }
     requires known { AllKnown (A.has algebra.old) memo.old }
     requires so_far { A.has algebra.old so_far }
     ensures keeps { A.keeps algebra.old algebra.new }
     ensures made { IfOk result (A.has algebra.new) }
     ensures known { OnOk result (AllKnown (A.has algebra.new) memo.new) }
+    ensures long { length memo.new ≡ length memo.old }
+    ensures grows { (k : ℕ) → HasEntry memo.old k → HasEntry memo.new k }
+    ensures told { (store : List ℕ) → AreAgreed cut.now store → AreCovered cut.now → AreTrue (A.truth algebra.old) cut.now store memo.old → IsKept cut.now memo.old pair.1 → IfOk result (λ r. A.truth algebra.new r store ≡ joined (noted_behind cut.now pair.0) (A.truth algebra.old so_far store) (truth_of cut.now store pair.1)) }
+    ensures truths { (store : List ℕ) → AreAgreed cut.now store → AreCovered cut.now → AreTrue (A.truth algebra.old) cut.now store memo.old → IsKept cut.now memo.old pair.1 → OnOk result (AreTrue (A.truth algebra.new) cut.now store memo.new) }
 {
     let other = operand(alloc, algebra, memo, cut, pair.1)?;
     resolved(alloc, algebra, cut, pair.0, so_far, other)
@@ -218,7 +227,7 @@ fn chain_formula<A: Algebra>(
     chain: &Chain,
 ) -> Result<Formula, A::Fail>
     requires bits { AreCutBits (A.cells algebra.old) cut.now.bits.now }
-    requires placing { IsPlacing cut.now.bits.now }
+    requires exact { IsCut cut.now }
     requires known { AllKnown (A.has algebra.old) memo.old }
     ensures keeps { A.keeps algebra.old algebra.new }
     ensures made { IfOk result (A.has algebra.new) }
@@ -242,7 +251,7 @@ fn visit<A: Algebra>(
 ) -> Result<Formula, A::Fail>
     requires place { place < 4294967296 }
     requires bits { AreCutBits (A.cells algebra.old) cut.now.bits.now }
-    requires placing { IsPlacing cut.now.bits.now }
+    requires exact { IsCut cut.now }
     requires known { AllKnown (A.has algebra.old) memo.old }
     ensures keeps { A.keeps algebra.old algebra.new }
     ensures made { IfOk result (A.has algebra.new) }
@@ -264,7 +273,7 @@ fn last_formula<A: Algebra>(
     cut: &Cut,
 ) -> Result<Formula, A::Fail>
     requires bits { AreCutBits (A.cells algebra.old) cut.now.bits.now }
-    requires placing { IsPlacing cut.now.bits.now }
+    requires exact { IsCut cut.now }
     requires known { AllKnown (A.has algebra.old) memo.old }
     ensures keeps { A.keeps algebra.old algebra.new }
     ensures made { IfOk result (A.has algebra.new) }
@@ -347,7 +356,7 @@ pub fn cut_formula<A: Algebra>(
     cut: &Cut,
 ) -> Result<Formula, A::Fail>
     requires bits { AreCutBits (A.cells algebra.old) cut.now.bits.now }
-    requires placing { IsPlacing cut.now.bits.now }
+    requires exact { IsCut cut.now }
     ensures keeps { A.keeps algebra.old algebra.new }
     ensures made { IfOk result (A.has algebra.new) }
 {
