@@ -184,7 +184,7 @@ chain-true b edge n known lows ch r h =
 pub low-clause : (n k : ℕ) (lows : List ℕ) → k < n → low_of n lows k ≡ k
 low-clause n k lows lt = ap (λ (u : Bool). cond u k (slice_index lows (k - n))) (lt-ltb k n lt)
 
-low-result : (n k : ℕ) (lows : List ℕ) → n ≤ k → low_of n lows k ≡ slice_index lows (k - n)
+pub low-result : (n k : ℕ) (lows : List ℕ) → n ≤ k → low_of n lows k ≡ slice_index lows (k - n)
 low-result n k lows le = ap (λ (u : Bool). cond u k (slice_index lows (k - n))) (le-ltb k n le)
 
 behind-push : (b : ℕ → Bool) (edge n : ℕ) (known : List Bool) (lows : List ℕ) (ch : Chain) → Behind edge n known lows

@@ -4,17 +4,18 @@ use Rattle.std.proofs.lemmas.List.{at_drop_more}
 use Rattle.std.proofs.lemmas.Option.{slice_get_within, get_or_from_slice_get}
 use Rattle.prop.specs.declared.Lit.{Lit}
 use Rattle.prop.specs.Logic.{lit_value}
-use Rattle.std.proofs.Common.{slice_index_or, slice_set}
+use Rattle.std.proofs.Common.{slice_index, slice_index_or, slice_set}
 use Rattle.std.proofs.Common.{Result, Ok, Err}
 use Rattle.std.specs.Prelude.{Option, IfOk, OnOk}
 use Rattle.std.proofs.lemmas.Bool.{both_ways, cases_lt}
 use Rattle.interpolants.specs.declared.items.Formula.{Formula}
 use Rattle.interpolants.specs.declared.walk.Cut.{Cut}
 use Rattle.interpolants.specs.Meanings.{HasBit}
-use Rattle.interpolants.specs.Rules.{some_holds}
-use Rattle.interpolants.specs.Sources.{low_of, lows_after}
-use Rattle.interpolants.specs.Walks.{AreBits, AreTrue, HasEntry, IsCut, IsKept, all_truths, leaf_truths, noted_behind, truth_of, value_of}
-use Rattle.interpolants.proofs.Truths.{behind-true, leaf-at, length-leaves, length-truths, low-clause, past-true, truths-keep}
+use Rattle.resolution_log.specs.declared.Chain.{Chain}
+use Rattle.interpolants.specs.Rules.{chain_truth, joined, some_holds, steps_truth}
+use Rattle.interpolants.specs.Sources.{IsMet, low_of, lows_after}
+use Rattle.interpolants.specs.Walks.{AreBits, AreKept, AreMet, AreTrue, HasEntry, IsCut, IsKept, all_truths, leaf_truths, noted_behind, truth_of, value_of}
+use Rattle.interpolants.proofs.Truths.{behind-true, leaf-at, length-leaves, length-truths, low-clause, low-result, past-true, truth-at, truths-keep}
 
 or-assoc : (x y z : Bool) → ((x || y) || z) ≡ (x || (y || z))
 or-assoc true y z = refl
@@ -139,3 +140,106 @@ pub ok-at : {E : Type 0} (r : Result Formula E) (T : Formula → List ℕ → Bo
     → IfOk r (λ f. (s : List ℕ) → T f s ≡ X s) → IfOk r (λ f. T f store ≡ y)
 ok-at (Ok f) T store X y e h = h store ∙ e
 ok-at (Err d) T store X y e h = tt
+
+-- a chain
+pub chain-first : (cut : Cut) (store : List ℕ) (ch : Chain) (x : Bool) → x ≡ truth_of cut store ch.first
+    → steps_truth (noted_behind cut) (all_truths cut store) x ch.pairs ≡ chain_truth (noted_behind cut) (all_truths cut store) ch
+unfolding truth_of
+chain-first cut store ch x e = ap (λ (z : Bool). steps_truth (noted_behind cut) (all_truths cut store) z ch.pairs) e
+
+pub truths-step : (cut : Cut) (ch : Chain) (i a b : ℕ) (old memo : List (Option Formula)) (X : Type 0) → (IsKept cut memo b → X) → AreKept cut old ch
+    → ((k : ℕ) → HasEntry old k → HasEntry memo k) → slice_get ch.pairs i ≡ Some (a, b) → X
+truths-step cut ch i a b old memo X told kept more g = told (kept-grows cut old memo b more (kept b (inr (i, (a, b), g, refl))))
+
+steps-at : (behind : ℕ → Bool) (T : List Bool) (x : Bool) (ps : List (ℕ × ℕ)) (i : ℕ) (p : ℕ × ℕ) → slice_get ps i ≡ Some p
+    → steps_truth behind T x (drop i ps) ≡ steps_truth behind T (joined (behind p.0) x (slice_index_or T p.1 true)) (drop (i + 1) ps)
+steps-at behind T x ps i p g =
+    at_drop_more (steps_truth behind T x) ps i p (slice_get_within ps i p g)
+    ∙ ap (λ (q : ℕ × ℕ). steps_truth behind T (joined (behind q.0) x (slice_index_or T q.1 true)) (drop (i + 1) ps)) (get_or_from_slice_get ps i p p g)
+
+pub chain-step : (cut : Cut) (store : List ℕ) (ch : Chain) (i a b : ℕ) (x y whole : Bool) (old memo : List (Option Formula))
+    → (IsKept cut memo b → y ≡ joined (noted_behind cut a) x (truth_of cut store b)) → AreKept cut old ch
+    → ((k : ℕ) → HasEntry old k → HasEntry memo k) → slice_get ch.pairs i ≡ Some (a, b)
+    → steps_truth (noted_behind cut) (all_truths cut store) x (drop i ch.pairs) ≡ whole
+    → steps_truth (noted_behind cut) (all_truths cut store) y (drop (i + 1) ch.pairs) ≡ whole
+unfolding truth_of
+chain-step cut store ch i a b x y whole old memo told kept more g e =
+    ap (λ (z : Bool). steps_truth (noted_behind cut) (all_truths cut store) z (drop (i + 1) ch.pairs)) (told (kept-grows cut old memo b more (kept b (inr (i, (a, b), g, refl)))))
+    ∙ sym (steps-at (noted_behind cut) (all_truths cut store) x ch.pairs i (a, b) g) ∙ e
+
+-- a result's turn
+pub met-kept : (cut : Cut) (place : ℕ) (ch : Chain) (memo : List (Option Formula)) → IsCut cut → AreMet cut place memo
+    → slice_get cut.log.now place ≡ Some ch → IsMet cut.cone.now.lows.items cut.cone.now.needed.items place cut.edge → AreKept cut memo ch
+met-kept cut place ch memo is met g here m names le lt low =
+    let n : ℕ = length cut.clauses.now in
+    let below : m < n + place = is.names place ch m g names in
+    let need : slice_index_or cut.cone.now.needed.items (m - n) false ≡ true = is.cone.named place ch m g here.1 names le (omega (arith, lt, is.long)) in
+    let q : low_of cut.cone.now.clauses cut.cone.now.lows.items m ≡ slice_index cut.cone.now.lows.items (m - n) =
+    ap (λ (k : ℕ). low_of k cut.cone.now.lows.items m) is.clauses ∙ low-result n m cut.cone.now.lows.items le in
+    let e : n + (m - n) ≡ m = omega (arith, le) in
+    subst (HasEntry memo) e (met.1 (m - n) (omega (arith, below, le)) (omega (arith, lt, is.many), need, omega (arith, low, q)))
+
+pub result-told : (cut : Cut) (store : List ℕ) (place : ℕ) (ch : Chain) → IsCut cut → slice_get cut.log.now place ≡ Some ch
+    → chain_truth (noted_behind cut) (all_truths cut store) ch ≡ truth_of cut store (length cut.clauses.now + place)
+unfolding truth_of
+result-told cut store place ch is g =
+    let l = length-leaves (noted_behind cut) (value_of cut store) cut.edge cut.clauses.now in
+    sym (truth-at (noted_behind cut) (leaf_truths cut store) cut.log.now place ch g (λ m names. omega (arith, l, is.names place ch m g names)))
+    ∙ ap (λ (n : ℕ). slice_index_or (all_truths cut store) (n + place) true) l
+
+-- the last, if it is not met
+pub unmet-told : (cut : Cut) (store : List ℕ) (place : ℕ) → IsCut cut → place + 1 ≡ length cut.log.now
+    → (IsMet cut.cone.now.lows.items cut.cone.now.needed.items place cut.edge → ⊥) → truth_of cut store (length cut.clauses.now + place) ≡ true
+unmet-told cut store place is last none =
+    let n : ℕ = length cut.clauses.now in
+    let need : slice_index_or cut.cone.now.needed.items place false ≡ true = is.cone.last place (omega (arith, last)) in
+    let z : (n + place) - n ≡ place = omega arith in
+    let q : low_of cut.cone.now.clauses cut.cone.now.lows.items (n + place) ≡ slice_index cut.cone.now.lows.items place =
+    ap (λ (k : ℕ). low_of k cut.cone.now.lows.items (n + place)) is.clauses ∙ low-result n (n + place) cut.cone.now.lows.items (omega arith)
+    ∙ ap (slice_index cut.cone.now.lows.items) z in
+    behind-told cut store (n + place) is
+    (elim (cases_lt (slice_index cut.cone.now.lows.items place) cut.edge) [
+      | inl lt ↦ absurd (none (omega (arith, last, is.many), need, lt))
+      | inr le ↦ omega (arith, le, q)
+    ])
+
+-- the results that are written down
+pub met-next : (cut : Cut) (place : ℕ) (memo : List (Option Formula)) → AreMet cut place memo
+    → (IsMet cut.cone.now.lows.items cut.cone.now.needed.items place cut.edge → ⊥) → AreMet cut (place + 1) memo
+met-next cut place memo met none = (met.0, λ k lt here. way k here (cases_lt k place) lt)
+  where
+    way : (k : ℕ) → IsMet cut.cone.now.lows.items cut.cone.now.needed.items k cut.edge → (k < place) ⊎ (place ≤ k) → k < place + 1
+        → HasEntry memo (length cut.clauses.now + k)
+    way k here (inl less) lt = met.1 k less here
+    way k here (inr le) lt =
+        let e : k ≡ place = omega (arith, le, lt) in
+        absurd (none (subst (λ (i : ℕ). IsMet cut.cone.now.lows.items cut.cone.now.needed.items i cut.edge) e here))
+
+set-entry : (memo : List (Option Formula)) (m : ℕ) (f : Formula) → m < length memo → HasEntry (slice_set memo m (Some f)) m
+set-entry [] m f lt = absurd (omega (arith, lt))
+set-entry (q ∷ memo) zero f lt = (f, refl)
+set-entry (q ∷ memo) (suc m) f lt = set-entry memo m f (omega (arith, lt))
+
+set-long : (memo : List (Option Formula)) (m : ℕ) (o : Option Formula) → length (slice_set memo m o) ≡ length memo
+set-long [] m o = refl
+set-long (q ∷ memo) zero o = refl
+set-long (q ∷ memo) (suc m) o = ap suc (set-long memo m o)
+
+pub met-set : (cut : Cut) (place m : ℕ) (ch : Chain) (old memo new : List (Option Formula)) (f : Formula) → AreMet cut place old
+    → slice_get cut.log.now place ≡ Some ch → length memo ≡ length old → ((k : ℕ) → HasEntry old k → HasEntry memo k)
+    → m ≡ length cut.clauses.now + place → new ≡ slice_set memo m (Some f) → AreMet cut (place + 1) new
+met-set cut place m ch old memo new f met g long more at e =
+    let n : ℕ = length cut.clauses.now in
+    let there : place < length cut.log.now = slice_get_within cut.log.now place ch g in
+    subst (AreMet cut (place + 1)) (sym e)
+    (omega (arith, set-long memo m (Some f), long, met.0), λ k lt here. way k here (cases_lt k place) lt there)
+  where
+    way : (k : ℕ) → IsMet cut.cone.now.lows.items cut.cone.now.needed.items k cut.edge → (k < place) ⊎ (place ≤ k) → k < place + 1
+        → place < length cut.log.now → HasEntry (slice_set memo m (Some f)) (length cut.clauses.now + k)
+    way k here (inl less) lt there = entry-grows memo m (length cut.clauses.now + k) f (more (length cut.clauses.now + k) (met.1 k less here))
+    way k here (inr le) lt there =
+        let q : m ≡ length cut.clauses.now + k = omega (arith, at, le, lt) in
+        subst (HasEntry (slice_set memo m (Some f))) q (set-entry memo m f (omega (arith, long, met.0, at, there)))
+
+pub unmet : (r : Bool) (P : Type 0) → r ≡ false → (P → r ≡ true) → P → ⊥
+unmet r P e h p = both_ways r e (h p)

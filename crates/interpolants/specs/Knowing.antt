@@ -9,5 +9,6 @@ pub record IsKnown (clauses : List (List Lit)) (log : List Chain) (k : Known) : 
   pub ends : AreEnds clauses k.ends
   pub clauses_of : k.cone.clauses ≡ length clauses
   pub lows : k.cone.lows.items ≡ lows_after (length clauses) [] log
+  pub many : length k.cone.lows.items ≡ length log
   pub long : length k.cone.needed.items ≡ length log
   pub cone : IsCone (length clauses) k.cone.needed.items log

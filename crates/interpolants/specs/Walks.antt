@@ -6,7 +6,7 @@ use Rattle.interpolants.specs.declared.items.Formula.{Formula}
 use Rattle.interpolants.specs.declared.walk.Cut.{Cut}
 use Rattle.interpolants.specs.Meanings.{Agree, HasBit, IsPlacing, read}
 use Rattle.interpolants.specs.Rules.{leaves, truths_after}
-use Rattle.interpolants.specs.Sources.{IsCone, Names, is_noted, low_of, lows_after}
+use Rattle.interpolants.specs.Sources.{IsCone, IsMet, Names, is_noted, low_of, lows_after}
 
 -- what was noted of a variable: that it occurs behind the cut
 abbrev pub noted_behind : Cut → ℕ → Bool
@@ -46,6 +46,7 @@ pub record IsCut (c : Cut) : Type 0 where
   pub placing : IsPlacing c.bits.now
   pub clauses : c.cone.now.clauses ≡ length c.clauses.now
   pub lows : c.cone.now.lows.items ≡ lows_after (length c.clauses.now) [] c.log.now
+  pub many : length c.cone.now.lows.items ≡ length c.log.now
   pub long : length c.cone.now.needed.items ≡ length c.log.now
   pub cone : IsCone (length c.clauses.now) c.cone.now.needed.items c.log.now
   pub names : (k : ℕ) (ch : Chain) (m : ℕ) → slice_get c.log.now k ≡ Some ch → Names ch m → m < length c.clauses.now + k
@@ -62,3 +63,13 @@ AreTrue truth c store memo = (k : ℕ) (f : Formula) → slice_get memo k ≡ So
 abbrev pub IsKept : Cut → List (Option Formula) → ℕ → Type 0
 IsKept c memo m =
     length c.clauses.now ≤ m → m - length c.clauses.now < length c.log.now → low_of c.cone.now.clauses c.cone.now.lows.items m < c.edge → HasEntry memo m
+
+-- so are all that a chain names
+abbrev pub AreKept : Cut → List (Option Formula) → Chain → Type 0
+AreKept c memo ch = (m : ℕ) → Names ch m → IsKept c memo m
+
+-- there is room for all, and each result before the place that is needed and comes from a clause before the cut is written down
+abbrev pub AreMet : Cut → ℕ → List (Option Formula) → Type 0
+AreMet c p memo =
+    (length memo ≡ length c.clauses.now + length c.log.now)
+    × ((k : ℕ) → k < p → IsMet c.cone.now.lows.items c.cone.now.needed.items k c.edge → HasEntry memo (length c.clauses.now + k))

@@ -1,13 +1,13 @@
 //! The formula of one cut, by a walk over the log (K. McMillan, Interpolation and SAT-Based Model Checking, 2003).
 
-ghost use Rattle.std.specs.Prelude.{◌≡◌, ◌<◌, ◌&&◌, ◌||◌, ℕ, Bool, true, not, List, All, IfOk, OnOk, length, slice_get, slice_index_or, Some};
+ghost use Rattle.std.specs.Prelude.{◌≡◌, ◌+◌, ◌<◌, ◌&&◌, ◌||◌, ℕ, Bool, true, not, List, All, IfOk, OnOk, length, slice_get, slice_index_or, Some};
 ghost use Rattle.prop.specs.Logic.{lit_value};
 ghost use Rattle.formula_diagrams.specs.Truths.{choice};
 ghost use Rattle.interpolants.specs.Cuts.{AreCutBits, IsPlaced};
 ghost use Rattle.interpolants.specs.Meanings.{Agree, HasBit, IsPlacing, agree_from, read, said, twin_agrees};
 ghost use Rattle.interpolants.specs.Memos.{AllKnown};
-ghost use Rattle.interpolants.specs.Rules.{joined, some_holds};
-ghost use Rattle.interpolants.specs.Walks.{AreAgreed, AreBits, AreCovered, AreTrue, HasEntry, IsCut, IsKept, leaf_truths, noted_behind, truth_of, value_of};
+ghost use Rattle.interpolants.specs.Rules.{chain_truth, joined, some_holds};
+ghost use Rattle.interpolants.specs.Walks.{AreAgreed, AreBits, AreCovered, AreKept, AreMet, AreTrue, HasEntry, IsCut, IsKept, all_truths, leaf_truths, noted_behind, truth_of, value_of};
 
 use crate::cone::Cone;
 use crate::items::{Formula, Placed, Twins};
@@ -232,6 +232,10 @@ fn chain_formula<A: Algebra>(
     ensures keeps { A.keeps algebra.old algebra.new }
     ensures made { IfOk result (A.has algebra.new) }
     ensures known { OnOk result (AllKnown (A.has algebra.new) memo.new) }
+    ensures long { length memo.new ≡ length memo.old }
+    ensures grows { (k : ℕ) → HasEntry memo.old k → HasEntry memo.new k }
+    ensures told { (store : List ℕ) → AreAgreed cut.now store → AreCovered cut.now → AreTrue (A.truth algebra.old) cut.now store memo.old → AreKept cut.now memo.old chain.now → IfOk result (λ r. A.truth algebra.new r store ≡ chain_truth (noted_behind cut.now) (all_truths cut.now store) chain.now) }
+    ensures truths { (store : List ℕ) → AreAgreed cut.now store → AreCovered cut.now → AreTrue (A.truth algebra.old) cut.now store memo.old → AreKept cut.now memo.old chain.now → OnOk result (AreTrue (A.truth algebra.new) cut.now store memo.new) }
 {
     let mut so_far = operand(alloc, algebra, memo, cut, chain.first)?;
     for pair in chain.pairs.as_slice() {
@@ -250,12 +254,16 @@ fn visit<A: Algebra>(
     chain: &Chain,
 ) -> Result<Formula, A::Fail>
     requires place { place < 4294967296 }
+    requires at { slice_get cut.now.log.now place ≡ Some chain.now }
     requires bits { AreCutBits (A.cells algebra.old) cut.now.bits.now }
     requires exact { IsCut cut.now }
     requires known { AllKnown (A.has algebra.old) memo.old }
     ensures keeps { A.keeps algebra.old algebra.new }
     ensures made { IfOk result (A.has algebra.new) }
     ensures known { OnOk result (AllKnown (A.has algebra.new) memo.new) }
+    ensures met { AreMet cut.now place memo.old → OnOk result (AreMet cut.now (place + 1) memo.new) }
+    ensures told { (store : List ℕ) → AreAgreed cut.now store → AreCovered cut.now → AreTrue (A.truth algebra.old) cut.now store memo.old → AreMet cut.now place memo.old → place + 1 ≡ length cut.now.log.now → IfOk result (λ r. A.truth algebra.new r store ≡ truth_of cut.now store (length cut.now.clauses.now + place)) }
+    ensures truths { (store : List ℕ) → AreAgreed cut.now store → AreCovered cut.now → AreTrue (A.truth algebra.old) cut.now store memo.old → AreMet cut.now place memo.old → OnOk result (AreTrue (A.truth algebra.new) cut.now store memo.new) }
 {
     if !cut.cone.is_met(place, cut.edge) {
         return algebra.constant(true);
@@ -279,8 +287,9 @@ fn last_formula<A: Algebra>(
     ensures made { IfOk result (A.has algebra.new) }
 {
     let mut formula = algebra.constant(true)?;
-    for (place, chain) in cut.log.chains().iter().enumerate() {
-        formula = visit(alloc, algebra, memo, cut, place, chain)?;
+    let chains = cut.log.chains();
+    for place in 0..chains.len() {
+        formula = visit(alloc, algebra, memo, cut, place, &chains[place])?;
     }
     Ok(formula)
 }

@@ -9,6 +9,7 @@ put_formula-requires-clause-exact c = record {
   placing = c.in_ok-bits.ensures.placing;
   clauses = c.requires.known.clauses_of;
   lows = c.requires.known.lows;
+  many = c.requires.known.many;
   long = c.requires.known.long;
   cone = c.requires.known.cone;
   names = names-below _ _ _ c.requires.refuted.1;
