@@ -7,15 +7,16 @@ use Rattle.prop.specs.Logic.{lit_value}
 use Rattle.std.proofs.Common.{slice_index, slice_index_or, slice_set}
 use Rattle.std.proofs.Common.{Result, Ok, Err}
 use Rattle.std.specs.Prelude.{Option, IfOk, OnOk}
-use Rattle.std.proofs.lemmas.Bool.{both_ways, cases_lt}
+use Rattle.std.proofs.lemmas.Bool.{and_from, and_parts, both_ways, cases_lt}
+use Rattle.interpolants.specs.Memos.{IsBlank}
 use Rattle.interpolants.specs.declared.items.Formula.{Formula}
 use Rattle.interpolants.specs.declared.walk.Cut.{Cut}
-use Rattle.interpolants.specs.Meanings.{HasBit}
+use Rattle.interpolants.specs.Meanings.{HasBit, IsPlacing, agree_from}
 use Rattle.resolution_log.specs.declared.Chain.{Chain}
-use Rattle.interpolants.specs.Rules.{chain_truth, joined, some_holds, steps_truth}
+use Rattle.interpolants.specs.Rules.{chain_truth, joined, last_of, some_holds, steps_truth}
 use Rattle.interpolants.specs.Sources.{IsMet, low_of, lows_after}
-use Rattle.interpolants.specs.Walks.{AreBits, AreKept, AreMet, AreTrue, HasEntry, IsCut, IsKept, all_truths, leaf_truths, noted_behind, truth_of, value_of}
-use Rattle.interpolants.proofs.Truths.{behind-true, leaf-at, length-leaves, length-truths, low-clause, low-result, past-true, truth-at, truths-keep}
+use Rattle.interpolants.specs.Walks.{AreAgreed, AreBits, AreKept, AreMet, AreTrue, HasEntry, IsCut, IsCutTruth, IsKept, all_truths, leaf_truths, noted_behind, truth_of, value_of}
+use Rattle.interpolants.proofs.Truths.{behind-true, last-at, leaf-at, length-leaves, length-truths, low-clause, low-result, past-true, truth-at, truths-keep}
 
 or-assoc : (x y z : Bool) → ((x || y) || z) ≡ (x || (y || z))
 or-assoc true y z = refl
@@ -243,3 +244,38 @@ met-set cut place m ch old memo new f met g long more at e =
 
 pub unmet : (r : Bool) (P : Type 0) → r ≡ false → (P → r ≡ true) → P → ⊥
 unmet r P e h p = both_ways r e (h p)
+
+-- the last result
+pub last-told : (cut : Cut) (store : List ℕ) (place : ℕ) (x : Bool) → place ≡ length cut.log.now → 0 < length cut.log.now
+    → ((p : ℕ) → p + 1 ≡ place → place ≡ length cut.log.now → x ≡ truth_of cut store (length cut.clauses.now + p)) → x ≡ last_of (all_truths cut store)
+unfolding truth_of
+last-told cut store place x e some told =
+    let n : ℕ = length cut.clauses.now in
+    let l = length-leaves (noted_behind cut) (value_of cut store) cut.edge cut.clauses.now in
+    let t = length-truths (noted_behind cut) (leaf_truths cut store) cut.log.now in
+    let q : (place - 1) + 1 ≡ place = omega (arith, e, some) in
+    told (place - 1) q e ∙ sym (last-at (all_truths cut store) (n + (place - 1)) (omega (arith, l, t, e, q)))
+
+pub told-next : (cut : Cut) (store : List ℕ) (place : ℕ) (x : Bool) → (place + 1 ≡ length cut.log.now → x ≡ truth_of cut store (length cut.clauses.now + place))
+    → (p : ℕ) → p + 1 ≡ place + 1 → place + 1 ≡ length cut.log.now → x ≡ truth_of cut store (length cut.clauses.now + p)
+told-next cut store place x told p q last =
+    let e : place ≡ p = omega (arith, q) in subst (λ (i : ℕ). x ≡ truth_of cut store (length cut.clauses.now + i)) e (told last)
+
+pub blank-true : (T : Formula → List ℕ → Bool) (cut : Cut) (store : List ℕ) (memo : List (Option Formula)) → IsBlank memo → AreTrue T cut store memo
+blank-true T cut store memo blank k f h = absurd (blank k f h)
+
+pub none-met : (cut : Cut) (memo : List (Option Formula)) → length memo ≡ length cut.clauses.now + length cut.log.now → AreMet cut 0 memo
+none-met cut memo long = (long, λ k lt here. absurd (omega (arith, lt)))
+
+-- the formula of a cut
+pub cut-told : {E : Type 0} (r : Result Formula E) (T : Formula → List ℕ → Bool) (cut : Cut) (store : List ℕ) (x y : Bool) → IsPlacing cut.bits.now
+    → (AreAgreed cut store → x ≡ last_of (all_truths cut store)) → y ≡ agree_from store true cut.bits.now.twins.items
+    → IfOk r (λ f. T f store ≡ (x && y)) → IfOk r (λ f. IsCutTruth cut store (T f store))
+cut-told (Ok f) T cut store x y is told e h = (
+  λ t.
+      let both = and_parts x y (sym h ∙ t) in
+      let agreed : AreAgreed cut store = is.all store (sym e ∙ both.1) in
+      (agreed, sym (told agreed) ∙ both.0),
+  λ p. h ∙ and_from x y (told p.0 ∙ p.1) (e ∙ is.each store p.0),
+)
+cut-told (Err d) T cut store x y is told e h = tt

@@ -1,11 +1,11 @@
 -- What a walk at a cut goes by.
-use Rattle.std.specs.Prelude.{ℕ, ◌+◌, ◌-◌, ◌<◌, ◌≤◌, ◌≡◌, Bool, true, List, [], Option, Some, length, slice_get, slice_index_or}
+use Rattle.std.specs.Prelude.{ℕ, ◌+◌, ◌-◌, ◌<◌, ◌≤◌, ◌≡◌, Bool, true, List, [], Option, Some, length, slice_get, slice_index_or, ◌↔◌}
 use Rattle.prop.specs.declared.Lit.{Lit}
 use Rattle.resolution_log.specs.declared.Chain.{Chain}
 use Rattle.interpolants.specs.declared.items.Formula.{Formula}
 use Rattle.interpolants.specs.declared.walk.Cut.{Cut}
 use Rattle.interpolants.specs.Meanings.{Agree, HasBit, IsPlacing, read}
-use Rattle.interpolants.specs.Rules.{leaves, truths_after}
+use Rattle.interpolants.specs.Rules.{last_of, leaves, truths_after}
 use Rattle.interpolants.specs.Sources.{IsCone, IsMet, Names, is_noted, low_of, lows_after}
 
 -- what was noted of a variable: that it occurs behind the cut
@@ -73,3 +73,7 @@ abbrev pub AreMet : Cut → ℕ → List (Option Formula) → Type 0
 AreMet c p memo =
     (length memo ≡ length c.clauses.now + length c.log.now)
     × ((k : ℕ) → k < p → IsMet c.cone.now.lows.items c.cone.now.needed.items k c.edge → HasEntry memo (length c.clauses.now + k))
+
+-- it is true exactly where all bits with one variable agree and the truth of the last result is true
+abbrev pub IsCutTruth : Cut → List ℕ → Bool → Type 0
+IsCutTruth c store x = (x ≡ true) ↔ (AreAgreed c store × (last_of (all_truths c store) ≡ true))

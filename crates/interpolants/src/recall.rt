@@ -56,7 +56,8 @@ impl Memo {
 
     /// Forgets all formulas. It takes no memory.
     pub fn forget(&mut self)
-        ensures { IsBlank self.new }
+        ensures blank { IsBlank self.new }
+        ensures long { length self.new ≡ length self.old }
     {
         if self.epoch == u32::MAX {
             take_back(&mut self.marks);

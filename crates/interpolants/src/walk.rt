@@ -6,8 +6,8 @@ ghost use Rattle.formula_diagrams.specs.Truths.{choice};
 ghost use Rattle.interpolants.specs.Cuts.{AreCutBits, IsPlaced};
 ghost use Rattle.interpolants.specs.Meanings.{Agree, HasBit, IsPlacing, agree_from, read, said, twin_agrees};
 ghost use Rattle.interpolants.specs.Memos.{AllKnown};
-ghost use Rattle.interpolants.specs.Rules.{chain_truth, joined, some_holds};
-ghost use Rattle.interpolants.specs.Walks.{AreAgreed, AreBits, AreCovered, AreKept, AreMet, AreTrue, HasEntry, IsCut, IsKept, all_truths, leaf_truths, noted_behind, truth_of, value_of};
+ghost use Rattle.interpolants.specs.Rules.{chain_truth, joined, last_of, some_holds};
+ghost use Rattle.interpolants.specs.Walks.{AreAgreed, AreBits, AreCovered, AreKept, AreMet, AreTrue, HasEntry, IsCut, IsCutTruth, IsKept, all_truths, leaf_truths, noted_behind, truth_of, value_of};
 
 use crate::cone::Cone;
 use crate::items::{Formula, Placed, Twins};
@@ -261,6 +261,7 @@ fn visit<A: Algebra>(
     ensures keeps { A.keeps algebra.old algebra.new }
     ensures made { IfOk result (A.has algebra.new) }
     ensures known { OnOk result (AllKnown (A.has algebra.new) memo.new) }
+    ensures long { length memo.new ≡ length memo.old }
     ensures met { AreMet cut.now place memo.old → OnOk result (AreMet cut.now (place + 1) memo.new) }
     ensures told { (store : List ℕ) → AreAgreed cut.now store → AreCovered cut.now → AreTrue (A.truth algebra.old) cut.now store memo.old → AreMet cut.now place memo.old → place + 1 ≡ length cut.now.log.now → IfOk result (λ r. A.truth algebra.new r store ≡ truth_of cut.now store (length cut.now.clauses.now + place)) }
     ensures truths { (store : List ℕ) → AreAgreed cut.now store → AreCovered cut.now → AreTrue (A.truth algebra.old) cut.now store memo.old → AreMet cut.now place memo.old → OnOk result (AreTrue (A.truth algebra.new) cut.now store memo.new) }
@@ -284,7 +285,9 @@ fn last_formula<A: Algebra>(
     requires exact { IsCut cut.now }
     requires known { AllKnown (A.has algebra.old) memo.old }
     ensures keeps { A.keeps algebra.old algebra.new }
+    ensures long { length memo.new ≡ length memo.old }
     ensures made { IfOk result (A.has algebra.new) }
+    ensures told { (store : List ℕ) → AreAgreed cut.now store → AreCovered cut.now → AreTrue (A.truth algebra.old) cut.now store memo.old → AreMet cut.now 0 memo.old → 0 < length cut.now.log.now → IfOk result (λ r. A.truth algebra.new r store ≡ last_of (all_truths cut.now store)) }
 {
     let mut formula = algebra.constant(true)?;
     let chains = cut.log.chains();
@@ -368,6 +371,8 @@ pub fn cut_formula<A: Algebra>(
     requires exact { IsCut cut.now }
     ensures keeps { A.keeps algebra.old algebra.new }
     ensures made { IfOk result (A.has algebra.new) }
+    ensures long { length memo.new ≡ length memo.old }
+    ensures told { (store : List ℕ) → AreCovered cut.now → length memo.old ≡ length cut.now.clauses.now + length cut.now.log.now → 0 < length cut.now.log.now → IfOk result (λ r. IsCutTruth cut.now store (A.truth algebra.new r store)) }
 {
     memo.forget();
     let agree = agreements(alloc, algebra, cut.bits)?;
