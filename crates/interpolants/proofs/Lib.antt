@@ -7,3 +7,4 @@ pub mod Settling
 pub mod Agreeing
 pub mod Walking
 pub mod Ending
+pub mod Truths

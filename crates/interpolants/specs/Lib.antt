@@ -6,4 +6,5 @@ pub mod Meanings
 pub mod Rules
 pub mod Sources
 pub mod Walks
+pub mod Knowing
 pub mod Laws

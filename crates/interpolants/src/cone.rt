@@ -1,7 +1,8 @@
 //! What a log's chains come from, and which of them the last one comes from.
 
-ghost use Rattle.std.specs.Prelude.{◌≡◌, ◌≤◌, ◌<◌, ◌↔◌, length, IfOk, IsTrue};
-ghost use Rattle.interpolants.specs.Sources.{IsMet, low_of};
+ghost use Rattle.std.specs.Prelude.{◌≡◌, ◌≤◌, ◌<◌, ◌-◌, ◌↔◌, ℕ, Bool, true, false, [], Some, length, slice_get, slice_index_or, IfOk, IsTrue};
+ghost use Rattle.resolution_log.specs.declared.Chain.{Chain};
+ghost use Rattle.interpolants.specs.Sources.{IsCone, IsMet, IsNeeded, Names, chain_low, low_of, lower, lows_after};
 
 use lv_base::Memory;
 use resolution_log::Chain;
@@ -27,17 +28,26 @@ fn low_of(clauses: u32, lows: &[u32], number: u32) -> u32
     if place < lows.len() { lows[place] } else { 0 }
 }
 
+fn lower(one: u32, other: u32) -> u32
+    ensures { result ≡ lower one other }
+{
+    if other < one { other } else { one }
+}
+
 // The lowest clause that a chain comes from.
-fn low_of_chain(clauses: u32, lows: &[u32], chain: &Chain) -> u32 {
+fn low_of_chain(clauses: u32, lows: &[u32], chain: &Chain) -> u32
+    ensures { result ≡ chain_low clauses lows.now chain.now }
+{
     let mut low = low_of(clauses, lows, chain.first);
     for pair in chain.pairs.as_slice() {
-        low = low.min(low_of(clauses, lows, pair.1));
+        low = lower(low, low_of(clauses, lows, pair.1));
     }
     low
 }
 
 fn lows_of(alloc: Global, clauses: u32, chains: &[Chain]) -> Result<Vec<u32>, Memory>
-    ensures { IfOk result (λ lows. length lows.items ≡ length chains.now) }
+    ensures length { IfOk result (λ lows. length lows.items ≡ length chains.now) }
+    ensures lows { IfOk result (λ lows. lows.items ≡ lows_after clauses [] chains.now) }
 {
     let mut lows = Vec::new(alloc);
     for chain in chains {
@@ -78,16 +88,78 @@ fn mark_below(needed: &mut [bool], clauses: u32, chains: &[Chain])
     }
 }
 
-// Marks the last chain, and all that it comes from.
+// Whether the chain of a number's result is marked, if one has it.
+fn is_marked(needed: &[bool], clauses: u32, number: u32) -> bool
+    ensures { result ≡ true → IsNeeded clauses needed.now number }
+{
+    if number < clauses {
+        return true;
+    }
+    let place = (number - clauses) as usize;
+    if place >= needed.len() {
+        return true;
+    }
+    needed[place]
+}
+
+// Whether all chains that a chain names are marked.
+fn are_marked(needed: &[bool], clauses: u32, chain: &Chain) -> bool
+    ensures { result ≡ true → (m : ℕ) → Names chain.now m → IsNeeded clauses needed.now m }
+{
+    if !is_marked(needed, clauses, chain.first) {
+        return false;
+    }
+    for pair in chain.pairs.as_slice() {
+        if !is_marked(needed, clauses, pair.1) {
+            return false;
+        }
+    }
+    true
+}
+
+// Whether all chains that marked ones name are marked.
+fn is_closed(needed: &[bool], clauses: u32, chains: &[Chain]) -> bool
+    requires { length needed.now ≡ length chains.now }
+    ensures { result ≡ true → (k : ℕ) (ch : Chain) (m : ℕ) → slice_get chains.now k ≡ Some ch → slice_index_or needed.now k false ≡ true → Names ch m → IsNeeded clauses needed.now m }
+{
+    for place in 0..chains.len() {
+        if needed[place] && !are_marked(needed, clauses, &chains[place]) {
+            return false;
+        }
+    }
+    true
+}
+
+// Whether the marks are those of a cone.
+fn is_cone(needed: &[bool], clauses: u32, chains: &[Chain]) -> bool
+    requires { length needed.now ≡ length chains.now }
+    ensures { result ≡ true → IsCone clauses needed.now chains.now }
+{
+    if chains.is_empty() {
+        return true;
+    }
+    if !needed[chains.len() - 1] {
+        return false;
+    }
+    is_closed(needed, clauses, chains)
+}
+
+// Marks the last chain, and all that it comes from. In a log whose chains name earlier ones alone, the marks are those of a cone; of any
+// other log all are needed.
 fn needed_of(alloc: Global, clauses: u32, chains: &[Chain]) -> Result<Vec<bool>, Memory>
-    ensures { IfOk result (λ needed. length needed.items ≡ length chains.now) }
+    ensures length { IfOk result (λ needed. length needed.items ≡ length chains.now) }
+    ensures cone { IfOk result (λ needed. IsCone clauses needed.items chains.now) }
 {
     let mut needed = vec![in alloc; false; chains.len()]?;
     if let Some(last) = needed.last_mut() {
         *last = true;
     }
     mark_below(&mut needed, clauses, chains);
-    Ok(needed)
+    if is_cone(&needed, clauses, chains) {
+        return Ok(needed);
+    }
+    let all = vec![in alloc; true; chains.len()]?;
+    Ok(all)
 }
 
 impl Cone {
@@ -96,6 +168,8 @@ impl Cone {
         ensures clauses { IfOk result (λ c. c.clauses ≡ clauses) }
         ensures lows { IfOk result (λ c. length c.lows.items ≡ length chains.now) }
         ensures needed { IfOk result (λ c. length c.needed.items ≡ length chains.now) }
+        ensures sources { IfOk result (λ c. c.lows.items ≡ lows_after clauses [] chains.now) }
+        ensures cone { IfOk result (λ c. IsCone clauses c.needed.items chains.now) }
     {
         let lows = lows_of(alloc, clauses, chains)?;
         let needed = needed_of(alloc, clauses, chains)?;

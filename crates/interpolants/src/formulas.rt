@@ -7,7 +7,8 @@ ghost use Rattle.formula_diagrams.specs.Writings.{IsOneBit};
 ghost use Rattle.path_query.specs.Facts.{IsBundle, IsQuery};
 ghost use Rattle.resolution_log.specs.Chains.{IsRefutation};
 ghost use Rattle.interpolants.specs.Cuts.{Adds, AreCutBits, AreFormulas};
-ghost use Rattle.interpolants.specs.Meanings.{IsPlacing};
+ghost use Rattle.interpolants.specs.Knowing.{IsKnown};
+ghost use Rattle.interpolants.specs.Walks.{IsCut};
 
 use crate::cone::Cone;
 use crate::occurrences::Ends;
@@ -28,12 +29,14 @@ const MOST_NODES: u32 = 4_000;
 
 // What is known of the question and its refutation at every cut.
 #[derive(Drop)]
-struct Known {
+pub struct Known {
     ends: Ends,
     cone: Cone,
 }
 
-fn known_of(alloc: Global, query: &PathQuery, log: &Log) -> Result<Known, Memory> {
+fn known_of(alloc: Global, query: &PathQuery, log: &Log) -> Result<Known, Memory>
+    ensures { IfOk result (IsKnown query.now.clauses log.now) }
+{
     let ends = Ends::new(alloc, &query.clauses)?;
     let cone = Cone::new(alloc, query.clauses.len(), log.chains())?;
     Ok(Known { ends, cone })
@@ -47,7 +50,7 @@ fn put_diagram(
     terms: &mut Terms,
 ) -> Result<TermId, DiagramFail>
     requires bits { AreCutBits terms.old.cells cut.now.bits.now }
-    requires placing { IsPlacing cut.now.bits.now }
+    requires exact { IsCut cut.now }
     ensures extends { Extends terms.old terms.new }
     ensures bit { IfOk result (IsOneBit terms.new) }
 {
@@ -61,7 +64,7 @@ fn put_diagram(
 // The formula of a cut made of plain terms.
 fn put_plain(alloc: Global, cut: &Cut, memo: &mut Memo, terms: &mut Terms) -> Result<TermId, Memory>
     requires bits { AreCutBits terms.old.cells cut.now.bits.now }
-    requires placing { IsPlacing cut.now.bits.now }
+    requires exact { IsCut cut.now }
     ensures extends { Extends terms.old terms.new }
     ensures bit { IfOk result (IsOneBit terms.new) }
 {
@@ -77,7 +80,7 @@ fn put_formula(
     terms: &mut Terms,
 ) -> Result<TermId, Memory>
     requires bits { AreCutBits terms.old.cells cut.now.bits.now }
-    requires placing { IsPlacing cut.now.bits.now }
+    requires exact { IsCut cut.now }
     ensures extends { Extends terms.old terms.new }
     ensures bit { IfOk result (IsOneBit terms.new) }
 {
@@ -106,6 +109,8 @@ fn put_at(
     memo: &mut Memo,
     terms: &mut Terms,
 ) -> Result<TermId, Memory>
+    requires known { IsKnown query.now.clauses log.now known.now }
+    requires refuted { IsRefutation query.now.clauses log.now }
     requires start { number < length query.now.starts }
     requires cut { number < length query.now.cuts }
     requires bundles { All (All (IsBundle terms.old.cells)) query.now.cuts }
@@ -132,6 +137,7 @@ fn put_inner(
     formulas: &mut Vec<TermId>,
     terms: &mut Terms,
 ) -> Result<(), Memory>
+    requires refuted { IsRefutation query.now.clauses log.now }
     requires cuts { length query.now.cuts ≡ suc (length query.now.starts) }
     requires bundles { All (All (IsBundle terms.old.cells)) query.now.cuts }
     ensures extends { Extends terms.old terms.new }

@@ -1,6 +1,7 @@
 //! What a walk over a log found clauses to be.
 
-ghost use Rattle.std.specs.Prelude.{◌≡◌, ◌≤◌, Some, length, slice_get, slice_set, IfOk, IfSome, All};
+ghost use Rattle.std.specs.Prelude.{◌≡◌, ◌≤◌, Some, length, slice_get, slice_set, IfOk, IfSome, IfNone, All};
+ghost use Rattle.interpolants.specs.declared.items.Formula.{Formula};
 ghost use Rattle.interpolants.specs.Memos.{IsBlank};
 
 use crate::items::{Formula, Mark};
@@ -55,7 +56,8 @@ impl Memo {
 
     /// Forgets all formulas. It takes no memory.
     pub fn forget(&mut self)
-        ensures { IsBlank self.new }
+        ensures blank { IsBlank self.new }
+        ensures long { length self.new ≡ length self.old }
     {
         if self.epoch == u32::MAX {
             take_back(&mut self.marks);
@@ -67,7 +69,8 @@ impl Memo {
 
     /// The formula of a clause, if there is one. It takes no memory.
     pub fn find(&self, at: usize) -> Option<Formula>
-        ensures { IfSome result (λ f. slice_get self.now at ≡ Some (Some f)) }
+        ensures found { IfSome result (λ f. slice_get self.now at ≡ Some (Some f)) }
+        ensures none { IfNone result ((f : Formula) → slice_get self.now at ≡ Some (Some f) → ⊥) }
     {
         if at < self.marks.len() && self.marks[at].epoch == self.epoch {
             return Some(self.marks[at].formula);

@@ -1,13 +1,13 @@
 //! The formula of one cut, by a walk over the log (K. McMillan, Interpolation and SAT-Based Model Checking, 2003).
 
-ghost use Rattle.std.specs.Prelude.{◌≡◌, ◌<◌, ◌&&◌, ◌||◌, ℕ, Bool, true, not, List, All, IfOk, OnOk, length, slice_get, Some};
+ghost use Rattle.std.specs.Prelude.{◌≡◌, ◌+◌, ◌<◌, ◌&&◌, ◌||◌, ℕ, Bool, true, not, List, All, IfOk, OnOk, length, slice_get, slice_index_or, Some};
 ghost use Rattle.prop.specs.Logic.{lit_value};
 ghost use Rattle.formula_diagrams.specs.Truths.{choice};
 ghost use Rattle.interpolants.specs.Cuts.{AreCutBits, IsPlaced};
 ghost use Rattle.interpolants.specs.Meanings.{Agree, HasBit, IsPlacing, agree_from, read, said, twin_agrees};
 ghost use Rattle.interpolants.specs.Memos.{AllKnown};
-ghost use Rattle.interpolants.specs.Rules.{joined, some_holds};
-ghost use Rattle.interpolants.specs.Walks.{AreAgreed, AreBits, noted_behind, value_of};
+ghost use Rattle.interpolants.specs.Rules.{chain_truth, joined, last_of, some_holds};
+ghost use Rattle.interpolants.specs.Walks.{AreAgreed, AreBits, AreCovered, AreKept, AreMet, AreTrue, HasEntry, IsCut, IsCutTruth, IsKept, all_truths, leaf_truths, noted_behind, truth_of, value_of};
 
 use crate::cone::Cone;
 use crate::items::{Formula, Placed, Twins};
@@ -129,9 +129,10 @@ fn fresh<A: Algebra>(
     number: u32,
 ) -> Result<Formula, A::Fail>
     requires bits { AreCutBits (A.cells algebra.old) cut.now.bits.now }
-    requires placing { IsPlacing cut.now.bits.now }
+    requires exact { IsCut cut.now }
     ensures keeps { A.keeps algebra.old algebra.new }
     ensures made { IfOk result (A.has algebra.new) }
+    ensures told { (store : List ℕ) → AreAgreed cut.now store → AreCovered cut.now → (number < length cut.now.clauses.now → number < cut.now.edge) → IfOk result (λ r. A.truth algebra.new r store ≡ slice_index_or (leaf_truths cut.now store) number true) }
 {
     if number < cut.clauses.len() {
         leaf(alloc, algebra, cut, cut.clauses.clause(number))
@@ -149,11 +150,15 @@ fn operand<A: Algebra>(
     number: u32,
 ) -> Result<Formula, A::Fail>
     requires bits { AreCutBits (A.cells algebra.old) cut.now.bits.now }
-    requires placing { IsPlacing cut.now.bits.now }
+    requires exact { IsCut cut.now }
     requires known { AllKnown (A.has algebra.old) memo.old }
     ensures keeps { A.keeps algebra.old algebra.new }
     ensures made { IfOk result (A.has algebra.new) }
     ensures known { OnOk result (AllKnown (A.has algebra.new) memo.new) }
+    ensures long { length memo.new ≡ length memo.old }
+    ensures grows { (k : ℕ) → HasEntry memo.old k → HasEntry memo.new k }
+    ensures told { (store : List ℕ) → AreAgreed cut.now store → AreCovered cut.now → AreTrue (A.truth algebra.old) cut.now store memo.old → IsKept cut.now memo.old number → IfOk result (λ r. A.truth algebra.new r store ≡ truth_of cut.now store number) }
+    ensures truths { (store : List ℕ) → AreAgreed cut.now store → AreCovered cut.now → AreTrue (A.truth algebra.old) cut.now store memo.old → IsKept cut.now memo.old number → OnOk result (AreTrue (A.truth algebra.new) cut.now store memo.new) }
 {
     if cut.cone.is_behind(number, cut.edge) {
         return algebra.constant(true);
@@ -198,12 +203,16 @@ fn step<A: Algebra>(
     pair: (u32, u32),
 ) -> Result<Formula, A::Fail>
     requires bits { AreCutBits (A.cells algebra.old) cut.now.bits.now }
-    requires placing { IsPlacing cut.now.bits.now }
+    requires exact { IsCut cut.now }
     requires known { AllKnown (A.has algebra.old) memo.old }
     requires so_far { A.has algebra.old so_far }
     ensures keeps { A.keeps algebra.old algebra.new }
     ensures made { IfOk result (A.has algebra.new) }
     ensures known { OnOk result (AllKnown (A.has algebra.new) memo.new) }
+    ensures long { length memo.new ≡ length memo.old }
+    ensures grows { (k : ℕ) → HasEntry memo.old k → HasEntry memo.new k }
+    ensures told { (store : List ℕ) → AreAgreed cut.now store → AreCovered cut.now → AreTrue (A.truth algebra.old) cut.now store memo.old → IsKept cut.now memo.old pair.1 → IfOk result (λ r. A.truth algebra.new r store ≡ joined (noted_behind cut.now pair.0) (A.truth algebra.old so_far store) (truth_of cut.now store pair.1)) }
+    ensures truths { (store : List ℕ) → AreAgreed cut.now store → AreCovered cut.now → AreTrue (A.truth algebra.old) cut.now store memo.old → IsKept cut.now memo.old pair.1 → OnOk result (AreTrue (A.truth algebra.new) cut.now store memo.new) }
 {
     let other = operand(alloc, algebra, memo, cut, pair.1)?;
     resolved(alloc, algebra, cut, pair.0, so_far, other)
@@ -218,11 +227,15 @@ fn chain_formula<A: Algebra>(
     chain: &Chain,
 ) -> Result<Formula, A::Fail>
     requires bits { AreCutBits (A.cells algebra.old) cut.now.bits.now }
-    requires placing { IsPlacing cut.now.bits.now }
+    requires exact { IsCut cut.now }
     requires known { AllKnown (A.has algebra.old) memo.old }
     ensures keeps { A.keeps algebra.old algebra.new }
     ensures made { IfOk result (A.has algebra.new) }
     ensures known { OnOk result (AllKnown (A.has algebra.new) memo.new) }
+    ensures long { length memo.new ≡ length memo.old }
+    ensures grows { (k : ℕ) → HasEntry memo.old k → HasEntry memo.new k }
+    ensures told { (store : List ℕ) → AreAgreed cut.now store → AreCovered cut.now → AreTrue (A.truth algebra.old) cut.now store memo.old → AreKept cut.now memo.old chain.now → IfOk result (λ r. A.truth algebra.new r store ≡ chain_truth (noted_behind cut.now) (all_truths cut.now store) chain.now) }
+    ensures truths { (store : List ℕ) → AreAgreed cut.now store → AreCovered cut.now → AreTrue (A.truth algebra.old) cut.now store memo.old → AreKept cut.now memo.old chain.now → OnOk result (AreTrue (A.truth algebra.new) cut.now store memo.new) }
 {
     let mut so_far = operand(alloc, algebra, memo, cut, chain.first)?;
     for pair in chain.pairs.as_slice() {
@@ -241,12 +254,17 @@ fn visit<A: Algebra>(
     chain: &Chain,
 ) -> Result<Formula, A::Fail>
     requires place { place < 4294967296 }
+    requires at { slice_get cut.now.log.now place ≡ Some chain.now }
     requires bits { AreCutBits (A.cells algebra.old) cut.now.bits.now }
-    requires placing { IsPlacing cut.now.bits.now }
+    requires exact { IsCut cut.now }
     requires known { AllKnown (A.has algebra.old) memo.old }
     ensures keeps { A.keeps algebra.old algebra.new }
     ensures made { IfOk result (A.has algebra.new) }
     ensures known { OnOk result (AllKnown (A.has algebra.new) memo.new) }
+    ensures long { length memo.new ≡ length memo.old }
+    ensures met { AreMet cut.now place memo.old → OnOk result (AreMet cut.now (place + 1) memo.new) }
+    ensures told { (store : List ℕ) → AreAgreed cut.now store → AreCovered cut.now → AreTrue (A.truth algebra.old) cut.now store memo.old → AreMet cut.now place memo.old → place + 1 ≡ length cut.now.log.now → IfOk result (λ r. A.truth algebra.new r store ≡ truth_of cut.now store (length cut.now.clauses.now + place)) }
+    ensures truths { (store : List ℕ) → AreAgreed cut.now store → AreCovered cut.now → AreTrue (A.truth algebra.old) cut.now store memo.old → AreMet cut.now place memo.old → OnOk result (AreTrue (A.truth algebra.new) cut.now store memo.new) }
 {
     if !cut.cone.is_met(place, cut.edge) {
         return algebra.constant(true);
@@ -264,14 +282,17 @@ fn last_formula<A: Algebra>(
     cut: &Cut,
 ) -> Result<Formula, A::Fail>
     requires bits { AreCutBits (A.cells algebra.old) cut.now.bits.now }
-    requires placing { IsPlacing cut.now.bits.now }
+    requires exact { IsCut cut.now }
     requires known { AllKnown (A.has algebra.old) memo.old }
     ensures keeps { A.keeps algebra.old algebra.new }
+    ensures long { length memo.new ≡ length memo.old }
     ensures made { IfOk result (A.has algebra.new) }
+    ensures told { (store : List ℕ) → AreAgreed cut.now store → AreCovered cut.now → AreTrue (A.truth algebra.old) cut.now store memo.old → AreMet cut.now 0 memo.old → 0 < length cut.now.log.now → IfOk result (λ r. A.truth algebra.new r store ≡ last_of (all_truths cut.now store)) }
 {
     let mut formula = algebra.constant(true)?;
-    for (place, chain) in cut.log.chains().iter().enumerate() {
-        formula = visit(alloc, algebra, memo, cut, place, chain)?;
+    let chains = cut.log.chains();
+    for place in 0..chains.len() {
+        formula = visit(alloc, algebra, memo, cut, place, &chains[place])?;
     }
     Ok(formula)
 }
@@ -347,9 +368,11 @@ pub fn cut_formula<A: Algebra>(
     cut: &Cut,
 ) -> Result<Formula, A::Fail>
     requires bits { AreCutBits (A.cells algebra.old) cut.now.bits.now }
-    requires placing { IsPlacing cut.now.bits.now }
+    requires exact { IsCut cut.now }
     ensures keeps { A.keeps algebra.old algebra.new }
     ensures made { IfOk result (A.has algebra.new) }
+    ensures long { length memo.new ≡ length memo.old }
+    ensures told { (store : List ℕ) → AreCovered cut.now → length memo.old ≡ length cut.now.clauses.now + length cut.now.log.now → 0 < length cut.now.log.now → IfOk result (λ r. IsCutTruth cut.now store (A.truth algebra.new r store)) }
 {
     memo.forget();
     let agree = agreements(alloc, algebra, cut.bits)?;
