@@ -224,6 +224,7 @@ fn maps_and_obligations() {
     obligation_laws::inductive_exact();
     cert_check_laws::accepted_is_inductive();
     cert_check_laws::accepted_is_safe();
+    cert_check_laws::accepted_is_not_refused();
 }
 
 #[test]
