@@ -1,10 +1,9 @@
 -- Bits whose literals have one variable.
-use Rattle.std.proofs.Common.{◌≡◌, ◌≢◌, ℕ, ◌+◌, ◌<◌, ◌≤◌, ◌⊎◌, inl, inr, Bool, true, false, not, ◌&&◌, List, [], ◌∷◌, ◌++◌, length, cond, nat_eq, Option, Some, None, slice_get, zero, suc, refl, sym, ap, ◌∙◌, subst, arith}
+use Rattle.std.proofs.Common.{◌≡◌, ℕ, ◌⊎◌, inl, inr, Bool, true, false, not, ◌&&◌, List, [], ◌∷◌, ◌++◌, length, cond, nat_eq, Option, Some, None, slice_get, zero, suc, refl, sym, ap, ◌∙◌, subst}
 use Rattle.std.proofs.Common.{Result, Ok, Err}
 use Rattle.std.specs.Prelude.{IfOk}
-use Rattle.std.specs.HashMap.{get, HashMap, Updates}
+use Rattle.std.specs.HashMap.{get}
 use Rattle.std.proofs.lemmas.Bool.{eqb-true, eq-eqb, and_parts, and_from, cases_eq, ne_eqb}
-use Rattle.std.proofs.lemmas.Option.{slice_get_within}
 use Rattle.prop.specs.Steps.{same_sign}
 use Rattle.prop.specs.declared.Lit.{Lit}
 use Rattle.prop.specs.Logic.{lit_value}

@@ -1,11 +1,11 @@
 -- The truths of clauses and results at a cut, by their numbers.
-use Rattle.std.proofs.Common.{◌≡◌, ℕ, ◌+◌, ◌-◌, ◌<◌, ◌≤◌, ◌⊎◌, inl, inr, Bool, true, false, ◌&&◌, ◌||◌, List, [], ◌∷◌, ◌++◌, length, nat_lt, slice_index, slice_index_or, Some, slice_get, zero, suc, refl, sym, ap, ◌∙◌, subst, arith, cond}
+use Rattle.std.proofs.Common.{◌≡◌, ℕ, ◌+◌, ◌-◌, ◌<◌, ◌≤◌, ◌⊎◌, inl, inr, Bool, true, false, List, [], ◌∷◌, ◌++◌, length, nat_lt, slice_index, slice_index_or, Some, slice_get, zero, suc, refl, sym, ap, ◌∙◌, subst, arith, cond}
 use Rattle.std.proofs.lemmas.Bool.{ltb-true, ltb-false, lt-ltb, le-ltb, cases_lt}
 use Rattle.std.proofs.lemmas.List.{length-append, get_or_append_left, get_or-append-add}
 use Rattle.std.proofs.lemmas.Option.{slice_get_within}
 use Rattle.prop.specs.declared.Lit.{Lit}
 use Rattle.resolution_log.specs.declared.Chain.{Chain}
-use Rattle.resolution_log.specs.Chains.{IsRefutation, chain_from, chain_result, results_of}
+use Rattle.resolution_log.specs.Chains.{chain_from, chain_result, results_of}
 use Rattle.resolution_log.proofs.Results.{then_parts, step_parts, results_parts}
 use Rattle.interpolants.specs.Rules.{some_holds, leaves, joined, steps_truth, chain_truth, truths_after, last_of}
 use Rattle.interpolants.specs.Sources.{low_of, lower, pairs_low, chain_low, lows_after, Names}

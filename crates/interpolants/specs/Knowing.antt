@@ -1,5 +1,5 @@
 -- What is known of clauses and a log at every cut.
-use Rattle.std.specs.Prelude.{ℕ, ◌≡◌, List, [], length}
+use Rattle.std.specs.Prelude.{◌≡◌, List, [], length}
 use Rattle.prop.specs.declared.Lit.{Lit}
 use Rattle.resolution_log.specs.declared.Chain.{Chain}
 use Rattle.interpolants.specs.declared.formulas.Known.{Known}

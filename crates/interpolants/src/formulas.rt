@@ -1,6 +1,6 @@
 //! A formula for each cut of a path.
 
-ghost use Rattle.std.specs.Prelude.{◌≡◌, ◌<◌, ◌-◌, ℕ, List, length, suc, All, IfOk, OnOk};
+ghost use Rattle.std.specs.Prelude.{◌≡◌, ◌+◌, ◌<◌, ◌-◌, ℕ, List, length, suc, All, IfOk, OnOk};
 ghost use Rattle.bv_term.specs.Laws.{Extends};
 ghost use Rattle.c_graph.specs.Shape.{widths_of};
 ghost use Rattle.formula_diagrams.specs.Writings.{IsOneBit};
@@ -8,7 +8,8 @@ ghost use Rattle.path_query.specs.Facts.{IsBundle, IsQuery};
 ghost use Rattle.resolution_log.specs.Chains.{IsRefutation};
 ghost use Rattle.interpolants.specs.Cuts.{Adds, AreCutBits, AreFormulas};
 ghost use Rattle.interpolants.specs.Knowing.{IsKnown};
-ghost use Rattle.interpolants.specs.Walks.{IsCut};
+ghost use Rattle.interpolants.specs.Keeping.{term_truth};
+ghost use Rattle.interpolants.specs.Walks.{AreCovered, IsCut, IsCutTruth};
 
 use crate::cone::Cone;
 use crate::occurrences::Ends;
@@ -53,6 +54,8 @@ fn put_diagram(
     requires exact { IsCut cut.now }
     ensures extends { Extends terms.old terms.new }
     ensures bit { IfOk result (IsOneBit terms.new) }
+    ensures long { length memo.new ≡ length memo.old }
+    ensures told { (store : List ℕ) → AreCovered cut.now → length memo.old ≡ length cut.now.clauses.now + length cut.now.log.now → 0 < length cut.now.log.now → IfOk result (λ t. IsCutTruth cut.now store (term_truth terms.new (record { 0 = t.0 }) store)) }
 {
     let cells = Vec::from_slice(alloc, terms.cells())?;
     let mut diagrams = Diagrams::new(alloc, cells, MOST_NODES);
@@ -67,6 +70,8 @@ fn put_plain(alloc: Global, cut: &Cut, memo: &mut Memo, terms: &mut Terms) -> Re
     requires exact { IsCut cut.now }
     ensures extends { Extends terms.old terms.new }
     ensures bit { IfOk result (IsOneBit terms.new) }
+    ensures long { length memo.new ≡ length memo.old }
+    ensures told { (store : List ℕ) → AreCovered cut.now → length memo.old ≡ length cut.now.clauses.now + length cut.now.log.now → 0 < length cut.now.log.now → IfOk result (λ t. IsCutTruth cut.now store (term_truth terms.new (record { 0 = t.0 }) store)) }
 {
     let formula = cut_formula(alloc, terms, memo, cut)?;
     Ok(TermId(formula.0))
@@ -83,6 +88,8 @@ fn put_formula(
     requires exact { IsCut cut.now }
     ensures extends { Extends terms.old terms.new }
     ensures bit { IfOk result (IsOneBit terms.new) }
+    ensures long { length memo.new ≡ length memo.old }
+    ensures told { (store : List ℕ) → AreCovered cut.now → length memo.old ≡ length cut.now.clauses.now + length cut.now.log.now → 0 < length cut.now.log.now → IfOk result (λ t. IsCutTruth cut.now store (term_truth terms.new (record { 0 = t.0 }) store)) }
 {
     match put_diagram(alloc, cut, memo, terms) {
         Ok(term) => Ok(term),

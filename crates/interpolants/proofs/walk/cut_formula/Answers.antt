@@ -1,4 +1,4 @@
-use Rattle.std.proofs.Common.{◌≡◌, ℕ, Bool, List, length, ◌&&◌, ◌∙◌, refl}
+use Rattle.std.proofs.Common.{ℕ, Bool, List, ◌&&◌, ◌∙◌, refl}
 use Rattle.interpolants.proofs.Walking.{blank-true, cut-told, none-met, ok-at}
 use Rattle.interpolants.proofs.walk.cut_formula.Goals as goal
 

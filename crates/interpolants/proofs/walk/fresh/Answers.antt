@@ -1,4 +1,4 @@
-use Rattle.std.proofs.Common.{◌≡◌, ◌<◌, ◌≤◌, true, length, arith}
+use Rattle.std.proofs.Common.{◌<◌, ◌≤◌, true, length, arith}
 use Rattle.interpolants.proofs.Walking.{leaf-told, past-told, ok-same, ok-at}
 use Rattle.interpolants.proofs.walk.fresh.Goals as goal
 

@@ -1,4 +1,4 @@
-use Rattle.std.proofs.Common.{◌≡◌, ◌<◌, ℕ, true, List, Some, sym, ◌∙◌, subst}
+use Rattle.std.proofs.Common.{◌<◌, true, List, sym, ◌∙◌, subst}
 use Rattle.std.specs.Prelude.{Option}
 use Rattle.interpolants.specs.declared.items.Formula.{Formula}
 use Rattle.interpolants.specs.Memos.{AllKnown}

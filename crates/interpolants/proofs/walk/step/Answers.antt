@@ -1,6 +1,6 @@
 use Rattle.std.proofs.Common.{ℕ, Bool, List, ap, ◌∙◌}
 use Rattle.interpolants.specs.Rules.{joined}
-use Rattle.interpolants.specs.Walks.{noted_behind, truth_of}
+use Rattle.interpolants.specs.Walks.{noted_behind}
 use Rattle.interpolants.proofs.Walking.{ok-at, on-ok, true-stays}
 use Rattle.interpolants.proofs.walk.step.Goals as goal
 

@@ -1,6 +1,5 @@
-use Rattle.std.proofs.Common.{◌≡◌, ℕ, ◌+◌, true, refl, sym, ap, ◌∙◌, subst, arith}
+use Rattle.std.proofs.Common.{ℕ, ◌+◌, true, refl, sym, ap, ◌∙◌, subst, arith}
 use Rattle.interpolants.specs.Memos.{AllKnown}
-use Rattle.interpolants.specs.Sources.{IsMet}
 use Rattle.interpolants.specs.Walks.{AreTrue, truth_of}
 use Rattle.interpolants.proofs.Walking.{met-kept, met-set, ok-at, on-ok, result-told, set-known, set-true, true-stays, unmet, unmet-told}
 use Rattle.interpolants.proofs.walk.visit.Goals as goal

@@ -1,5 +1,4 @@
 use Rattle.std.proofs.Common.{◌≡◌, ℕ, Some, length, cond, nat_eq, ap, ◌∙◌, refl, rules}
-use Rattle.std.specs.Prelude.{Option}
 use Rattle.std.specs.HashMap.{get}
 use Rattle.interpolants.proofs.Agreeing.{placing-more}
 use Rattle.interpolants.proofs.placing.CutBits.add.Goals as goal
