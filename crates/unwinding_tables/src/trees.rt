@@ -3,6 +3,7 @@
 //! `relabel VERTEX VERSION = NUMBERS`; `vertices COUNT`; `vertex VERTEX = NODE PARENT EDGE`, the latter two `none` at the root;
 //! `label VERTEX = NUMBERS`; `version VERTEX = NUMBER`.
 ghost use Rattle.std.specs.Prelude.{◌<◌, All, IsTrue, length};
+ghost use Rattle.reach_tree.specs.Trees.{IsLabel};
 
 use crate::graphs::whole_graph;
 use bv_term::{TermId, Terms};
@@ -77,12 +78,27 @@ fn new_label(
     Ok(labels)
 }
 
-// Whether the tree has each of the vertices that are to get these labels.
+// Whether these are terms of one bit.
+fn is_label(terms: &Terms, label: &[TermId]) -> bool
+    ensures { IsTrue result → IsLabel terms.now label.now }
+{
+    for conjunct in label {
+        if conjunct.0 >= terms.count() || terms.width_of(*conjunct) != 1 {
+            return false;
+        }
+    }
+    true
+}
+
+// Whether the tree has each of the vertices that are to get these labels, and the terms of the labels.
 fn are_there(tree: &Tree, labels: &[NewLabel]) -> bool
-    ensures { IsTrue result → All (λ l. l.vertex.0 < length tree.now.vertices) labels.now }
+    ensures there { IsTrue result → All (λ l. l.vertex.0 < length tree.now.vertices) labels.now }
+    ensures labels { IsTrue result → All (λ l. IsLabel tree.now.terms l.label) labels.now }
 {
     for label in labels {
-        if label.vertex.0 as usize >= tree.vertices().len() {
+        if label.vertex.0 as usize >= tree.vertices().len()
+            || !is_label(tree.terms(), label.label.as_slice())
+        {
             return false;
         }
     }
