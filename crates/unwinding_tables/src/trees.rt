@@ -3,6 +3,7 @@
 //! `relabel VERTEX VERSION = NUMBERS`; `vertices COUNT`; `vertex VERTEX = NODE PARENT EDGE`, the latter two `none` at the root;
 //! `label VERTEX = NUMBERS`; `version VERTEX = NUMBER`.
 ghost use Rattle.std.specs.Prelude.{◌<◌, All, IsTrue, length};
+ghost use Rattle.c_graph.specs.Shape.{HasWidth};
 ghost use Rattle.reach_tree.specs.Trees.{IsLabel};
 
 use crate::graphs::whole_graph;
@@ -78,27 +79,46 @@ fn new_label(
     Ok(labels)
 }
 
+// Whether the term is there, and one bit wide.
+fn is_bit(terms: &Terms, term: TermId) -> bool
+    ensures { IsTrue result → HasWidth terms.now term 1 }
+{
+    if term.0 >= terms.count() {
+        return false;
+    }
+    terms.width_of(term) == 1
+}
+
 // Whether these are terms of one bit.
 fn is_label(terms: &Terms, label: &[TermId]) -> bool
     ensures { IsTrue result → IsLabel terms.now label.now }
 {
     for conjunct in label {
-        if conjunct.0 >= terms.count() || terms.width_of(*conjunct) != 1 {
+        if !is_bit(terms, *conjunct) {
             return false;
         }
     }
     true
 }
 
-// Whether the tree has each of the vertices that are to get these labels, and the terms of the labels.
-fn are_there(tree: &Tree, labels: &[NewLabel]) -> bool
-    ensures there { IsTrue result → All (λ l. l.vertex.0 < length tree.now.vertices) labels.now }
-    ensures labels { IsTrue result → All (λ l. IsLabel tree.now.terms l.label) labels.now }
+// Whether these are labels of terms of one bit.
+fn are_labels(terms: &Terms, labels: &[NewLabel]) -> bool
+    ensures { IsTrue result → All (λ l. IsLabel terms.now l.label) labels.now }
 {
     for label in labels {
-        if label.vertex.0 as usize >= tree.vertices().len()
-            || !is_label(tree.terms(), label.label.as_slice())
-        {
+        if !is_label(terms, label.label.as_slice()) {
+            return false;
+        }
+    }
+    true
+}
+
+// Whether the tree has each of the vertices that are to get these labels.
+fn are_there(tree: &Tree, labels: &[NewLabel]) -> bool
+    ensures { IsTrue result → All (λ l. l.vertex.0 < length tree.now.vertices) labels.now }
+{
+    for label in labels {
+        if label.vertex.0 as usize >= tree.vertices().len() {
             return false;
         }
     }
@@ -111,7 +131,7 @@ fn relabel(alloc: Global, tree: &mut Tree, rest: &str) -> Result<bool, RowFail> 
     let v = VertexId(number(Some(v))?);
     let conjuncts = numbers(alloc, conjuncts)?;
     let labels = new_label(alloc, v, number(Some(version))?, &conjuncts)?;
-    if !are_there(tree, &labels) {
+    if !are_there(tree, &labels) || !are_labels(tree.terms(), &labels) {
         return Err(RowFail::Bad);
     }
     tree.relabel(labels);

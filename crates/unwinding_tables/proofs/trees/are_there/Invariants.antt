@@ -1,8 +1,5 @@
 use Rattle.std.proofs.Common.{◌<◌, All, length, take}
-use Rattle.reach_tree.specs.Trees.{IsLabel}
 use Rattle.unwinding_tables.proofs.trees.are_there.Given as goal
 
 abbrev pub invariant-loop-label : goal.invariant-loop-label
-invariant-loop-label l =
-    All (λ x. x.vertex.0 < length l.tree.vertices) (take l.label-index l.labels)
-    × All (λ x. IsLabel l.tree.terms x.label) (take l.label-index l.labels)
+invariant-loop-label l = All (λ x. x.vertex.0 < length l.tree.vertices) (take l.label-index l.labels)
