@@ -3,9 +3,10 @@
 
     tools/build.py PROGRAM STATUS
 
-Libraries whose own libraries are built are proved together, those with the most work above them first. A command of the kit locks all
-crates that its own stands on, so each is proved in one of a few copies of the repository; the kit takes from one checkout what another
-has built of the same text, so each copy goes on from what the others have, and what stands from an earlier build is not proved again.
+Libraries whose own libraries are built are proved together, those with the most work above them first. The first of them takes all
+processors that it can use, the others what it leaves. A command of the kit locks all crates that its own stands on, so each is proved in
+one of a few copies of the repository; the kit takes from one checkout what another has built of the same text, so each copy goes on from
+what the others have, and what stands from an earlier build is not proved again.
 Progress goes to standard error, each library's own lines to its out/build.log. At the end the program runs once without words and must end
 with STATUS.
 """
@@ -39,8 +40,8 @@ def closure(crates, name):
 
 
 def size(name):
-    """How much there is to prove, by the bytes of code, definitions and proofs."""
-    return sum(it.stat().st_size for part in ("src", "specs", "proofs") for it in (CRATES / name / part).rglob("*") if it.is_file())
+    """How much there is to prove, by the bytes of code: what is searched for takes long, a proof that is written is only checked."""
+    return sum(it.stat().st_size for it in (CRATES / name / "src").rglob("*") if it.is_file())
 
 
 def chains(crates, wanted):
@@ -66,11 +67,12 @@ def copy_to(folder):
     return folder
 
 
-def start(lane, name, jobs):
+def start(lane, name, jobs, is_first):
     log = CRATES / name / "out" / "build.log"
     log.parent.mkdir(exist_ok=True)
+    words = ["rt", "lib", "--jobs", str(jobs)]
     with log.open("w") as out:
-        return subprocess.Popen(["rt", "lib", "--jobs", str(jobs)], cwd=lane / "crates" / name, stdout=out, stderr=subprocess.STDOUT)
+        return subprocess.Popen(words if is_first else ["nice", "-n", "10", *words], cwd=lane / "crates" / name, stdout=out, stderr=subprocess.STDOUT)
 
 
 def say(text):
@@ -83,9 +85,10 @@ def build(crates, libraries, lanes, begun):
     while len(ready) < len(libraries):
         open_ones = sorted((it for it in libraries - ready - running.keys() if ready.issuperset(crates[it])), key=weights.get, reverse=True)
         for number, name in enumerate(open_ones[: len(idle)]):
-            jobs = max(1, len(idle) // (len(open_ones) - number))
+            is_first = all(weights[name] >= weights[it] for it in running)
+            jobs = len(lanes) if is_first else max(1, len(idle) // (len(open_ones) - number))
             lane = idle.pop()
-            running[name] = start(lane, name, jobs), lane
+            running[name] = start(lane, name, jobs, is_first), lane
         time.sleep(0.2)
         for name in [it for it, (process, _) in running.items() if process.poll() is not None]:
             process, lane = running.pop(name)

@@ -375,6 +375,9 @@ pub mod collections {
         pub fn len(&self) -> usize {
             self.m.len()
         }
+        pub fn last(&self) -> Option<&K> {
+            self.m.iter().next_back()
+        }
         pub fn iter(&self) -> std::collections::btree_set::Iter<'_, K> {
             self.m.iter()
         }

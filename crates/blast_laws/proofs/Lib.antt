@@ -10,5 +10,6 @@ pub mod Turns
 pub mod Rising
 pub mod Keeping
 pub mod Runs
+pub mod Spelling
 pub mod Scopes
 pub mod Bounding

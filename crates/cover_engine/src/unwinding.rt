@@ -3,7 +3,7 @@ ghost use Rattle.std.specs.HashMap.{Updates, get};
 ghost use Rattle.bv_term.specs.WellFormed.{FitsTable};
 ghost use Rattle.bv_term.specs.Laws.{Extends, IsPut};
 ghost use Rattle.term_copy.specs.Copies.{AreCopies};
-ghost use Rattle.reach_tree.specs.Trees.{IsLabel, MayExpand, expanded, vertex_at};
+ghost use Rattle.reach_tree.specs.Trees.{AreLabelled, IsLabel, MayExpand, expanded, vertex_at};
 ghost use Rattle.cover_engine.specs.declared.settling.Sides.{Sides};
 ghost use Rattle.cover_engine.specs.declared.unit.UnitDone.TheVariants.{Expand};
 ghost use Rattle.cover_engine.specs.Unwindings.{is_complete, is_covered, is_open_leaf, may_pair, may_settle, path_of, stays_apart, vertices_named, yes_since};
@@ -92,7 +92,8 @@ impl Unwinding {
 
     /// The vertices, by number.
     pub fn vertices(&self) -> &[Vertex]
-        ensures { result.now ≡ self.now.vertices }
+        ensures value { result.now ≡ self.now.vertices }
+        ensures labelled { AreLabelled self.now.terms self.now.vertices }
     {
         self.tree.vertices()
     }

@@ -3,6 +3,7 @@ ghost use Rattle.c_graph.specs.declared.graph.Node.TheVariants.{Plain};
 ghost use Rattle.c_graph.specs.Shape.{widths_of};
 ghost use Rattle.reach_tree.specs.Trees.{vertex_at};
 ghost use Rattle.cover_engine.specs.Unwindings.{is_open_leaf};
+ghost use Rattle.explore.specs.Ends.{IsOverCells, IsReady};
 
 use crate::beside::Beside;
 use c_graph::{Graph, Node};
@@ -68,7 +69,7 @@ struct Budget {
 
 /// An exploration on its way: the unwinding, and what helps to settle its pairs.
 #[derive(Drop)]
-struct Work {
+pub struct Work {
     unwinding: Unwinding,
     witnesses: Witnesses,
     beside: Beside,
@@ -113,7 +114,8 @@ fn is_plain(graph: &Graph, unwinding: &Unwinding, v: VertexId) -> bool
 
 // The vertices of a vertex's node that are numbered below it, rising.
 fn below_of(alloc: Global, work: &mut Work, v: VertexId) -> Result<Vec<VertexId>, Memory>
-    ensures cells { work.new.unwinding.terms.cells ≡ work.old.unwinding.terms.cells }
+    ensures unwinding { work.new.unwinding ≡ work.old.unwinding }
+    ensures witnesses { work.new.witnesses ≡ work.old.witnesses }
 {
     work.beside.follow(&work.unwinding)?;
     let mut below = Vec::new(alloc);
@@ -137,8 +139,9 @@ fn try_pair(
     w: VertexId,
     budget: Budget,
 ) -> Result<bool, End>
-    requires { 0 < budget.learn }
-    ensures cells { work.new.unwinding.terms.cells ≡ work.old.unwinding.terms.cells }
+    requires learn { 0 < budget.learn }
+    requires ready { IsReady graph.now work.old.unwinding work.old.witnesses }
+    ensures ready { IsReady graph.now work.new.unwinding work.new.witnesses }
 {
     let count = work.unwinding.vertices().len();
     if v.0 as usize >= count || w.0 as usize >= count || !work.unwinding.may_settle(v, w) {
@@ -169,8 +172,9 @@ fn settle_all(
     v: VertexId,
     budget: Budget,
 ) -> Result<bool, End>
-    requires { 0 < budget.learn }
-    ensures cells { work.new.unwinding.terms.cells ≡ work.old.unwinding.terms.cells }
+    requires learn { 0 < budget.learn }
+    requires ready { IsReady graph.now work.old.unwinding work.old.witnesses }
+    ensures ready { IsReady graph.now work.new.unwinding work.new.witnesses }
 {
     for w in below_of(alloc, work, v)? {
         if try_pair(alloc, graph, work, v, w, budget)? {
@@ -189,9 +193,9 @@ fn refine_at(
     budget: Budget,
 ) -> Result<(), End>
     requires leaf { leaf.0 < length work.old.unwinding.vertices }
-    requires cells { work.old.unwinding.terms.cells ≡ widths_of graph.now.cells }
+    requires ready { IsReady graph.now work.old.unwinding work.old.witnesses }
     requires learn { 0 < budget.learn }
-    ensures cells { work.new.unwinding.terms.cells ≡ work.old.unwinding.terms.cells }
+    ensures ready { IsReady graph.now work.new.unwinding work.new.witnesses }
 {
     match refine_leaf(alloc, graph, &mut work.unwinding, leaf, budget.learn)? {
         Refined::Strengthened(_) => {}
@@ -207,9 +211,9 @@ fn refine_at(
 
 // One turn: the highest open leaf is covered, expanded or refined. Settling its pairs without covering it leaves it the highest.
 fn turn(alloc: Global, graph: &Graph, work: &mut Work, budget: Budget) -> Result<(), End>
-    requires cells { work.old.unwinding.terms.cells ≡ widths_of graph.now.cells }
+    requires ready { IsReady graph.now work.old.unwinding work.old.witnesses }
     requires learn { 0 < budget.learn }
-    ensures cells { work.new.unwinding.terms.cells ≡ work.old.unwinding.terms.cells }
+    ensures ready { IsReady graph.now work.new.unwinding work.new.witnesses }
 {
     let first = next_leaf(graph, &mut work.unwinding, budget)?;
     if is_plain(graph, &work.unwinding, first) && settle_all(alloc, graph, work, first, budget)? {
@@ -225,8 +229,9 @@ fn turn(alloc: Global, graph: &Graph, work: &mut Work, budget: Budget) -> Result
 
 // Makes turns until there is an end. Each makes a unit, so there are no more turns than units.
 fn run(alloc: Global, graph: &Graph, work: &mut Work, budget: Budget) -> End
-    requires cells { work.old.unwinding.terms.cells ≡ widths_of graph.now.cells }
+    requires ready { IsReady graph.now work.old.unwinding work.old.witnesses }
     requires learn { 0 < budget.learn }
+    ensures ready { IsReady graph.now work.new.unwinding work.new.witnesses }
 {
     for _ in 0..budget.units {
         if let Err(end) = turn(alloc, graph, work, budget) {
@@ -243,6 +248,7 @@ fn run(alloc: Global, graph: &Graph, work: &mut Work, budget: Budget) -> End
 pub fn explore(alloc: Global, graph: &Graph, units: u64, learn: u64) -> Result<Explored, Memory>
     requires units { 0 < units }
     requires learn { 0 < learn }
+    ensures cells { IfOk result (IsOverCells graph.now) }
 {
     let mut work = Work {
         unwinding: Unwinding::new(alloc, graph)?,

@@ -11,55 +11,26 @@ mod walking;
 
 use crate::comparing::{Kept, Tally, compare};
 use block_join::join_blocks;
-use c_rules::Examined;
-use call_inline::inline;
-use cfg_build::build;
-use elaboration_laws::sources_read;
-use lv_base::{Memory, Model, SourceFail};
-use lv_outside::{FileFail, Folder, Got, HostFolder};
-use std::alloc::{AllocError, Global};
+use lv_base::{Model, SourceFail};
+use source_graphs::{LoadFail, examined, load, whole_graph};
+use std::alloc::Global;
 use std::process::ExitCode;
 use std::rt::{Env, Files};
 use std::{env, io};
-
-// The most bytes that a source may have.
-const MOST_BYTES: usize = 1 << 20;
 
 // Why the sources were not tried.
 #[derive(Clone, Copy, Debug, PartialEq)]
 enum Refusal {
     Memory,
     Words,
-    File,
-    Long,
+    Load(LoadFail),
     Output,
 }
 
-impl From<Memory> for Refusal {
-    fn from(_: Memory) -> Refusal {
-        Refusal::Memory
+impl From<LoadFail> for Refusal {
+    fn from(fail: LoadFail) -> Refusal {
+        Refusal::Load(fail)
     }
-}
-
-// What the file of this name holds.
-fn load<R: Files + Clone + Drop>(alloc: Global, rt: &R, name: &str) -> Result<Vec<u8>, Refusal> {
-    let files: Result<R, AllocError> = rt.clone();
-    let Ok(files) = files else {
-        return Err(Refusal::Memory);
-    };
-    match HostFolder::new(files).read(alloc, name, MOST_BYTES) {
-        Ok(Got::Bytes(bytes)) => Ok(bytes),
-        Ok(Got::Longer) => Err(Refusal::Long),
-        Err(FileFail::Memory) => Err(Refusal::Memory),
-        Err(FileFail::Failed) => Err(Refusal::File),
-    }
-}
-
-fn examined(alloc: Global, source: &[u8], model: Model) -> Result<Examined, SourceFail> {
-    sources_read();
-    let tokens = c_tokens::tokens_of(alloc, source)?;
-    let unit = c_parser::parse(alloc, &tokens)?;
-    source_checks::accepted(alloc, &unit, model)
 }
 
 fn sum(first: Tally, second: Tally) -> Tally {
@@ -78,8 +49,7 @@ fn walks_of<R: Print>(
     rounds: u32,
 ) -> Result<Tally, SourceFail> {
     let examined = examined(alloc, source, model)?;
-    let graphs = build(alloc, &examined)?;
-    let graph = inline(alloc, &graphs)?;
+    let graph = whole_graph(alloc, &examined)?;
     let whole = compare(alloc, rt, &examined, &graph, Kept::All, rounds)?;
     let blocks = join_blocks(alloc, &graph)?;
     let joined = compare(alloc, rt, &examined, &blocks, Kept::Errors, rounds)?;

@@ -2,5 +2,4 @@ pub mod Moves
 pub mod Marks
 pub mod Copies
 pub mod Joins
-pub mod Legality
 pub mod Whole

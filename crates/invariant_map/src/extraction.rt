@@ -1,6 +1,6 @@
-ghost use Rattle.std.specs.Prelude.{IfOk};
+ghost use Rattle.std.specs.Prelude.{◌≡◌, IfOk};
 ghost use Rattle.c_graph.specs.Runs.{IsMapOf};
-ghost use Rattle.cover_engine.specs.Units.{Legal};
+ghost use Rattle.c_graph.specs.Shape.{widths_of};
 ghost use Rattle.invariant_map.specs.Labels.{SaysLabels};
 
 use crate::copying::copied;
@@ -16,11 +16,12 @@ use std::alloc::Global;
 /// time from the left, and is false where there are none; a label joins its conjuncts by `&` in their order, two at a time from the
 /// left, and is true where there are none. It takes time in proportion to the unwinding's table and labels.
 pub fn extract(alloc: Global, graph: &Graph, unwinding: &Unwinding) -> Result<Map, Memory>
-    requires { Legal graph.now unwinding.now }
+    requires cells { unwinding.now.terms.cells ≡ widths_of graph.now.cells }
     ensures map { IfOk result (λ m. IsMapOf graph.now m) }
     ensures says { IfOk result (λ m. SaysLabels graph.now unwinding.now m) }
 {
     let nodes = graph.nodes().len();
+    let _vertices = unwinding.vertices();
     let marks = needed(alloc, unwinding, nodes)?;
     let cells = unwinding.terms().cells().to_vec(alloc)?;
     let mut terms = Terms::new(alloc, cells);

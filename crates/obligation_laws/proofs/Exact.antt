@@ -25,7 +25,8 @@ use Rattle.obligations.specs.Stated.{AreRefuted, from_of, stated, to_of}
 use Rattle.obligation_laws.specs.Laws.{EdgeExact}
 use Rattle.obligation_laws.proofs.Alike.{AgreeOn, read_alike}
 use Rattle.obligation_laws.proofs.Following.{follows, leaves}
-use Rattle.obligation_laws.proofs.Blasted.{blasted, single}
+use Rattle.blast_laws.proofs.Spelling.{single}
+use Rattle.obligation_laws.proofs.Blasted.{blasted}
 use Rattle.obligation_laws.proofs.Going.{Reach, renew_goes}
 use Rattle.obligation_laws.proofs.Running.{both, runs, seen}
 use Rattle.obligation_laws.proofs.Nodes.{formula, formula_wide, from_store, holds_at, unit_held}

@@ -27,7 +27,7 @@ use Rattle.blast_laws.proofs.Keeping.{Keeps, OneHolds, OneOk, Says, call-says}
 use Rattle.blast_laws.proofs.Runs.{steps-below, stores_spelled, truths_read}
 use Rattle.path_formula.specs.Added.{drawn_into, set_to, stored_at}
 use Rattle.obligations.specs.Stated.{stated}
-use Rattle.obligation_laws.proofs.Blasted.{lit_agrees, number_agrees, store_agrees, single}
+use Rattle.blast_laws.proofs.Spelling.{lit_agrees, number_agrees, store_agrees, single}
 use Rattle.obligation_laws.proofs.Nodes.{unit_holds}
 
 agree_on : (n m : ℕ) (v w u : ℕ → Bool) → Agree n v w → n ≤ m → Agree m w u → Agree n v u

@@ -17,7 +17,8 @@ use Rattle.blast_laws.specs.Calls.{IsStart, spelled_store}
 use Rattle.blast_laws.proofs.Runs.{new_starts, stores_spelled}
 use Rattle.obligations.specs.Stated.{AreRefuted, stated}
 use Rattle.obligation_laws.specs.Laws.{EntryExact, ErrorExact}
-use Rattle.obligation_laws.proofs.Blasted.{Blasted, blasted, store_agrees}
+use Rattle.blast_laws.proofs.Spelling.{store_agrees}
+use Rattle.obligation_laws.proofs.Blasted.{Blasted, blasted}
 
 -- one more clause of one literal
 pub unit_holds : (v : ℕ → Bool) (cs : List (List Lit)) (ls : List Lit) (l : Lit) → ls ≡ l ∷ [] → all_hold v cs ≡ true → lit_value v l ≡ true → all_hold v (cs ++ ls ∷ []) ≡ true

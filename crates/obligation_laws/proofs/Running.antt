@@ -26,7 +26,7 @@ use Rattle.blast_laws.proofs.Owes.{Below}
 use Rattle.blast_laws.proofs.Keeping.{Keeps, Says, call-says}
 use Rattle.blast_laws.proofs.Runs.{steps-below, truths_read}
 use Rattle.path_formula.specs.Added.{added}
-use Rattle.obligation_laws.proofs.Blasted.{single}
+use Rattle.blast_laws.proofs.Spelling.{single}
 use Rattle.obligation_laws.proofs.Nodes.{unit_held}
 use Rattle.obligation_laws.proofs.Going.{Reach, cell_wide, fresh_long, fresh_low, lits_up}
 

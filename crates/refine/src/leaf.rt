@@ -72,7 +72,7 @@ fn strengthen(
     requires cells { unwinding.old.terms.cells ≡ widths_of graph.now.cells }
     requires query { IsQuery (widths_of graph.now.cells) (length path.now) query.now }
     requires refuted { IsRefutation query.now.clauses log }
-    ensures cells { unwinding.new.terms.cells ≡ unwinding.old.terms.cells }
+    ensures extends { Extends unwinding.old.terms unwinding.new.terms }
 {
     let formulas = formulas_of(alloc, graph, unwinding, path, query, &log)?;
     unwinding.refined(alloc, graph, v, formulas)?;
@@ -93,7 +93,7 @@ pub fn refine_leaf(
     requires vertex { v.0 < length unwinding.old.vertices }
     requires cells { unwinding.old.terms.cells ≡ widths_of graph.now.cells }
     requires learn { 0 < learn }
-    ensures cells { unwinding.new.terms.cells ≡ unwinding.old.terms.cells }
+    ensures extends { Extends unwinding.old.terms unwinding.new.terms }
 {
     let path = unwinding.path_to(alloc, v).map_err(no_memory)?;
     let edges = path.edges.as_slice();

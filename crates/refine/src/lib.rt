@@ -4,13 +4,12 @@
 
 mod answers;
 mod leaf;
-mod pair;
+mod reading;
 mod settling;
 mod values;
 mod witnesses;
 
 pub use answers::{Refined, Settled, Values};
 pub use leaf::refine_leaf;
-pub use pair::pair_clauses;
 pub use settling::{settle, settle_with};
 pub use witnesses::Witnesses;

@@ -1,43 +1,49 @@
 //! A pair: its first vertex is covered by the second, or a store keeps them apart.
 
-ghost use Rattle.std.specs.Prelude.{◌≡◌, ◌<◌, All, length, true};
-ghost use Rattle.c_graph.specs.Shape.{HasWidth};
+ghost use Rattle.std.specs.Prelude.{◌≡◌, ◌<◌, IfOk, IsTrue, OnErr, length, true};
+ghost use Rattle.pair_query.specs.Laws.{AreBits};
 ghost use Rattle.cover_engine.specs.Unwindings.{may_settle};
+ghost use Rattle.cover_engine.specs.Units.{Legal};
+ghost use Rattle.refine.specs.Decisions.{IsClosedLabel, IsDecision, IsPairSettled, IsSubset, IsConjunct};
+ghost use Rattle.refine.specs.Witnesses.{AreKnown};
 
 use crate::answers::{Settled, answer_to, no_clauses, no_memory};
-use crate::pair::pair_clauses;
+use crate::reading::store_of;
 use crate::witnesses::Witnesses;
-use bit_blast::Bits;
 use bv_term::{Term, TermId, Terms};
-use c_graph::{Graph, Named, Store};
+use c_graph::{Graph, Store};
 use cdcl_solver::{Answer, QueryFail};
 use cover_engine::Unwinding;
-use lv_base::Memory;
-use prop::{Assignment, Lit};
+use pair_query::pair_clauses;
 use reach_tree::VertexId;
 use resolution_log::Log;
 use std::alloc::Global;
 
-// What is known of a pair.
+/// What is known of a pair.
 #[derive(Drop)]
-enum Decision {
+pub enum Decision {
     Covered,
-    // By this store, given by its cells of other values than 0.
-    Apart(Vec<Named>),
+    // By this store.
+    Apart(Store),
     Spent(Log),
 }
 
 // Whether some conjunct is false.
-fn is_closed(terms: &Terms, label: &[TermId]) -> bool {
+fn is_closed(terms: &Terms, label: &[TermId]) -> bool
+    requires { AreBits terms.now label.now }
+    ensures { IsTrue result → IsClosedLabel terms.now label.now }
+{
     for conjunct in label {
-        if conjunct.0 < terms.count() && terms.get(*conjunct) == Term::Constant(1, 0) {
+        if terms.get(*conjunct) == Term::Constant(1, 0) {
             return true;
         }
     }
     false
 }
 
-fn has(label: &[TermId], term: TermId) -> bool {
+fn has(label: &[TermId], term: TermId) -> bool
+    ensures { IsTrue result → IsConjunct label.now term }
+{
     for conjunct in label {
         if *conjunct == term {
             return true;
@@ -47,44 +53,15 @@ fn has(label: &[TermId], term: TermId) -> bool {
 }
 
 // Whether each conjunct of the second label is one of the first.
-fn is_among(left: &[TermId], right: &[TermId]) -> bool {
+fn is_among(left: &[TermId], right: &[TermId]) -> bool
+    ensures { IsTrue result → IsSubset left.now right.now }
+{
     for conjunct in right {
         if !has(left, *conjunct) {
             return false;
         }
     }
     true
-}
-
-// How many cells a table is over. A graph's cells have variables of 32 bits, so there are fewer than the greatest number.
-fn count_of(terms: &Terms) -> u32 {
-    terms.cells().len().min(u32::MAX as usize) as u32
-}
-
-// The number of some bits, lowest first.
-fn number_of(found: &Assignment, bits: &[Lit]) -> u128 {
-    let mut number = 0u128;
-    for bit in bits.iter().rev() {
-        number = number << 1 | found.literal(*bit) as u128;
-    }
-    number
-}
-
-// The cells that have other values than 0 under an assignment, rising.
-fn named_by(
-    alloc: Global,
-    cells: u32,
-    bits: &Bits,
-    found: &Assignment,
-) -> Result<Vec<Named>, Memory> {
-    let mut named = Vec::new(alloc);
-    for cell in 0..cells {
-        let value = number_of(found, bits.cell(cell));
-        if value != 0 {
-            named.push(Named { cell, value })?;
-        }
-    }
-    Ok(named)
 }
 
 // Asks the solver for a store that keeps the pair apart.
@@ -96,17 +73,51 @@ fn asked(
     learn: u64,
 ) -> Result<Decision, QueryFail>
     requires learn { 0 < learn }
-    requires left { All (λ t. HasWidth terms.now t 1) left.now }
-    requires right { All (λ t. HasWidth terms.now t 1) right.now }
+    requires left { AreBits terms.now left.now }
+    requires right { AreBits terms.now right.now }
+    ensures decided { IfOk result (IsDecision terms.now left.now right.now learn) }
 {
-    let (clauses, bits) = pair_clauses(alloc, terms, left, right).map_err(no_clauses)?;
-    match answer_to(alloc, &clauses, learn)? {
-        Answer::Sat(found) => {
-            let named = named_by(alloc, count_of(terms), &bits, &found);
-            Ok(Decision::Apart(named.map_err(no_memory)?))
-        }
-        Answer::Unsat(_) => Ok(Decision::Covered),
-        Answer::Spent(log) => Ok(Decision::Spent(log)),
+    let (clauses, bits) = match pair_clauses(alloc, terms, left, right) {
+        Ok(made) => made,
+        Err(end) => return Err(no_clauses(end)),
+    };
+    match answer_to(alloc, &clauses, learn) {
+        Ok(Answer::Sat(found)) => match store_of(alloc, terms, &bits, &found) {
+            Ok(store) => Ok(Decision::Apart(store)),
+            Err(end) => Err(no_memory(end)),
+        },
+        Ok(Answer::Unsat(_)) => Ok(Decision::Covered),
+        Ok(Answer::Spent(log)) => Ok(Decision::Spent(log)),
+        Err(end) => Err(end),
+    }
+}
+
+// Asks the solver, and keeps the store that it answers.
+fn asked_and_kept(
+    alloc: Global,
+    terms: &Terms,
+    left: &[TermId],
+    right: &[TermId],
+    witnesses: &mut Witnesses,
+    learn: u64,
+) -> Result<Decision, QueryFail>
+    requires learn { 0 < learn }
+    requires left { AreBits terms.now left.now }
+    requires right { AreBits terms.now right.now }
+    requires known { AreKnown terms.now witnesses.old }
+    ensures known { AreKnown terms.now witnesses.new }
+    ensures decided { IfOk result (IsDecision terms.now left.now right.now learn) }
+{
+    let decision = asked(alloc, terms, left, right, learn)?;
+    let Decision::Apart(store) = &decision else {
+        return Ok(decision);
+    };
+    let Ok(copy) = store.copy() else {
+        return Err(QueryFail::Memory);
+    };
+    match witnesses.keep(alloc, terms, copy) {
+        Ok(()) => Ok(decision),
+        Err(end) => Err(no_memory(end)),
     }
 }
 
@@ -120,23 +131,20 @@ fn decide(
     learn: u64,
 ) -> Result<Decision, QueryFail>
     requires learn { 0 < learn }
-    requires left { All (λ t. HasWidth terms.now t 1) left.now }
-    requires right { All (λ t. HasWidth terms.now t 1) right.now }
+    requires left { AreBits terms.now left.now }
+    requires right { AreBits terms.now right.now }
+    requires known { AreKnown terms.now witnesses.old }
+    ensures known { AreKnown terms.now witnesses.new }
+    ensures decided { IfOk result (IsDecision terms.now left.now right.now learn) }
 {
     if is_among(left, right) || is_closed(terms, left) {
         return Ok(Decision::Covered);
     }
-    if let Some(named) = witnesses
-        .find(alloc, terms, left, right)
-        .map_err(no_memory)?
-    {
-        return Ok(Decision::Apart(named));
+    match witnesses.find(terms, left, right) {
+        Ok(Some(store)) => Ok(Decision::Apart(store)),
+        Ok(None) => asked_and_kept(alloc, terms, left, right, witnesses, learn),
+        Err(end) => Err(no_memory(end)),
     }
-    let decision = asked(alloc, terms, left, right, learn)?;
-    if let Decision::Apart(named) = &decision {
-        witnesses.keep(alloc, named).map_err(no_memory)?;
-    }
-    Ok(decision)
 }
 
 /// Settles a pair that may be settled by one unit: the first vertex is covered by the second, or a store keeps them apart.
@@ -156,7 +164,12 @@ pub fn settle_with(
     requires left { v.0 < length unwinding.old.vertices }
     requires right { w.0 < length unwinding.old.vertices }
     requires may { may_settle unwinding.old v w ≡ true }
-    ensures cells { unwinding.new.terms.cells ≡ unwinding.old.terms.cells }
+    requires known { AreKnown unwinding.old.terms witnesses.old }
+    ensures known { AreKnown unwinding.new.terms witnesses.new }
+    ensures terms { unwinding.new.terms ≡ unwinding.old.terms }
+    ensures settled { IfOk result (IsPairSettled unwinding.old unwinding.new v w learn) }
+    ensures legal { Legal graph.now unwinding.old → Legal graph.now unwinding.new }
+    ensures unchanged { OnErr result (unwinding.new ≡ unwinding.old) }
 {
     let decision = decide(
         alloc,
@@ -167,15 +180,14 @@ pub fn settle_with(
         learn,
     )?;
     match decision {
-        Decision::Covered => {
-            unwinding.cover_yes(alloc, graph, v, w).map_err(no_memory)?;
-            Ok(Settled::Covered)
-        }
-        Decision::Apart(named) => {
-            let store = Store::new(count_of(unwinding.terms()), named);
-            unwinding.cover_no(graph, v, w, store).map_err(no_memory)?;
-            Ok(Settled::Apart)
-        }
+        Decision::Covered => match unwinding.cover_yes(alloc, graph, v, w) {
+            Ok(()) => Ok(Settled::Covered),
+            Err(end) => Err(no_memory(end)),
+        },
+        Decision::Apart(store) => match unwinding.cover_no(graph, v, w, store) {
+            Ok(()) => Ok(Settled::Apart),
+            Err(end) => Err(no_memory(end)),
+        },
         Decision::Spent(log) => Ok(Settled::Spent(log)),
     }
 }
@@ -193,7 +205,10 @@ pub fn settle(
     requires left { v.0 < length unwinding.old.vertices }
     requires right { w.0 < length unwinding.old.vertices }
     requires may { may_settle unwinding.old v w ≡ true }
-    ensures cells { unwinding.new.terms.cells ≡ unwinding.old.terms.cells }
+    ensures terms { unwinding.new.terms ≡ unwinding.old.terms }
+    ensures settled { IfOk result (IsPairSettled unwinding.old unwinding.new v w learn) }
+    ensures legal { Legal graph.now unwinding.old → Legal graph.now unwinding.new }
+    ensures unchanged { OnErr result (unwinding.new ≡ unwinding.old) }
 {
     settle_with(
         alloc,

@@ -1,29 +1,24 @@
 //! `trial SOURCE [MODEL [UNITS [LEARN]]]` tries the method on a source: it makes the graph of its blocks, explores it, and prints a
 //! verdict, and as comments what was done for it. It is for measuring: nothing is claimed of its answers but what its libraries
-//! promise. An error with values is replayed, and it says so loudly where they don't lead there.
+//! promise. An error with values is replayed, a complete unwinding's certificate is written, read back and checked, and it says so
+//! loudly where that fails.
 #![tactic(auto)]
 
+mod certifying;
 mod telling;
 
-ghost use Rattle.std.specs.Prelude.{◌<◌};
+ghost use Rattle.std.specs.Prelude.{◌<◌, IfOk};
 
 use crate::telling::tell;
-use block_join::join_blocks;
 use c_graph::Graph;
 use c_rules::Examined;
-use call_inline::inline;
-use cfg_build::build;
-use elaboration_laws::sources_read;
 use explore::explore;
 use lv_base::{Memory, Model, SourceFail};
-use lv_outside::{FileFail, Folder, Got, HostFolder};
-use std::alloc::{AllocError, Global};
+use source_graphs::{LoadFail, blocks_of, examined, load};
+use std::alloc::Global;
 use std::process::ExitCode;
 use std::rt::{Env, Files};
 use std::{env, io};
-
-// The most bytes that a source may have.
-const MOST_BYTES: usize = 1 << 20;
 
 // How many units and how many learned clauses a question may take, where no number is given.
 const UNITS: u64 = 100_000;
@@ -35,8 +30,7 @@ const LEARN: u64 = 1_000_000;
 enum Refusal {
     Memory,
     Words,
-    File,
-    Long,
+    Load(LoadFail),
     Source(SourceFail),
     Output,
 }
@@ -47,10 +41,25 @@ impl From<Memory> for Refusal {
     }
 }
 
+impl From<LoadFail> for Refusal {
+    fn from(fail: LoadFail) -> Refusal {
+        Refusal::Load(fail)
+    }
+}
+
 impl From<SourceFail> for Refusal {
     fn from(fail: SourceFail) -> Refusal {
         Refusal::Source(fail)
     }
+}
+
+/// What is tried: a source, and the graph of its blocks.
+#[derive(Clone, Copy)]
+pub struct Tried<'a> {
+    source: &'a [u8],
+    model: Model,
+    examined: &'a Examined,
+    graph: &'a Graph,
 }
 
 // The words of a request.
@@ -61,33 +70,6 @@ struct Request {
     learn: u64,
 }
 
-// What the file of this name holds.
-fn load<R: Files + Clone + Drop>(alloc: Global, rt: &R, name: &str) -> Result<Vec<u8>, Refusal> {
-    let files: Result<R, AllocError> = rt.clone();
-    let Ok(files) = files else {
-        return Err(Refusal::Memory);
-    };
-    match HostFolder::new(files).read(alloc, name, MOST_BYTES) {
-        Ok(Got::Bytes(bytes)) => Ok(bytes),
-        Ok(Got::Longer) => Err(Refusal::Long),
-        Err(FileFail::Memory) => Err(Refusal::Memory),
-        Err(FileFail::Failed) => Err(Refusal::File),
-    }
-}
-
-fn examined(alloc: Global, source: &[u8], model: Model) -> Result<Examined, SourceFail> {
-    sources_read();
-    let tokens = c_tokens::tokens_of(alloc, source)?;
-    let unit = c_parser::parse(alloc, &tokens)?;
-    source_checks::accepted(alloc, &unit, model)
-}
-
-fn blocks_of(alloc: Global, examined: &Examined) -> Result<Graph, SourceFail> {
-    let graphs = build(alloc, examined)?;
-    let graph = inline(alloc, &graphs)?;
-    join_blocks(alloc, &graph).map_err(|_| SourceFail::Memory)
-}
-
 // Tries the method on a source, and prints what came of it.
 fn answer<R: Print>(alloc: Global, rt: &R, source: &[u8], request: Request) -> Result<(), Refusal>
     requires units { 0 < request.units }
@@ -96,7 +78,34 @@ fn answer<R: Print>(alloc: Global, rt: &R, source: &[u8], request: Request) -> R
     let examined = examined(alloc, source, request.model)?;
     let graph = blocks_of(alloc, &examined)?;
     let explored = explore(alloc, &graph, request.units, request.learn)?;
-    tell(alloc, rt, source, &examined, &explored)
+    let tried = Tried {
+        source,
+        model: request.model,
+        examined: &examined,
+        graph: &graph,
+    };
+    tell(alloc, rt, &tried, request.learn, explored)
+}
+
+// The data model that a word names.
+fn model_in(word: &str) -> Result<Model, Refusal> {
+    match word {
+        "ilp32" => Ok(Model::Ilp32),
+        "lp64" => Ok(Model::Lp64),
+        _ => Err(Refusal::Words),
+    }
+}
+
+// The number that a word names, from 1 on.
+fn number_in(word: &str) -> Result<u64, Refusal>
+    ensures { IfOk result (λ n. 0 < n) }
+{
+    let number = word.parse::<u64>().unwrap_or(0);
+    if number == 0 {
+        Err(Refusal::Words)
+    } else {
+        Ok(number)
+    }
 }
 
 // The words behind the program's name: the source's name, the data model, the units, and the learned clauses of a question.
@@ -115,18 +124,18 @@ where
         return Err(Refusal::Words);
     };
     let model = match words.next() {
-        Some(word) if word.as_str() == "lp64" => Model::Lp64,
-        _ => Model::Ilp32,
+        None => Model::Ilp32,
+        Some(word) => model_in(word.as_str())?,
     };
     let units = match words.next() {
         None => UNITS,
-        Some(word) => word.as_str().parse::<u64>().unwrap_or(0),
+        Some(word) => number_in(word.as_str())?,
     };
     let learn = match words.next() {
         None => LEARN,
-        Some(word) => word.as_str().parse::<u64>().unwrap_or(0),
+        Some(word) => number_in(word.as_str())?,
     };
-    if units == 0 || learn == 0 {
+    if words.next().is_some() {
         return Err(Refusal::Words);
     }
     let source = load(alloc, rt, name.as_str())?;

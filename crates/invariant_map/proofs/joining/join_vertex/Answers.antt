@@ -14,7 +14,7 @@ pub put_further-requires-clause-before : goal.put_further-requires-clause-before
 put_further-requires-clause-before c =
     let on : c.counts.result ≡ true = search rules in
     let co : counts c.args.unwinding.now (length c.args.parts.now) c.args.number ≡ true = sym c.counts.ensures ∙ on in
-    let e = vertex_read _ _ _ c.index-vertices-number.result c.vertices.ensures c.requires.there in
+    let e = vertex_read _ _ _ c.index-vertices-number.result c.vertices.ensures.value c.requires.there in
     let n : ℕ = (slice_index_or c.vertices.result.now c.args.number c.index-vertices-number.result).node.0 in
     let same : n ≡ (vertex_at c.args.unwinding.now.vertices c.args.number).node.0 = ap (λ (y : Vertex). y.node.0) e in
     let lt : n < length c.args.parts.now = omega (arith, same, counts_below c.args.unwinding.now (length c.args.parts.now) c.args.number co) in
@@ -25,7 +25,7 @@ pub returns-clause-parts : goal.returns-clause-parts
 returns-clause-parts c =
     let on : c.counts.result ≡ true = search rules in
     let co : counts c.args.unwinding.now (length c.args.parts.now) c.args.number ≡ true = sym c.counts.ensures ∙ on in
-    let e = vertex_read _ _ _ c.index-vertices-number.result c.vertices.ensures c.requires.there in
+    let e = vertex_read _ _ _ c.index-vertices-number.result c.vertices.ensures.value c.requires.there in
     let n : ℕ = (slice_index_or c.vertices.result.now c.args.number c.index-vertices-number.result).node.0 in
     let same : n ≡ (vertex_at c.args.unwinding.now.vertices c.args.number).node.0 = ap (λ (y : Vertex). y.node.0) e in
     let lt : n < length c.args.parts.now = omega (arith, same, counts_below c.args.unwinding.now (length c.args.parts.now) c.args.number co) in

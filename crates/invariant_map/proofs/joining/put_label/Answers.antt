@@ -13,7 +13,7 @@ use Rattle.invariant_map.proofs.joining.put_label.Goals as goal
 pub returns-then-is_empty-clause-label : goal.returns-then-is_empty-clause-label
 returns-then-is_empty-clause-label c =
     let e : c.as_slice-label.result.now ≡ (vertex_at c.args.unwinding.now.vertices c.args.number).label =
-    c.as_slice-label.ensures ∙ ap (λ (y : Vertex). y.label) (vertex_read _ _ _ _ c.vertices.ensures c.requires.there) in
+    c.as_slice-label.ensures ∙ ap (λ (y : Vertex). y.label) (vertex_read _ _ _ _ c.vertices.ensures.value c.requires.there) in
     let n : length c.as_slice-label.result.now ≡ 0 = eqb-true (length c.as_slice-label.result.now) 0 (sym c.is_empty.ensures ∙ c.if-is_empty.true) in
     empty_label _ c.args.unwinding.now.terms c.put_term.new.terms (vertex_at c.args.unwinding.now.vertices c.args.number).label c.put_term.ensures.table (ap length (sym e) ∙ n) c.put_term.ensures.named
 
@@ -21,7 +21,7 @@ pub loop-at-init : goal.loop-at-init
 loop-at-init c =
     let ts : List TermId = c.as_slice-label.result.now in
     let e : ts ≡ (vertex_at c.args.unwinding.now.vertices c.args.number).label =
-    c.as_slice-label.ensures ∙ ap (λ (y : Vertex). y.label) (vertex_read _ _ _ _ c.vertices.ensures c.requires.there) in
+    c.as_slice-label.ensures ∙ ap (λ (y : Vertex). y.label) (vertex_read _ _ _ _ c.vertices.ensures.value c.requires.there) in
     let placed : All (IsPlaced c.args.unwinding.now.terms c.args.terms.now c.args.places.now) ts =
     subst (λ (w : List TermId). All (IsPlaced c.args.unwinding.now.terms c.args.terms.now c.args.places.now) w) (sym e) c.requires.placed in
     let some : 0 < length ts = search rules in
@@ -36,7 +36,7 @@ pub put_and-requires-clause-right : goal.put_and-requires-clause-right
 put_and-requires-clause-right c =
     let ts : List TermId = c.as_slice-label.result.now in
     let e : ts ≡ (vertex_at c.args.unwinding.now.vertices c.args.number).label =
-    c.as_slice-label.ensures ∙ ap (λ (y : Vertex). y.label) (vertex_read _ _ _ _ c.vertices.ensures c.requires.there) in
+    c.as_slice-label.ensures ∙ ap (λ (y : Vertex). y.label) (vertex_read _ _ _ _ c.vertices.ensures.value c.requires.there) in
     let placed : All (IsPlaced c.args.unwinding.now.terms c.args.terms.now c.args.places.now) ts =
     subst (λ (w : List TermId). All (IsPlaced c.args.unwinding.now.terms c.args.terms.now c.args.places.now) w) (sym e) c.requires.placed in
     let t : TermId = slice_index_or ts c.loop-at.at (record { 0 = 0 }) in
@@ -47,7 +47,7 @@ pub loop-at-preserved : goal.loop-at-preserved
 loop-at-preserved c =
     let ts : List TermId = c.as_slice-label.result.now in
     let e : ts ≡ (vertex_at c.args.unwinding.now.vertices c.args.number).label =
-    c.as_slice-label.ensures ∙ ap (λ (y : Vertex). y.label) (vertex_read _ _ _ _ c.vertices.ensures c.requires.there) in
+    c.as_slice-label.ensures ∙ ap (λ (y : Vertex). y.label) (vertex_read _ _ _ _ c.vertices.ensures.value c.requires.there) in
     let placed : All (IsPlaced c.args.unwinding.now.terms c.args.terms.now c.args.places.now) ts =
     subst (λ (w : List TermId). All (IsPlaced c.args.unwinding.now.terms c.args.terms.now c.args.places.now) w) (sym e) c.requires.placed in
     let t : TermId = slice_index_or ts c.loop-at.at (record { 0 = 0 }) in

@@ -15,9 +15,9 @@ returns c = λ apart.
     let known : (x : List ℕ) → x ≡ c.in_ok-values.values.items → x ≡ values c.args.unwinding.now.terms c.args.store.now = λ x is.
     is ∙ c.in_ok-values.ensures ∙ ap (λ (t : Table). values t c.deref-2.result.now) c.terms-terms.ensures ∙ ap (values c.args.unwinding.now.terms) (c.deref-2.ensures.value ∙ c.in_ok-cells.ensures) in
     let read : (k : ℕ) (x : Vertex) → k < length c.vertices-vertices.result.now → (get_or c.vertices-vertices.result.now k x).label ≡ (vertex_at c.args.unwinding.now.vertices k).label = λ k x lt.
-    ap (λ (v : Vertex). v.label) (get_or_default c.vertices-vertices.result.now k x (root_at (record { 0 = 0 })) lt ∙ ap (λ (vs : List Vertex). vertex_at vs k) c.vertices-vertices.ensures) in
-    let left : c.as_slice.result.now ≡ (vertex_at c.args.unwinding.now.vertices c.args.v).label = c.as_slice.ensures ∙ read c.args.v c.index-vertices-v.result (omega (arith, c.requires.left, ap length c.vertices-vertices.ensures)) in
-    let right : c.as_slice-2.result.now ≡ (vertex_at c.args.unwinding.now.vertices c.args.w).label = c.as_slice-2.ensures ∙ read c.args.w c.index-vertices-w.result (omega (arith, c.requires.right, ap length c.vertices-vertices.ensures)) in
+    ap (λ (v : Vertex). v.label) (get_or_default c.vertices-vertices.result.now k x (root_at (record { 0 = 0 })) lt ∙ ap (λ (vs : List Vertex). vertex_at vs k) c.vertices-vertices.ensures.value) in
+    let left : c.as_slice.result.now ≡ (vertex_at c.args.unwinding.now.vertices c.args.v).label = c.as_slice.ensures ∙ read c.args.v c.index-vertices-v.result (omega (arith, c.requires.left, ap length c.vertices-vertices.ensures.value)) in
+    let right : c.as_slice-2.result.now ≡ (vertex_at c.args.unwinding.now.vertices c.args.w).label = c.as_slice-2.ensures ∙ read c.args.w c.index-vertices-w.result (omega (arith, c.requires.right, ap length c.vertices-vertices.ensures.value)) in
     record {
       whole = record {
         length = omega (arith, c.if-len-cells.false, c.len.ensures, ap length c.in_ok-cells.ensures, ap length c.cells.ensures.value, ap (λ (t : Table). length t.cells) c.terms-terms.ensures);

@@ -13,7 +13,7 @@ pub invariant_of-self-2 : goal.invariant_of-self-2
 invariant_of-self-2 c =
     let settles = sym c.may_settle.ensures ∙ c.if-not-may_settle.false in
     let all : All (Contains (vertex_at c.self.inside.unwinding.vertices c.args.v).label) (vertex_at c.self.inside.unwinding.vertices c.args.w).label =
-    subst (λ (vs : List Vertex). All (Contains (vertex_at vs c.args.v).label) (vertex_at vs c.args.w).label) c.vertices.ensures (c.has_label_of.ensures c.if-not-has_label_of.false) in
+    subst (λ (vs : List Vertex). All (Contains (vertex_at vs c.args.v).label) (vertex_at vs c.args.w).label) c.vertices.ensures.value (c.has_label_of.ensures c.if-not-has_label_of.false) in
     let can : CanCover c.self.inside.graph c.self.inside.unwinding (vertex c.args.v) (vertex c.args.w) = record {
       left = omega (arith, c.if-v-count.false, ap length c.vertices-count.ensures);
       right = omega (arith, c.if-w-count.false, ap length c.vertices-count.ensures);

@@ -1,0 +1,2 @@
+pub mod Blasting
+pub mod Exact

@@ -1,0 +1,68 @@
+//! From a file to the graph of its blocks, for programs that measure or try what is done with such graphs.
+#![tactic(auto)]
+
+use block_join::join_blocks;
+use c_graph::Graph;
+use c_rules::Examined;
+use call_inline::inline;
+use cfg_build::build;
+use elaboration_laws::sources_read;
+use lv_base::{Memory, Model, SourceFail};
+use lv_outside::{FileFail, Folder, Got, HostFolder};
+use std::alloc::{AllocError, Global};
+use std::rt::Files;
+
+// The most bytes that a source may have.
+const MOST_BYTES: usize = 1 << 20;
+
+/// Why a file is not read.
+#[derive(Clone, Copy, Debug, PartialEq)]
+pub enum LoadFail {
+    /// Memory ran out.
+    Memory,
+    /// The host refused.
+    File,
+    /// It has more bytes than a source may have.
+    Long,
+}
+
+/// What the file of this name holds.
+pub fn load<R: Files + Clone + Drop>(
+    alloc: Global,
+    rt: &R,
+    name: &str,
+) -> Result<Vec<u8>, LoadFail> {
+    let files: Result<R, AllocError> = rt.clone();
+    let Ok(files) = files else {
+        return Err(LoadFail::Memory);
+    };
+    match HostFolder::new(files).read(alloc, name, MOST_BYTES) {
+        Ok(Got::Bytes(bytes)) => Ok(bytes),
+        Ok(Got::Longer) => Err(LoadFail::Long),
+        Err(FileFail::Memory) => Err(LoadFail::Memory),
+        Err(FileFail::Failed) => Err(LoadFail::File),
+    }
+}
+
+/// The typed tree of a source that breaks no rule.
+pub fn examined(alloc: Global, source: &[u8], model: Model) -> Result<Examined, SourceFail> {
+    sources_read();
+    let tokens = c_tokens::tokens_of(alloc, source)?;
+    let unit = c_parser::parse(alloc, &tokens)?;
+    source_checks::accepted(alloc, &unit, model)
+}
+
+/// The graph of a program with each call a copy, a node for each instruction.
+pub fn whole_graph(alloc: Global, examined: &Examined) -> Result<Graph, SourceFail> {
+    let graphs = build(alloc, examined)?;
+    inline(alloc, &graphs)
+}
+
+/// The graph of a program's blocks.
+pub fn blocks_of(alloc: Global, examined: &Examined) -> Result<Graph, SourceFail> {
+    let graph = whole_graph(alloc, examined)?;
+    match join_blocks(alloc, &graph) {
+        Ok(blocks) => Ok(blocks),
+        Err(Memory) => Err(SourceFail::Memory),
+    }
+}
