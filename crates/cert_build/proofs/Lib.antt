@@ -1,0 +1,2 @@
+pub mod Refutes
+pub mod Accepting

@@ -28,6 +28,9 @@ bit-truth w zero e lt = (e, refl)
 bit-truth w (suc zero) e lt = (e, refl)
 bit-truth w (suc (suc v)) e lt = absurd (omega (arith, lt))
 
+two-sides : (f : ℕ → ℕ → ℕ) (a b c d : ℕ) → a ≡ c → b ≡ d → f a b ≡ f c d
+two-sides f a b c d p q = ap (λ (x : ℕ). f x b) p ∙ ap (f c) q
+
 is-turned : (w v : ℕ) (x : Truth) → IsTruth w v x → IsTruth w (complement_in w v) (turned x)
 is-turned w v Yes h = (h.0, rw (h.0, h.1) refl)
 is-turned w v No h = (h.0, rw (h.0, h.1) refl)
@@ -37,14 +40,20 @@ is-both : (w a b : ℕ) (x y : Truth) → a < 2 ^ w → b < 2 ^ w → IsTruth w 
 is-both w a b No y la lb h k = (h.0, zero-left h.1 (subst (λ (n : ℕ). b < 2 ^ n) h.0 lb))
   where
     zero-left : a ≡ 0 → b < 2 → bit_and a b ≡ 0
-    zero-left e lt = elim (below-two b lt) [ | inl z ↦ rw (e, z) refl | inr o ↦ rw (e, o) refl ]
+    zero-left e lt = elim (below-two b lt) [
+      | inl z ↦ two-sides (λ (x y : ℕ). bit_and x y) a b 0 0 e z
+      | inr o ↦ two-sides (λ (x y : ℕ). bit_and x y) a b 0 1 e o
+    ]
 is-both w a b Yes No la lb h k = (h.0, rw (h.1, k.1) refl)
 is-both w a b Yes Yes la lb h k = (h.0, rw (h.1, k.1) refl)
 is-both w a b Yes Open la lb h k = tt
 is-both w a b Open No la lb h k = (k.0, zero-right k.1 (subst (λ (n : ℕ). a < 2 ^ n) k.0 la))
   where
     zero-right : b ≡ 0 → a < 2 → bit_and a b ≡ 0
-    zero-right e lt = elim (below-two a lt) [ | inl z ↦ rw (e, z) refl | inr o ↦ rw (e, o) refl ]
+    zero-right e lt = elim (below-two a lt) [
+      | inl z ↦ two-sides (λ (x y : ℕ). bit_and x y) a b 0 0 z e
+      | inr o ↦ two-sides (λ (x y : ℕ). bit_and x y) a b 1 0 o e
+    ]
 is-both w a b Open Yes la lb h k = tt
 is-both w a b Open Open la lb h k = tt
 
@@ -53,14 +62,20 @@ is-either : (w a b : ℕ) (x y : Truth) → a < 2 ^ w → b < 2 ^ w → IsTruth 
 is-either w a b Yes y la lb h k = (h.0, one-left h.1 (subst (λ (n : ℕ). b < 2 ^ n) h.0 lb))
   where
     one-left : a ≡ 1 → b < 2 → bit_or a b ≡ 1
-    one-left e lt = elim (below-two b lt) [ | inl z ↦ rw (e, z) refl | inr o ↦ rw (e, o) refl ]
+    one-left e lt = elim (below-two b lt) [
+      | inl z ↦ two-sides (λ (x y : ℕ). bit_or x y) a b 1 0 e z
+      | inr o ↦ two-sides (λ (x y : ℕ). bit_or x y) a b 1 1 e o
+    ]
 is-either w a b No No la lb h k = (h.0, rw (h.1, k.1) refl)
 is-either w a b No Yes la lb h k = (h.0, rw (h.1, k.1) refl)
 is-either w a b No Open la lb h k = tt
 is-either w a b Open Yes la lb h k = (k.0, one-right k.1 (subst (λ (n : ℕ). a < 2 ^ n) k.0 la))
   where
     one-right : b ≡ 1 → a < 2 → bit_or a b ≡ 1
-    one-right e lt = elim (below-two a lt) [ | inl z ↦ rw (e, z) refl | inr o ↦ rw (e, o) refl ]
+    one-right e lt = elim (below-two a lt) [
+      | inl z ↦ two-sides (λ (x y : ℕ). bit_or x y) a b 0 1 z e
+      | inr o ↦ two-sides (λ (x y : ℕ). bit_or x y) a b 1 1 o e
+    ]
 is-either w a b Open No la lb h k = tt
 is-either w a b Open Open la lb h k = tt
 
@@ -92,7 +107,7 @@ module _ (table : Table) (is : IsTable table) (store : List ℕ) (of : IsStoreOf
   Told truths n = (k : ℕ) → k < n → IsTruth (slice_index (widths table) k) (slice_index (values table store) k) (truth_at truths k)
 
   fits : (k : ℕ) → k < length table.terms → slice_index (values table store) k < 2 ^ slice_index (widths table) k
-  fits k lt = values_fit table store is of.fits (record { 0 = k }) lt
+  fits k lt = values_fit table store (record { 0 = k }) is of.fits lt
 
   -- a bit of a term that is a cell
   bit-made : (w number : ℕ) (i : TermId) (o : Option Term) → slice_get table.terms i.0 ≡ o → w ≡ 1

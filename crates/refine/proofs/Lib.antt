@@ -1,5 +1,5 @@
 pub mod Renumbering
 pub mod Refutes
 pub mod Knowing
-pub mod Reading
-pub mod Settling
+pub mod Stores
+pub mod Pairs

@@ -90,7 +90,7 @@ abbrev pub IsSomeNo : List Truth → List TermId → Type 0
 IsSomeNo truths label = (k : ℕ) × ((t : TermId) × (slice_get label k ≡ Some t) × (truth_at truths t.0 ≡ No))
 
 -- a store of the table's cells meets the first label and not the second
-pub record KeepsApart (table : Table) (left right : List TermId) (store : List ℕ) : Type 0 where
-  pub store : IsStoreOf table store
-  pub meets : AllHold table store left
-  pub misses : AllHold table store right → ⊥
+pub record KeepsApart (table : Table) (left right : List TermId) (s : List ℕ) : Type 0 where
+  pub store : IsStoreOf table s
+  pub meets : AllHold table s left
+  pub misses : AllHold table s right → ⊥

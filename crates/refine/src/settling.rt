@@ -77,6 +77,7 @@ fn asked(
     requires right { AreBits terms.now right.now }
     ensures decided { IfOk result (IsDecision terms.now left.now right.now learn) }
 {
+    let _cells = terms.cells();
     let (clauses, bits) = match pair_clauses(alloc, terms, left, right) {
         Ok(made) => made,
         Err(end) => return Err(no_clauses(end)),
@@ -112,7 +113,7 @@ fn asked_and_kept(
     let Decision::Apart(store) = &decision else {
         return Ok(decision);
     };
-    let Ok(copy) = store.copy() else {
+    let Ok(copy) = crate::witnesses::copied(store) else {
         return Err(QueryFail::Memory);
     };
     match witnesses.keep(alloc, terms, copy) {
@@ -137,6 +138,7 @@ fn decide(
     ensures known { AreKnown terms.now witnesses.new }
     ensures decided { IfOk result (IsDecision terms.now left.now right.now learn) }
 {
+    let _cells = terms.cells();
     if is_among(left, right) || is_closed(terms, left) {
         return Ok(Decision::Covered);
     }

