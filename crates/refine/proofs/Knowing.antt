@@ -1,20 +1,20 @@
 -- What is known of terms in a store is so.
-use Rattle.std.proofs.Common.{◌≡◌, ℕ, ◌+◌, ◌-◌, ◌/◌, ◌%◌, ◌^◌, ◌<◌, ◌≤◌, ◌==◌, ◌&&◌, ◌⊎◌, Bool, true, false, List, [], ◌∷◌, ◌++◌, Option, Some, None, length, All, refl, sym, ap, ◌∙◌, subst, arith, zero, suc, inl, inr, slice_get, slice_index, slice_index_or, nat_lt, bit_and, bit_or, bit_xor, if◌then◌else◌, length-append}
-use Rattle.std.proofs.lemmas.Bool.{cases_eq, cases_Bool, cases_lt}
+use Rattle.std.proofs.Common.{◌≡◌, ℕ, ◌+◌, ◌/◌, ◌%◌, ◌^◌, ◌<◌, ◌==◌, ◌&&◌, ◌⊎◌, Bool, true, false, List, [], ◌∷◌, ◌++◌, Option, Some, None, length, All, refl, sym, ap, ◌∙◌, subst, arith, zero, suc, inl, inr, slice_get, slice_index, slice_index_or, nat_lt, bit_and, bit_or, bit_xor, if◌then◌else◌, length-append}
+use Rattle.std.proofs.lemmas.Bool.{cases_eq}
 use Rattle.bv_term.specs.declared.term.TermId.{TermId}
 use Rattle.bv_term.specs.declared.term.Term.{Term}
 use Rattle.bv_term.specs.declared.term.Term.TheVariants.{Constant, Cell, Element, Add, Subtract, Multiply, Divide, Remainder, And, Or, Xor, Not, ShiftLeft, ShiftRight, ShiftSigned, Equal, Less, LessSigned, Select, ZeroExtend, SignExtend, Truncate, Bit}
 use Rattle.bv_term.specs.Numbers.{bit_of, complement_in}
-use Rattle.bv_term.specs.WellFormed.{Table, IsTable, FitsTable, width_in, widths}
-use Rattle.bv_term.specs.Values.{Holds, IsStore, value, value_in, values}
+use Rattle.bv_term.specs.WellFormed.{Table, IsTable, width_in, widths}
+use Rattle.bv_term.specs.Values.{Holds, IsStore, value_in, values}
 use Rattle.bv_term.specs.Laws.{Extends}
 use Rattle.bv_term.proofs.Staying.{values_fit, values_stay, widths_stay}
 use Rattle.term_laws.specs.Laws.{IsMade}
 use Rattle.term_laws.proofs.Made.{made}
-use Rattle.pair_query.specs.Laws.{AllHold, AreBits, IsStoreOf}
+use Rattle.pair_query.specs.Laws.{AllHold, IsStoreOf}
 use Rattle.refine.specs.declared.witnesses.Truth.{Truth}
 use Rattle.refine.specs.declared.witnesses.Truth.TheVariants.{No, Yes, Open}
-use Rattle.refine.specs.Witnesses.{Known, IsTruth, IsKnown, IsSomeNo, KeepsApart, bit_in, bit_known, both, cell_bit, constant_known, differing, truth_at, truth_known, truth_of, turned}
+use Rattle.refine.specs.Witnesses.{Known, IsTruth, IsKnown, IsSomeNo, bit_in, both, constant_known, differing, truth_at, truth_known, truth_of, turned}
 
 -- a number below 2 is 0 or 1
 below-two : (n : ℕ) → n < 2 → (n ≡ 0) ⊎ (n ≡ 1)

@@ -1,16 +1,15 @@
 -- A settled pair is a legal unit.
-use Rattle.std.proofs.Common.{◌≡◌, ℕ, ◌<◌, ◌&&◌, Bool, true, false, not, List, length, All, refl, sym, ap, ◌∙◌, subst, arith, Some, slice_get, slice_index_or, suc, zero, [], ◌∷◌, Result, Ok, Err, OnOk}
+use Rattle.std.proofs.Common.{◌≡◌, ℕ, ◌<◌, ◌&&◌, Bool, true, false, not, List, length, refl, sym, ap, ◌∙◌, subst, arith, Some, slice_get, slice_index_or, suc, zero, [], ◌∷◌}
 use Rattle.prop.specs.Logic.{all_hold}
 use Rattle.prop.specs.Trues.{listed}
 use Rattle.bv_term.specs.declared.term.TermId.{TermId}
 use Rattle.bv_term.specs.declared.term.Term.TheVariants.{Constant}
-use Rattle.bv_term.specs.WellFormed.{Table, IsTable, widths}
+use Rattle.bv_term.specs.WellFormed.{Table, IsTable}
 use Rattle.bv_term.specs.Values.{Holds, IsStore, value}
 use Rattle.term_laws.proofs.Made.{made}
-use Rattle.c_graph.specs.Shape.{Flow, HasWidth, widths_of}
+use Rattle.c_graph.specs.Shape.{Flow, widths_of}
 use Rattle.c_graph.specs.Steps.{IsWhole}
 use Rattle.resolution_log.specs.declared.Chain.{Chain}
-use Rattle.resolution_log.specs.Chains.{IsRefutation}
 use Rattle.resolution_log.proofs.Results.{refutation_sound}
 use Rattle.clause_learning.specs.Solve.{IsRefuted}
 use Rattle.reach_tree.specs.declared.vertex.VertexId.{VertexId}

@@ -1,8 +1,8 @@
 -- A lean refutation is a refutation.
-use Rattle.std.proofs.Common.{◌≡◌, ◌∙◌, ℕ, List, [], ◌∷◌, ◌++◌, Some, refl, sym, subst, append_assoc, append-nil}
+use Rattle.std.proofs.Common.{◌≡◌, ℕ, List, [], ◌∷◌, ◌++◌, Some, refl, sym, subst, append_assoc, append-nil}
 use Rattle.prop.specs.declared.Lit.{Lit}
 use Rattle.resolution_log.specs.declared.Chain.{Chain}
-use Rattle.resolution_log.specs.Chains.{then_with, chain_result, results_of, IsRefutation}
+use Rattle.resolution_log.specs.Chains.{chain_result, results_of, IsRefutation}
 use Rattle.clause_learning.specs.declared.Answer.{Answer}
 use Rattle.clause_learning.specs.declared.Answer.TheVariants.{Unsat}
 use Rattle.clause_learning.specs.Solve.{IsAnswer}

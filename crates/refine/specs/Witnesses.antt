@@ -1,5 +1,5 @@
 -- What is known of terms in stores that kept pairs apart.
-use Rattle.std.specs.Prelude.{ℕ, ◌+◌, ◌^◌, ◌/◌, ◌%◌, ◌≡◌, ◌<◌, ◌≤◌, ◌==◌, Bool, true, false, List, Option, Some, None, length, All, slice_get, slice_index, slice_index_or, nat_lt, ◌&&◌, if◌then◌else◌}
+use Rattle.std.specs.Prelude.{ℕ, ◌^◌, ◌/◌, ◌%◌, ◌≡◌, ◌<◌, ◌≤◌, ◌==◌, Bool, true, false, List, Option, Some, length, All, slice_get, slice_index, slice_index_or, nat_lt, ◌&&◌, if◌then◌else◌}
 use Rattle.bv_term.specs.declared.term.TermId.{TermId}
 use Rattle.bv_term.specs.declared.term.Term.{Term}
 use Rattle.bv_term.specs.declared.term.Term.TheVariants.{Constant, Cell, Bit, Not, And, Or, Xor}

@@ -1,4 +1,3 @@
-use Rattle.std.proofs.Common.{◌≡◌, ◌<◌, ◌≤◌, ℕ, slice_index}
 use Rattle.prop.specs.Trues.{listed}
 use Rattle.pair_query.specs.Laws.{store_read}
 use Rattle.refine.proofs.Stores.{AreNamed}

@@ -1,4 +1,4 @@
-use Rattle.std.proofs.Common.{◌≡◌, Bool, true, List, subst}
+use Rattle.std.proofs.Common.{◌≡◌, true, List, subst}
 use Rattle.prop.specs.declared.Lit.{Lit}
 use Rattle.prop.specs.Logic.{all_hold}
 use Rattle.prop.specs.Trues.{listed}

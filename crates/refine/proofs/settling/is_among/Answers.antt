@@ -1,4 +1,3 @@
-use Rattle.std.proofs.Common.{arith}
 use Rattle.std.proofs.lemmas.List.Elements.{All-more}
 use Rattle.c_graph.proofs.Checking.{All-seen}
 use Rattle.refine.specs.Decisions.{IsConjunct}

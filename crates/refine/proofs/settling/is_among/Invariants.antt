@@ -1,4 +1,4 @@
-use Rattle.std.proofs.Common.{All, take}
+use Rattle.std.proofs.Common.{take}
 use Rattle.refine.specs.Decisions.{IsSubset}
 use Rattle.refine.proofs.settling.is_among.Given as goal
 

@@ -1,4 +1,3 @@
-use Rattle.std.proofs.Common.{sym, subst}
 use Rattle.refine.proofs.Knowing.{all_yes, some_no}
 use Rattle.refine.proofs.witnesses.keeps_apart.Goals as goal
 

@@ -1,4 +1,4 @@
-use Rattle.std.proofs.Common.{List, ℕ, [], arith, subst}
+use Rattle.std.proofs.Common.{[], arith, subst}
 use Rattle.bv_term.specs.WellFormed.{FitsTable}
 use Rattle.bv_term.proofs.Staying.{one_for_each}
 use Rattle.refine.proofs.witnesses.known_truth.Goals as goal

@@ -1,4 +1,4 @@
-use Rattle.std.proofs.Common.{◌≡◌, List, [], ◌++◌, ◌∷◌, length, arith, ap, sym, ◌∙◌, subst, length-append, Some, slice_get, ℕ}
+use Rattle.std.proofs.Common.{◌≡◌, List, [], ◌∷◌, length, arith, ap, ◌∙◌, length-append, Some, slice_get}
 use Rattle.term_laws.proofs.Made.{made}
 use Rattle.refine.specs.declared.witnesses.Truth.{Truth}
 use Rattle.refine.specs.Witnesses.{Known, truth_known}
