@@ -1,0 +1,6 @@
+pub mod Needing
+pub mod Adding
+pub mod Stepping
+pub mod Sharing
+pub mod Meeting
+pub mod Running
