@@ -1,3 +1,4 @@
+pub mod Spelling
 pub mod Needing
 pub mod Adding
 pub mod Stepping

@@ -23,8 +23,9 @@ use Rattle.obligation_laws.proofs.Alike.{AgreeOn}
 use Rattle.obligation_laws.proofs.Going.{Reach, Stands}
 use Rattle.obligation_laws.proofs.Edges.{edge_at, walk}
 use Rattle.obligation_laws.proofs.Exact.{kept_runs, whole_runs}
-use Rattle.path_laws.specs.Steps.{Spells, Step, step_of, steps_from, steps_of}
+use Rattle.path_laws.specs.Steps.{IsOf, Spells, Step, step_of, steps_from, steps_of}
 use Rattle.path_laws.specs.Laws.{EdgesMeetSteps, StepsTakeEdges}
+use Rattle.path_laws.proofs.Spelling.{draws_same}
 use Rattle.path_laws.proofs.Stepping.{Sound, operations_fit, place, sound_new}
 
 -- cells that are needed are spelled exactly where the store agrees with what they spell
@@ -148,7 +149,9 @@ stood g path k s flow at =
 
 abbrev MetAt : Flow → Step → (ℕ → Bool) → List ℤ → List ℕ → Type 0
 MetAt g s v draws after =
-    (w : ℕ → Bool) × Agree s.first v w × (all_hold w s.clauses ≡ true) × Spells w after s.behind × AreDrawn (widths_of g.cells) w s.draws draws
+    (w : ℕ → Bool) × Agree s.first v w
+    × (AreDrawn (widths_of g.cells) v s.draws draws → (x : ℕ) → IsOf s.draws x → w x ≡ v x)
+    × (all_hold w s.clauses ≡ true) × Spells w after s.behind × AreDrawn (widths_of g.cells) w s.draws draws
 
 pub edges_meet_steps : EdgesMeetSteps
 edges_meet_steps g path k s edge store draws after v flow at edges l leads spells =
@@ -156,7 +159,14 @@ edges_meet_steps g path k s edge store draws after v flow at edges l leads spell
     let mine = step_of g p.held p.e p.es in
     let x = met g flow p.e p.es p.held edge v store draws after p.sound
     (ap (λ (t : Step). slice_get g.edges t.edge.0) p.is ∙ edges) l (subst (λ (t : Step). Spells v store t.before) (sym p.is) spells) leads in
-    let here : MetAt g mine v draws after = (x.w, x.agree, x.stands x.w (λ j lt. refl), x.spells, x.drawn) in
+    let here : MetAt g mine v draws after = (
+      x.w,
+      x.agree,
+      (λ d y i. draws_same (widths_of g.cells) v x.w mine.draws draws y d x.drawn i),
+      x.stands x.w (λ j lt. refl),
+      x.spells,
+      x.drawn,
+    ) in
     subst (λ (t : Step). MetAt g t v draws after) p.is here
 
 abbrev TakenAt : Flow → Step → Edge → (ℕ → Bool) → List ℕ → Type 0

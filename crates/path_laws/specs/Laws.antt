@@ -1,7 +1,9 @@
 -- What the clauses of paths say.
-use Rattle.std.specs.Prelude.{ℕ, ℤ, ◌<◌, ◌≤◌, ◌≡◌, Bool, true, List, [], ◌∷◌, length, Some, slice_get}
-use Rattle.prop.specs.Logic.{all_hold}
-use Rattle.bit_gates.specs.Net.{Agree}
+use Rattle.std.specs.Prelude.{ℕ, ℤ, ◌^◌, ◌<◌, ◌≤◌, ◌≡◌, ◌==◌, ◌↔◌, Bool, true, List, [], ◌∷◌, length, Some, slice_get}
+use Rattle.prop.specs.declared.Lit.{Lit}
+use Rattle.prop.specs.Logic.{all_hold, lit_value}
+use Rattle.bit_gates.specs.Net.{Agree, number}
+use Rattle.bv_term.specs.Numbers.{bit_of}
 use Rattle.c_graph.specs.declared.graph.NodeId.{NodeId}
 use Rattle.c_graph.specs.declared.graph.EdgeId.{EdgeId}
 use Rattle.c_graph.specs.declared.graph.Edge.{Edge}
@@ -27,13 +29,16 @@ SharedInCuts =
     → m < start → start ≤ n → Occurs (question_of g path).clauses m x → Occurs (question_of g path).clauses n x
     → IsOf cut x
 
--- from an assignment that spells a store before a step whose edge leads on from it
+-- from an assignment that spells a store before a step whose edge leads on from it: it is not changed at variables that were made
+-- before the step, nor, where it spells at the draws what is drawn, at theirs
 abbrev pub EdgesMeetSteps : Type 0
 EdgesMeetSteps =
     (g : Flow) (path : List EdgeId) (k : ℕ) (s : Step) (edge : Edge) (store : List ℕ) (draws : List ℤ) (after : List ℕ) (v : ℕ → Bool)
     → IsFlow g → slice_get (steps_of g path) k ≡ Some s → slice_get g.edges s.edge.0 ≡ Some edge
     → length store ≡ length g.cells → Leads g.terms edge store draws after → Spells v store s.before
-    → (w : ℕ → Bool) × Agree s.first v w × (all_hold w s.clauses ≡ true) × Spells w after s.behind × AreDrawn (widths_of g.cells) w s.draws draws
+    → (w : ℕ → Bool) × Agree s.first v w
+    × (AreDrawn (widths_of g.cells) v s.draws draws → (x : ℕ) → IsOf s.draws x → w x ≡ v x)
+    × (all_hold w s.clauses ≡ true) × Spells w after s.behind × AreDrawn (widths_of g.cells) w s.draws draws
 
 -- from an assignment under which a step's clauses hold, and each store that it spells before the step
 abbrev pub StepsTakeEdges : Type 0
@@ -64,3 +69,9 @@ QuestionsMakeRuns =
     → ((store : List ℕ) × IsWhole (widths_of g.cells) store × Spells v store (first_cut (question_of g path)))
     × ((store : List ℕ) → IsWhole (widths_of g.cells) store → Spells v store (first_cut (question_of g path))
     → (draws : List ℤ) × (after : List ℕ) × RunsAlong g path from store draws to after × AreDrawn (widths_of g.cells) v (question_of g path).draws draws)
+
+-- literals spell a number exactly where each has the value of its bit
+abbrev pub NumbersAreBits : Type 0
+NumbersAreBits =
+    (v : ℕ → Bool) (ls : List Lit) (x : ℕ) → x < 2 ^ length ls
+    → (number v ls ≡ x) ↔ ((k : ℕ) (l : Lit) → slice_get ls k ≡ Some l → lit_value v l ≡ (bit_of k x == 1))

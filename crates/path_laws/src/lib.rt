@@ -6,7 +6,7 @@
 //! ensures.
 #![tactic(auto)]
 
-ghost use Rattle.path_laws.specs.Laws.{EdgesMeetSteps, QuestionsAreSteps, QuestionsMakeRuns, RunsMeetQuestions, SharedInCuts, StepsTakeEdges};
+ghost use Rattle.path_laws.specs.Laws.{EdgesMeetSteps, NumbersAreBits, QuestionsAreSteps, QuestionsMakeRuns, RunsMeetQuestions, SharedInCuts, StepsTakeEdges};
 
 /// The question of a path is made of its steps, one an edge, in order: at each number, its first clause, its cuts, its clauses
 /// and its draws are those of the step, and all that stands before it is of variables that were made before it.
@@ -21,7 +21,7 @@ pub fn shared_in_cuts()
 
 /// Where a step's edge leads from one store to another, each assignment that spells the first store at the cut before the step
 /// can be changed at variables that are not made before the step, so that the step's clauses hold, the second store is spelled
-/// at the cut behind it, and the literals of the draws spell what is drawn.
+/// at the cut behind it, and the literals of the draws spell what is drawn. Where they did so before, they stay as they are.
 pub fn edges_meet_steps()
     ensures { EdgesMeetSteps }
 {}
@@ -42,4 +42,10 @@ pub fn runs_meet_questions()
 /// the first cut, with the values that it spells at the draws. There is such a store.
 pub fn questions_make_runs()
     ensures { QuestionsMakeRuns }
+{}
+
+/// Literals spell a number of their width exactly where each literal has the value of its bit. So a cut's literals spell a
+/// store exactly where each has the value of its bit of its cell.
+pub fn numbers_are_bits()
+    ensures { NumbersAreBits }
 {}
