@@ -258,10 +258,12 @@ fn clauses_of_blasting() {
 #[test]
 fn clauses_of_paths() {
     path_laws::questions_are_steps();
+    path_laws::steps_lie_between();
     path_laws::shared_in_cuts();
     path_laws::edges_meet_steps();
     path_laws::steps_take_edges();
     path_laws::runs_meet_questions();
     path_laws::questions_make_runs();
+    path_laws::draws_are_read();
     path_laws::numbers_are_bits();
 }

@@ -5,3 +5,4 @@ pub mod Stepping
 pub mod Sharing
 pub mod Meeting
 pub mod Running
+pub mod Reading

@@ -18,7 +18,9 @@ use Rattle.blast_laws.proofs.Stores.{cell-spelled}
 use Rattle.path_formula.specs.Needs.{operations_at}
 use Rattle.path_formula.specs.Paths.{bundles_of}
 use Rattle.path_formula.specs.Questions.{needed_along, plan_of, stepped}
-use Rattle.obligation_laws.specs.Draws.{AreDrawn}
+use Rattle.path_query.specs.declared.query.Bundle.{Bundle}
+use Rattle.obligation_laws.specs.Draws.{AreDrawn, BundlesBelow}
+use Rattle.obligation_laws.proofs.Blasted.{number_agrees}
 use Rattle.obligation_laws.proofs.Alike.{AgreeOn}
 use Rattle.obligation_laws.proofs.Going.{Reach, Stands}
 use Rattle.obligation_laws.proofs.Edges.{edge_at, walk}
@@ -26,7 +28,7 @@ use Rattle.obligation_laws.proofs.Exact.{kept_runs, whole_runs}
 use Rattle.path_laws.specs.Steps.{IsOf, Spells, Step, step_of, steps_from, steps_of}
 use Rattle.path_laws.specs.Laws.{EdgesMeetSteps, StepsTakeEdges}
 use Rattle.path_laws.proofs.Spelling.{draws_same}
-use Rattle.path_laws.proofs.Stepping.{Sound, operations_fit, place, sound_new}
+use Rattle.path_laws.proofs.Stepping.{Sound, bundles_below, operations_fit, place, sound_new}
 
 -- cells that are needed are spelled exactly where the store agrees with what they spell
 
@@ -42,6 +44,11 @@ agreed_spells v cells t store (d ∷ ds) e a = (
   cell-spelled v cells d ∙ (ap (λ (s : List ℕ). slice_index s d) e ∙ a d (inl refl)),
   agreed_spells v cells t store ds e (λ c h. a c (inr h)),
 )
+
+-- what is spelled stays so under each assignment that is changed at later variables alone
+still_spells : (n : ℕ) (v w : ℕ → Bool) (store : List ℕ) (bs : List Bundle) → BundlesBelow n bs → Agree n v w → Spells v store bs → Spells w store bs
+still_spells n v w store [] low a s = tt
+still_spells n v w store (b ∷ bs) low a s = (number_agrees v w n b.bits low.0 a ∙ s.0, still_spells n v w store bs low.1 a s.1)
 
 -- the beginning of a step, under any assignment
 begins_step : (table : Table) (h : Held) (v : ℕ → Bool) → Sound table h → Reach table (renew_of h) v (map (number v) h.cells)
@@ -147,27 +154,28 @@ stood g path k s flow at =
     let p = place g flow 0 h path k e (sound_new g.terms flow.table) there in
     record { held = p.held; e = e; es = p.es; sound = p.sound; is = step_is (step_of g p.held e p.es) s (sym p.step ∙ at) }
 
-abbrev MetAt : Flow → Step → (ℕ → Bool) → List ℤ → List ℕ → Type 0
-MetAt g s v draws after =
+abbrev MetAt : Flow → Step → (ℕ → Bool) → List ℕ → List ℤ → List ℕ → Type 0
+MetAt g s v store draws after =
     (w : ℕ → Bool) × Agree s.first v w
     × (AreDrawn (widths_of g.cells) v s.draws draws → (x : ℕ) → IsOf s.draws x → w x ≡ v x)
-    × (all_hold w s.clauses ≡ true) × Spells w after s.behind × AreDrawn (widths_of g.cells) w s.draws draws
+    × (all_hold w s.clauses ≡ true) × Spells w store s.before × Spells w after s.behind × AreDrawn (widths_of g.cells) w s.draws draws
 
 pub edges_meet_steps : EdgesMeetSteps
 edges_meet_steps g path k s edge store draws after v flow at edges l leads spells =
     let p = stood g path k s flow at in
     let mine = step_of g p.held p.e p.es in
-    let x = met g flow p.e p.es p.held edge v store draws after p.sound
-    (ap (λ (t : Step). slice_get g.edges t.edge.0) p.is ∙ edges) l (subst (λ (t : Step). Spells v store t.before) (sym p.is) spells) leads in
-    let here : MetAt g mine v draws after = (
+    let before : Spells v store mine.before = subst (λ (t : Step). Spells v store t.before) (sym p.is) spells in
+    let x = met g flow p.e p.es p.held edge v store draws after p.sound (ap (λ (t : Step). slice_get g.edges t.edge.0) p.is ∙ edges) l before leads in
+    let here : MetAt g mine v store draws after = (
       x.w,
       x.agree,
       (λ d y i. draws_same (widths_of g.cells) v x.w mine.draws draws y d x.drawn i),
       x.stands x.w (λ j lt. refl),
+      still_spells p.held.next v x.w store mine.before (bundles_below g.terms p.held (needed_along g (p.e ∷ p.es)) p.sound) x.agree before,
       x.spells,
       x.drawn,
     ) in
-    subst (λ (t : Step). MetAt g t v draws after) p.is here
+    subst (λ (t : Step). MetAt g t v store draws after) p.is here
 
 abbrev TakenAt : Flow → Step → Edge → (ℕ → Bool) → List ℕ → Type 0
 TakenAt g s edge v store =

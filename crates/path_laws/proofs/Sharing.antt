@@ -1,6 +1,8 @@
 -- What steps share is in the cuts between them.
-use Rattle.std.proofs.Common.{◌≡◌, ℕ, ◌+◌, ◌-◌, ◌≤◌, ◌<◌, ◌⊎◌, List, [], ◌∷◌, ◌++◌, length, refl, sym, ap, ◌∙◌, subst, zero, suc, arith, slice_get, Some, inl, inr}
+use Rattle.std.proofs.Common.{◌≡◌, ℕ, ◌+◌, ◌-◌, ◌≤◌, ◌<◌, ◌⊎◌, Bool, true, false, ◌&&◌, List, [], ◌∷◌, ◌++◌, length, refl, sym, ap, ◌∙◌, subst, zero, suc, arith, slice_get, Some, inl, inr}
+use Rattle.std.proofs.lemmas.Bool.{false≢true}
 use Rattle.prop.specs.declared.Lit.{Lit}
+use Rattle.prop.specs.Logic.{all_hold, clause_holds}
 use Rattle.bit_gates.proofs.Within.{Fits, LitsOk}
 use Rattle.bit_blast.specs.Emission.{cell_at}
 use Rattle.bit_blast.specs.Held.{Held, new_of}
@@ -13,7 +15,7 @@ use Rattle.path_formula.specs.Paths.{bundles_of}
 use Rattle.path_formula.specs.Questions.{asked, needed_along, plan_of, question_of, stepped}
 use Rattle.obligation_laws.proofs.Alike.{Has}
 use Rattle.path_laws.specs.Steps.{HasVariable, IsOf, Occurs}
-use Rattle.path_laws.specs.Laws.{SharedInCuts}
+use Rattle.path_laws.specs.Laws.{SharedInCuts, StepsLieBetween}
 use Rattle.path_laws.proofs.Adding.{NeededOk}
 use Rattle.path_laws.proofs.Stepping.{Sound, place, sound_amid, sound_new, step_adds}
 
@@ -139,3 +141,32 @@ shared_in_cuts g path k start cut m n x flow starts cuts before behind first sec
     let late = occurs_ok (Known H.next mine) s.most rest.clauses (n - length p.earlier) x s.clauses
     (occurs_behind all p.earlier rest.clauses n x p.clauses (omega (arith, behind, size)) second) in
     subst (λ (c : List Bundle). IsOf c x) same (elim (late.1) [ inl high ↦ absurd (omega (arith, high, low)) | inr y ↦ y ])
+
+-- the clauses of a step, by their numbers
+
+clause_met : (v : ℕ → Bool) (cs : List (List Lit)) (k : ℕ) (c : List Lit) → all_hold v cs ≡ true → slice_get cs k ≡ Some c → clause_holds v c ≡ true
+clause_met v [] k c h at = absurd cc
+clause_met v (x ∷ cs) zero c h at = subst (λ (t : List Lit). clause_holds v t ≡ true) (clause_is x c at) (first (clause_holds v x) (all_hold v cs) h)
+  where
+    clause_is : (x c : List Lit) → Some x ≡ Some c → x ≡ c
+    clause_is x c e = cc
+
+    first : (a b : Bool) → (a && b) ≡ true → a ≡ true
+    first true b e = refl
+    first false b e = e
+clause_met v (x ∷ cs) (suc k) c h at = clause_met v cs k c (rest (clause_holds v x) (all_hold v cs) h) at
+  where
+    rest : (a b : Bool) → (a && b) ≡ true → b ≡ true
+    rest true b e = e
+    rest false b e = absurd (false≢true e)
+
+pub steps_lie_between : StepsLieBetween
+steps_lie_between q k s v start n c has held at least most there =
+    let size : length has.earlier ≡ start = number_is (length has.earlier) start (sym has.start ∙ at) in
+    let low : length has.earlier ≤ n = omega (arith, size, least) in
+    let most : n < length has.earlier + length s.clauses = subst (λ (k : ℕ). n < k) has.next most in
+    let i = n - length has.earlier in
+    let less : i < length s.clauses = omega (arith, most, low) in
+    let mine : slice_get (s.clauses ++ has.later) i ≡ Some c
+    = sym (get_behind has.earlier (s.clauses ++ has.later) n low) ∙ (ap (λ (t : List (List Lit)). slice_get t n) (sym has.clauses) ∙ there) in
+    clause_met v s.clauses i c held (sym (get_before s.clauses has.later i less) ∙ mine)

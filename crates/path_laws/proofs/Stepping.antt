@@ -161,7 +161,7 @@ lits_below : (n : ℕ) (cs : List (List Lit)) → AllOk Below n cs → ClausesBe
 lits_below n [] a = tt
 lits_below n (c ∷ cs) a = (below_ok n c a.0, lits_below n cs a.1)
 
-bundles_below : (table : Table) (h : Held) (needed : List ℕ) → Sound table h → BundlesBelow h.next (bundles_of h.cells needed)
+pub bundles_below : (table : Table) (h : Held) (needed : List ℕ) → Sound table h → BundlesBelow h.next (bundles_of h.cells needed)
 bundles_below table h [] s = tt
 bundles_below table h (c ∷ cs) s = (below_ok h.next (cell_at h.cells c) (all-at Below h.next c h.cells s.inside), bundles_below table h cs s)
 

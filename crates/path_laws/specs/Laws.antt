@@ -1,7 +1,7 @@
 -- What the clauses of paths say.
-use Rattle.std.specs.Prelude.{ℕ, ℤ, ◌^◌, ◌<◌, ◌≤◌, ◌≡◌, ◌==◌, ◌↔◌, Bool, true, List, [], ◌∷◌, length, Some, slice_get}
+use Rattle.std.specs.Prelude.{ℕ, ℤ, ◌^◌, ◌<◌, ◌≤◌, ◌≡◌, ◌==◌, ◌↔◌, Bool, true, List, [], ◌∷◌, length, suc, Some, slice_get, slice_index_or}
 use Rattle.prop.specs.declared.Lit.{Lit}
-use Rattle.prop.specs.Logic.{all_hold, lit_value}
+use Rattle.prop.specs.Logic.{all_hold, clause_holds, lit_value}
 use Rattle.bit_gates.specs.Net.{Agree, number}
 use Rattle.bv_term.specs.Numbers.{bit_of}
 use Rattle.c_graph.specs.declared.graph.NodeId.{NodeId}
@@ -11,9 +11,11 @@ use Rattle.c_graph.specs.Shape.{Flow, IsFlow, widths_of}
 use Rattle.c_graph.specs.Steps.{IsWhole, Leads}
 use Rattle.c_graph.specs.Runs.{RunsAlong}
 use Rattle.path_query.specs.declared.query.Bundle.{Bundle}
+use Rattle.path_query.specs.declared.query.PathQuery.{PathQuery}
 use Rattle.path_formula.specs.Questions.{question_of}
 use Rattle.obligation_laws.specs.Draws.{AreDrawn}
 use Rattle.path_laws.specs.Steps.{Step, steps_of, HasStep, IsOf, Occurs, Spells, first_cut}
+use Rattle.path_laws.specs.Values.{signs_along, values_read}
 
 -- each edge of a path has its step, which the question has at its number
 abbrev pub QuestionsAreSteps : Type 0
@@ -38,7 +40,7 @@ EdgesMeetSteps =
     → length store ≡ length g.cells → Leads g.terms edge store draws after → Spells v store s.before
     → (w : ℕ → Bool) × Agree s.first v w
     × (AreDrawn (widths_of g.cells) v s.draws draws → (x : ℕ) → IsOf s.draws x → w x ≡ v x)
-    × (all_hold w s.clauses ≡ true) × Spells w after s.behind × AreDrawn (widths_of g.cells) w s.draws draws
+    × (all_hold w s.clauses ≡ true) × Spells w store s.before × Spells w after s.behind × AreDrawn (widths_of g.cells) w s.draws draws
 
 -- from an assignment under which a step's clauses hold, and each store that it spells before the step
 abbrev pub StepsTakeEdges : Type 0
@@ -69,6 +71,20 @@ QuestionsMakeRuns =
     → ((store : List ℕ) × IsWhole (widths_of g.cells) store × Spells v store (first_cut (question_of g path)))
     × ((store : List ℕ) → IsWhole (widths_of g.cells) store → Spells v store (first_cut (question_of g path))
     → (draws : List ℤ) × (after : List ℕ) × RunsAlong g path from store draws to after × AreDrawn (widths_of g.cells) v (question_of g path).draws draws)
+
+-- what a run along a path draws is what the literals of its question's draws read, where they spell it modulo powers of two
+abbrev pub DrawsAreRead : Type 0
+DrawsAreRead =
+    (g : Flow) (path : List EdgeId) (from to : NodeId) (store : List ℕ) (draws : List ℤ) (after : List ℕ) (v : ℕ → Bool)
+    → IsFlow g → RunsAlong g path from store draws to after → AreDrawn (widths_of g.cells) v (question_of g path).draws draws
+    → draws ≡ values_read (widths_of g.cells) v (question_of g path).draws (signs_along g path)
+
+-- the clauses of a question from a step's first one up to the next step's hold where the step's clauses do
+abbrev pub StepsLieBetween : Type 0
+StepsLieBetween =
+    (q : PathQuery) (k : ℕ) (s : Step) (v : ℕ → Bool) (start n : ℕ) (c : List Lit)
+    → HasStep q k s → all_hold v s.clauses ≡ true → slice_get q.starts k ≡ Some start
+    → start ≤ n → n < slice_index_or q.starts (suc k) (length q.clauses) → slice_get q.clauses n ≡ Some c → clause_holds v c ≡ true
 
 -- literals spell a number exactly where each has the value of its bit
 abbrev pub NumbersAreBits : Type 0
