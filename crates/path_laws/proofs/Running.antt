@@ -101,7 +101,7 @@ made g flow n h (e ∷ es) v from to store s (edge, is, here, joins) whole spell
     record {
       draws = x.draws ++ y.draws;
       after = y.after;
-      run = (edge, is, here, (x.after, x.draws, y.draws, refl, x.leads, y.run));
+      run = (edge, is, here, (x.after, x.draws, y.draws, refl {a = x.draws ++ y.draws}, x.leads, y.run));
       drawn = drawn_both ws v m.draws r.draws x.draws y.draws x.drawn y.drawn;
     }
 
