@@ -22,16 +22,17 @@ use Rattle.bv_term.proofs.Growing.{widths-append, length-widths}
 use Rattle.bv_term.proofs.Staying.{widths-keep, values-keep, length-values}
 use Rattle.bit_blast.specs.Done.{Known, lits_of, is_done}
 use Rattle.bit_blast.specs.Cone.{cone_of}
-use Rattle.bit_blast.specs.Emission.{emitted}
+use Rattle.bit_blast.specs.Emission.{cell_at, emitted}
 use Rattle.bit_blast.specs.Held.{Held, begun, blast_of, store_in, known_index, placed, replaced}
 use Rattle.bit_blast.proofs.Cones.{DoneFit, cone-falls, cone-done}
 use Rattle.bit_blast.proofs.Over.{placed-widths, over-store}
 use Rattle.bit_blast.specs.Held.{IsOver}
 use Rattle.blast_laws.specs.Calls.{Call, Blast, Fresh, Rebind, Renew, StoreAt, table_of, made_by, terms_after, May, store_by, Answers}
-use Rattle.blast_laws.proofs.Owes.{IsLow, Below, low-below, fits-zero, AllOk, all-more, all-take, all-drop, folded-owes, stored-owes, decoded-owes, inside, inside-one}
+use Rattle.blast_laws.specs.Reading.{Reads, Sets}
+use Rattle.blast_laws.proofs.Owes.{IsLow, Below, low-below, fits-zero, AllOk, all-more, all-at, at-all, all-range, folded-owes, stored-owes, decoded-owes, inside, inside-one}
 use Rattle.blast_laws.proofs.Stores.{placed-spelled, store-told}
 use Rattle.blast_laws.proofs.Turns.{fresh-one}
-use Rattle.blast_laws.proofs.Rising.{Means, Rises, rises}
+use Rattle.blast_laws.proofs.Rising.{ConeOk, Means, Rises, low-cells, rises}
 
 -- a constant literal that may be spoken of
 abbrev pub OneOk : (ℕ → ℕ → Type 0) → ℕ → Option Lit → Type 0
@@ -80,61 +81,41 @@ fit-more ws us more ds h k g =
     (omega (arith, r.0, length-append us more), r.1 ∙ sym e)
 
 pub cone-rises : (P : ℕ → ℕ → Type 0) (lo : ℕ) → within.Fits P lo → IsLow P → (table : Table) (one : Lit) (cells : List (List Lit)) (n : ℕ) (done : List Known) (t : ℕ)
-    → lo ≤ n → P n one.var → AllOk P n cells → ((j : ℕ) → LitsOk P n (lits_of done j))
+    → lo ≤ n → P n one.var → AllOk Below n cells → ((j : ℕ) → LitsOk P n (lits_of done j))
     → IsTable table → map length cells ≡ table.cells → DoneFit table done → t < length table.terms
+    → ConeOk P n cells table.terms (cone_of table.terms done t)
     → Rises P table one cells n done (cone_of table.terms done t)
-cone-rises P lo f low table one cells n done t le o hc hl h e d lt =
-    rises P lo f low table one cells n done le o hc hl h e d (suc t) (λ j. eqb t j && not (is_done done j)) (omega (arith, lt)) (fresh-one (is_done done) (λ j. eqb t j))
+cone-rises P lo f low table one cells n done t le o hc hl h e d lt own =
+    rises P lo f low table one cells n done le o hc hl h e d (suc t) (λ j. eqb t j && not (is_done done j)) (omega (arith, lt)) (fresh-one (is_done done) (λ j. eqb t j)) own
 
-pub blast-steps : (P : ℕ → ℕ → Type 0) (lo : ℕ) → within.Fits P lo → IsLow P → (ws : List ℕ) (us ts more : List Term) (t : ℕ) (h : Held) → lo ≤ h.next
-    → Keeps P ws us h → IsTable (table_of ws ts) → ts ≡ us ++ more → t < length ts
-    → Steps P ws ts h.next (blast_of (table_of ws ts) t h).defs (blast_of (table_of ws ts) t h).held
-blast-steps P lo f low ws us ts more t h le k is e lt =
-    let table = table_of ws ts in
-    let o = begun h.next h.one in
-    let N = h.next + length o.defs in
-    let b = begun-ok P lo f h.next h.one le k.one in
-    let fit : DoneFit table h.done = subst (λ (x : List Term). DoneFit (table_of ws x) h.done) (sym e) (fit-more ws us more h.done k.fit) in
-    let nN : h.next ≤ N = omega arith in
-    let lN : lo ≤ N = omega (arith, le) in
-    let cN = all-more P lo f h.next N h.cells le nN k.cells in
-    let hN : (j : ℕ) → LitsOk P N (lits_of h.done j) = λ j. lits-more P lo f h.next N (lits_of h.done j) le nN (k.lits j) in
-    let r = emitted o.lit h.cells ts N h.done (cone_of ts h.done t) in
-    let i = cone-rises P lo f low table o.lit h.cells N h.done t lN b.1 cN hN is k.widths fit lt in
-    let F = cone-falls table o.lit h.cells N h.done t is k.widths fit lt in
-    let l : N + length r.defs ≡ h.next + length (o.defs ++ r.defs) = omega (arith, length-append o.defs r.defs) in
-    let M = h.next + length (o.defs ++ r.defs) in
-    let nM : h.next ≤ M = omega arith in
-    record {
-      keeps = record {
-        widths = k.widths;
-        cells = all-more P lo f h.next M h.cells le nM k.cells;
-        one = ok-more P lo f N M o.lit.var lN (omega (arith, l)) b.1;
-        lits = λ j. subst (λ (x : ℕ). LitsOk P x (lits_of r.done j)) l (i.lits j);
-        fit = F.fit;
-      };
-      net = net_ok-append P h.next o.defs r.defs b.0 i.net;
-      rises = omega arith;
-    }
+-- a cell after others were put in their places
+placed-at : (P : ℕ → ℕ → Type 0) (n : ℕ) (cells : List (List Lit)) (k j : ℕ) (to : List Lit) → LitsOk P n to → LitsOk P n (cell_at cells j) → LitsOk P n (cell_at (placed cells k to) j)
+placed-at P n [] k j to h g = tt
+placed-at P n (c ∷ cs) zero zero to h g = h
+placed-at P n (c ∷ cs) zero (suc j) to h g = g
+placed-at P n (c ∷ cs) (suc k) zero to h g = g
+placed-at P n (c ∷ cs) (suc k) (suc j) to h g = placed-at P n cs k j to h g
 
-placed-ok : (P : ℕ → ℕ → Type 0) (n : ℕ) (cells : List (List Lit)) (k : ℕ) (to : List Lit) → AllOk P n cells → LitsOk P n to → AllOk P n (placed cells k to)
-placed-ok P n [] k to h g = tt
-placed-ok P n (c ∷ cs) zero to h g = (g, h.1)
-placed-ok P n (c ∷ cs) (suc k) to h g = (h.0, placed-ok P n cs k to h.1 g)
+placed-here : (P : ℕ → ℕ → Type 0) (n : ℕ) (cells : List (List Lit)) (k : ℕ) (to : List Lit) → LitsOk P n to → LitsOk P n (cell_at (placed cells k to) k)
+placed-here P n [] k to h = tt
+placed-here P n (c ∷ cs) zero to h = h
+placed-here P n (c ∷ cs) (suc k) to h = placed-here P n cs k to h
 
-replaced-ok : (P : ℕ → ℕ → Type 0) (n : ℕ) (cells : List (List Lit)) (f : ℕ) (news : List (List Lit)) → AllOk P n cells → AllOk P n news → AllOk P n (replaced cells f news)
-replaced-ok P n cells f [] h g = h
-replaced-ok P n cells f (c ∷ cs) h g = placed-ok P n (replaced cells (suc f) cs) f c (replaced-ok P n cells (suc f) cs h g.1) g.0
+replaced-at : (P : ℕ → ℕ → Type 0) (n : ℕ) (cells : List (List Lit)) (f j : ℕ) (news : List (List Lit)) → AllOk P n news → LitsOk P n (cell_at cells j)
+    → LitsOk P n (cell_at (replaced cells f news) j)
+replaced-at P n cells f j [] h g = g
+replaced-at P n cells f j (c ∷ cs) h g = placed-at P n (replaced cells (suc f) cs) f j c h.0 (replaced-at P n cells (suc f) j cs h.1 g)
 
 store-owes : (P : ℕ → ℕ → Type 0) (lo : ℕ) → within.Fits P lo → IsLow P → (one : Lit) (n : ℕ) (cells : List (List Lit)) (f m : ℕ) (index value : List Lit) (o : Option ℕ) → lo ≤ n
-    → P n one.var → AllOk P n cells → LitsOk P n index → LitsOk P n value
+    → P n one.var → AllOk P n (take m (drop f cells)) → LitsOk P n index → LitsOk P n value
     → NetOk P n (store_in one n cells f m index value o).defs
-    × AllOk P (n + length (store_in one n cells f m index value o).defs) (store_in one n cells f m index value o).cells
+    × ((j : ℕ) → LitsOk P n (cell_at cells j)
+    → LitsOk P (n + length (store_in one n cells f m index value o).defs) (cell_at (store_in one n cells f m index value o).cells j))
 store-owes P lo f low one n cells b m index value (Some k) le ho hc hi hv =
     let nn : n ≤ n + 0 = omega arith in (
       tt,
-      all-more P lo f n (n + 0) (cond (ltb k m) (placed cells (b + k) value) cells) le nn
-          (chosen {A = List (List Lit)} (ltb k m) (placed cells (b + k) value) cells (AllOk P n) (λ t. placed-ok P n cells (b + k) value hc hv) (λ t. hc)),
+      λ j g. lits-more P lo f n (n + 0) (cell_at (cond (ltb k m) (placed cells (b + k) value) cells) j) le nn
+          (chosen {A = List (List Lit)} (ltb k m) (placed cells (b + k) value) cells (λ t. LitsOk P n (cell_at t j)) (λ t. placed-at P n cells (b + k) j value hv g) (λ t. g)),
     )
 store-owes P lo f low one n cells b m index value None le ho hc hi hv =
     let cs = take m (drop b cells) in
@@ -146,80 +127,138 @@ store-owes P lo f low one n cells b m index value None le ho hc hi hv =
     let nk : n ≤ k = omega arith in
     let lk : lo ≤ k = omega (arith, le) in
     let j = stored-owes P lo f low one k d.outs cs value lk (ok-more P lo f n k one.var le nk ho) i.1
-    (all-more P lo f n k cs le nk (all-take P n m (drop b cells) (all-drop P n b cells hc))) (lits-more P lo f n k value le nk hv) in
+    (all-more P lo f n k cs le nk hc) (lits-more P lo f n k value le nk hv) in
     let l : k + length s.defs ≡ n + length (d.defs ++ s.defs) = omega (arith, length-append d.defs s.defs) in
-    let M = n + length (d.defs ++ s.defs) in (
+    let M = n + length (d.defs ++ s.defs) in
+    let nM : n ≤ M = omega arith in (
       net_ok-append P n d.defs s.defs i.0 j.0,
-      replaced-ok P M cells b s.cells (all-more P lo f n M cells le (omega arith) hc) (subst (λ (x : ℕ). AllOk P x s.cells) l j.1),
+      λ a g. replaced-at P M cells b a s.cells (subst (λ (x : ℕ). AllOk P x s.cells) l j.1) (lits-more P lo f n M (cell_at cells a) le nM g),
     )
 
--- what a call leaves keeps what was held
-pub call-steps : (P : ℕ → ℕ → Type 0) (lo : ℕ) → within.Fits P lo → IsLow P → (ws : List ℕ) (us : List Term) (h : Held) (c : Call) → lo ≤ h.next
-    → Keeps P ws us h → May ws us h c → Handed P h.next c
-    → Steps P ws (terms_after c us) h.next (made_by ws c h).defs (made_by ws c h).held
-call-steps P lo f low ws us h (Blast ts t) le k may ha = blast-steps P lo f low ws us ts may.1.0 t h le k may.0 may.1.1 may.2
-call-steps P lo f low ws us h (Fresh w) le k may ha =
+-- what is held, but for its cells, speaks of what may be spoken of; the cells may speak of all that lies below
+pub record Aside (P : ℕ → ℕ → Type 0) (ws : List ℕ) (us : List Term) (h : Held) : Type 0 where
+  pub widths : map length h.cells ≡ ws
+  pub inside : AllOk Below h.next h.cells
+  pub one : OneOk P h.next h.one
+  pub lits : (j : ℕ) → LitsOk P h.next (lits_of h.done j)
+  pub fit : DoneFit (table_of ws us) h.done
+
+-- what a call leaves of that, and of each cell
+pub record Leaves (P : ℕ → ℕ → Type 0) (ws : List ℕ) (us : List Term) (h : Held) (c : Call) : Type 0 where
+  pub widths : map length (made_by ws c h).held.cells ≡ ws
+  pub one : OneOk P (made_by ws c h).held.next (made_by ws c h).held.one
+  pub lits : (j : ℕ) → LitsOk P (made_by ws c h).held.next (lits_of (made_by ws c h).held.done j)
+  pub fit : DoneFit (table_of ws (terms_after c us)) (made_by ws c h).held.done
+  pub net : NetOk P h.next (made_by ws c h).defs
+  pub rises : h.next + length (made_by ws c h).defs ≤ (made_by ws c h).held.next
+  pub kept : (j : ℕ) → LitsOk P h.next (cell_at h.cells j) → LitsOk P (made_by ws c h).held.next (cell_at (made_by ws c h).held.cells j)
+  pub set : (j : ℕ) → Sets c j → LitsOk P (made_by ws c h).held.next (cell_at (made_by ws c h).held.cells j)
+
+-- where each cell that a call reads may be spoken of
+pub call-leaves : (P : ℕ → ℕ → Type 0) (lo : ℕ) → within.Fits P lo → IsLow P → (ws : List ℕ) (us : List Term) (h : Held) (c : Call) → lo ≤ h.next
+    → Aside P ws us h → May ws us h c → Handed P h.next c → ((j : ℕ) → Reads h c j → LitsOk P h.next (cell_at h.cells j))
+    → Leaves P ws us h c
+call-leaves P lo f low ws us h (Blast ts t) le k may ha own =
+    let table = table_of ws ts in
+    let o = begun h.next h.one in
+    let N = h.next + length o.defs in
+    let b = begun-ok P lo f h.next h.one le k.one in
+    let fit : DoneFit table h.done = subst (λ (x : List Term). DoneFit (table_of ws x) h.done) (sym may.1.1) (fit-more ws us may.1.0 h.done k.fit) in
+    let nN : h.next ≤ N = omega arith in
+    let lN : lo ≤ N = omega (arith, le) in
+    let cN = all-more Below 0 fits-zero h.next N h.cells (omega arith) nN k.inside in
+    let hN : (j : ℕ) → LitsOk P N (lits_of h.done j) = λ j. lits-more P lo f h.next N (lits_of h.done j) le nN (k.lits j) in
+    let readable : ConeOk P N h.cells ts (cone_of ts h.done t) = λ j g c i. lits-more P lo f h.next N (cell_at h.cells c) le nN (own c (j, g, i)) in
+    let r = emitted o.lit h.cells ts N h.done (cone_of ts h.done t) in
+    let i = cone-rises P lo f low table o.lit h.cells N h.done t lN b.1 cN hN may.0 k.widths fit may.2 readable in
+    let F = cone-falls table o.lit h.cells N h.done t may.0 k.widths fit may.2 in
+    let l : N + length r.defs ≡ h.next + length (o.defs ++ r.defs) = omega (arith, length-append o.defs r.defs) in
+    let M = h.next + length (o.defs ++ r.defs) in
+    let nM : h.next ≤ M = omega arith in
+    record {
+      widths = k.widths;
+      one = ok-more P lo f N M o.lit.var lN (omega (arith, l)) b.1;
+      lits = λ j. subst (λ (x : ℕ). LitsOk P x (lits_of r.done j)) l (i.lits j);
+      fit = F.fit;
+      net = net_ok-append P h.next o.defs r.defs b.0 i.net;
+      rises = omega arith;
+      kept = λ j g. lits-more P lo f h.next M (cell_at h.cells j) le nM g;
+      set = λ j s. absurd s;
+    }
+call-leaves P lo f low ws us h (Fresh w) le k may ha own =
     let n : h.next ≤ h.next + w = omega arith in
     record {
-      keeps = record {
-        widths = k.widths;
-        cells = all-more P lo f h.next (h.next + w) h.cells le n k.cells;
-        one = later h.one k.one;
-        lits = λ j. lits-more P lo f h.next (h.next + w) (lits_of h.done j) le n (k.lits j);
-        fit = k.fit;
-      };
+      widths = k.widths;
+      one = later h.one k.one;
+      lits = λ j. lits-more P lo f h.next (h.next + w) (lits_of h.done j) le n (k.lits j);
+      fit = k.fit;
       net = tt;
       rises = omega arith;
+      kept = λ j g. lits-more P lo f h.next (h.next + w) (cell_at h.cells j) le n g;
+      set = λ j s. absurd s;
     }
   where
     later : (o : Option Lit) → OneOk P h.next o → OneOk P (h.next + w) o
     later None x = tt
     later (Some l) x = ok-more P lo f h.next (h.next + w) l.var le (omega arith) x
-call-steps P lo f low ws us h (Rebind c to) le k may ha = record {
-  keeps = record {
-    widths = placed-widths h.cells c to may.1 ∙ k.widths;
-    cells = placed-ok P h.next h.cells c to k.cells ha;
-    one = k.one;
-    lits = λ j. tt;
-    fit = none-fits (table_of ws []);
-  };
+call-leaves P lo f low ws us h (Rebind c to) le k may ha own = record {
+  widths = placed-widths h.cells c to may.1 ∙ k.widths;
+  one = k.one;
+  lits = λ j. tt;
+  fit = none-fits (table_of ws []);
   net = tt;
   rises = omega arith;
+  kept = λ j g. placed-at P h.next h.cells c j to ha g;
+  set = λ j e. subst (λ (i : ℕ). LitsOk P h.next (cell_at (placed h.cells c to) i)) (sym e) (placed-here P h.next h.cells c to ha);
 }
-call-steps P lo f low ws us h Renew le k may ha = record {
-  keeps = record {
-    widths = k.widths;
-    cells = k.cells;
-    one = tt;
-    lits = λ j. tt;
-    fit = none-fits (table_of ws []);
-  };
+call-leaves P lo f low ws us h Renew le k may ha own = record {
+  widths = k.widths;
+  one = tt;
+  lits = λ j. tt;
+  fit = none-fits (table_of ws []);
   net = tt;
   rises = omega arith;
+  kept = λ j g. g;
+  set = λ j s. absurd s;
 }
-call-steps P lo f low ws us h (StoreAt b m i x) le k may ha =
+call-leaves P lo f low ws us h (StoreAt b m i x) le k may ha own =
     let o = begun h.next h.one in
     let N = h.next + length o.defs in
     let g = begun-ok P lo f h.next h.one le k.one in
     let nN : h.next ≤ N = omega arith in
     let lN : lo ≤ N = omega (arith, le) in
+    let array : AllOk P h.next (take m (drop b h.cells)) = all-range P h.next h.cells b m (λ c least most. own c (least, most)) in
     let s = store_in o.lit N h.cells b m i x (known_index m (spelled_of o.lit i)) in
-    let q = store-owes P lo f low o.lit N h.cells b m i x (known_index m (spelled_of o.lit i)) lN g.1 (all-more P lo f h.next N h.cells le nN k.cells)
+    let q = store-owes P lo f low o.lit N h.cells b m i x (known_index m (spelled_of o.lit i)) lN g.1 (all-more P lo f h.next N (take m (drop b h.cells)) le nN array)
     (lits-more P lo f h.next N i le nN ha.0) (lits-more P lo f h.next N x le nN ha.1) in
     let l : N + length s.defs ≡ h.next + length (o.defs ++ s.defs) = omega (arith, length-append o.defs s.defs) in
     let M = h.next + length (o.defs ++ s.defs) in
     let over : IsOver (table_of ws []) (record { next = h.next; one = h.one; cells = h.cells; done = [] }) = record { cells = k.widths; done = λ j e. absurd (false≢true e) } in
     let w = over-store b m i x (record { next = h.next; one = h.one; cells = h.cells; done = [] }) (table_of ws []) may.0 may.1 over in
     record {
-      keeps = record {
-        widths = w.cells;
-        cells = subst (λ (z : ℕ). AllOk P z s.cells) l q.1;
-        one = ok-more P lo f N M o.lit.var lN (omega (arith, l)) g.1;
-        lits = λ j. tt;
-        fit = none-fits (table_of ws []);
-      };
+      widths = w.cells;
+      one = ok-more P lo f N M o.lit.var lN (omega (arith, l)) g.1;
+      lits = λ j. tt;
+      fit = none-fits (table_of ws []);
       net = net_ok-append P h.next o.defs s.defs g.0 q.0;
       rises = omega arith;
+      kept = λ j y. subst (λ (z : ℕ). LitsOk P z (cell_at s.cells j)) l (q.1 j (lits-more P lo f h.next N (cell_at h.cells j) le nN y));
+      set = λ j e. absurd e;
+    }
+
+-- what a call leaves keeps what was held
+pub call-steps : (P : ℕ → ℕ → Type 0) (lo : ℕ) → within.Fits P lo → IsLow P → (ws : List ℕ) (us : List Term) (h : Held) (c : Call) → lo ≤ h.next
+    → Keeps P ws us h → May ws us h c → Handed P h.next c
+    → Steps P ws (terms_after c us) h.next (made_by ws c h).defs (made_by ws c h).held
+call-steps P lo f low ws us h c le k may ha =
+    let held = (made_by ws c h).held in
+    let aside : Aside P ws us h = record { widths = k.widths; inside = low-cells P low h.next h.cells k.cells; one = k.one; lits = k.lits; fit = k.fit } in
+    let at : (j : ℕ) → LitsOk P h.next (cell_at h.cells j) = λ j. all-at P h.next j h.cells k.cells in
+    let x = call-leaves P lo f low ws us h c le aside may ha (λ j i. at j) in
+    record {
+      keeps = record { widths = x.widths; cells = at-all P held.next held.cells (λ j. x.kept j (at j)); one = x.one; lits = x.lits; fit = x.fit };
+      net = x.net;
+      rises = x.rises;
     }
 
 -- what is held says what it means
@@ -265,7 +304,7 @@ blast-says v ws us ts more t h s k is e lt y x =
     let cN = all-more Below 0 fits-zero h.next N h.cells zero-le nN k.cells in
     let hN : (j : ℕ) → LitsOk Below N (lits_of h.done j) = λ j. lits-more Below 0 fits-zero h.next N (lits_of h.done j) zero-le nN (k.lits j) in
     let r = emitted o.lit h.cells ts N h.done (cone_of ts h.done t) in
-    let i = cone-rises Below 0 fits-zero low-below table o.lit h.cells N h.done t (omega arith) b.1 cN hN is k.widths fit lt in
+    let i = cone-rises Below 0 fits-zero low-below table o.lit h.cells N h.done t (omega arith) b.1 cN hN is k.widths fit lt (λ j g c i. all-at Below N c h.cells cN) in
     let p = meets-append v h.next o.defs r.defs x in
     let one : lit_value v o.lit ≡ true = begun-holds v h.next h.one y.one p.0 in
     let m = i.told v one means p.1 in

@@ -92,6 +92,20 @@ all-at P n k [] h = tt
 all-at P n zero (c ∷ cs) h = h.0
 all-at P n (suc k) (c ∷ cs) h = all-at P n k cs h.1
 
+pub at-all : (P : ℕ → ℕ → Type 0) (n : ℕ) (cs : List (List Lit)) → ((k : ℕ) → LitsOk P n (cell_at cs k)) → AllOk P n cs
+at-all P n [] h = tt
+at-all P n (c ∷ cs) h = (h 0, at-all P n cs (λ k. h (suc k)))
+
+-- cells in a row, each by its number
+pub all-range : (P : ℕ → ℕ → Type 0) (n : ℕ) (cs : List (List Lit)) (f m : ℕ) → ((c : ℕ) → f ≤ c → c < f + m → LitsOk P n (cell_at cs c)) → AllOk P n (take m (drop f cs))
+all-range P n cs zero zero h = tt
+all-range P n [] zero (suc m) h = tt
+all-range P n (c ∷ cs) zero (suc m) h =
+    (h 0 (omega arith) (omega arith), all-range P n cs zero m (λ k le lt. h (suc k) (omega (arith, le)) (omega (arith, lt))))
+all-range P n [] (suc f) zero h = tt
+all-range P n [] (suc f) (suc m) h = tt
+all-range P n (c ∷ cs) (suc f) m h = all-range P n cs f m (λ k le lt. h (suc k) (omega (arith, le)) (omega (arith, lt)))
+
 -- what is folded owes the same
 pub folded-owes : (P : ℕ → ℕ → Type 0) (lo : ℕ) → Fits P lo → (one : Lit) (n : ℕ) (m : Made) → lo ≤ n → P n one.var
     → Owes (Inside P n n) n m → Owes P n (folded_made one n m)

@@ -1,9 +1,10 @@
 -- The terms of a cone, emitted in rising order: their scope and their values.
 use Rattle.std.proofs.Common.{◌≡◌, ℕ, ◌+◌, ◌≤◌, ◌<◌, length, List, [], ◌∷◌, ◌++◌, map, arith, ap, sym, ◌∙◌, refl, suc, zero, Bool, true, false, ◌||◌, cond, eqb, subst, inl, inr, slice_index}
 use Rattle.std.proofs.lemmas.List.{length-append}
-use Rattle.std.proofs.lemmas.Bool.{eqb-true}
+use Rattle.std.proofs.lemmas.Bool.{eq-eqb, eqb-true}
 use Rattle.prop.specs.declared.Lit.{Lit}
 use Rattle.prop.specs.Logic.{lit_value, LitsBelow}
+use Rattle.prop.specs.Trues.{listed}
 use Rattle.bit_gates.specs.Net.{Meets, number}
 use Rattle.bit_gates.proofs.Nets.{meets-append}
 use Rattle.bit_gates.proofs.Within as within
@@ -14,12 +15,12 @@ use Rattle.bv_term.specs.Values.{value_in, values_after, values}
 use Rattle.bv_term.proofs.Staying.{widths-keep, values-keep}
 use Rattle.bit_blast.specs.Done.{Known, lits_of, is_done}
 use Rattle.bit_blast.specs.Cone.{falling}
-use Rattle.bit_blast.specs.Emission.{emission, emitted, term_at}
+use Rattle.bit_blast.specs.Emission.{cell_at, emission, emitted, term_at}
 use Rattle.bit_blast.proofs.Ready.{fits-at, term-ready, operand-below}
 use Rattle.bit_blast.proofs.Cones.{is_done-more, lits_of-first, lits_of-last, DoneFit}
-use Rattle.blast_laws.proofs.Turns.{split, with-wants, IsFreshNeed, fresh-wants, turn}
-use Rattle.blast_laws.proofs.Owes.{IsLow, Below, AllOk, all-more}
-use Rattle.blast_laws.proofs.Terms.{term-owes, term-told}
+use Rattle.blast_laws.proofs.Turns.{or-right, split, with-wants, IsFreshNeed, fresh-wants, turn}
+use Rattle.blast_laws.proofs.Owes.{IsLow, Below, fits-zero, AllOk, all-more}
+use Rattle.blast_laws.proofs.Terms.{OwnOk, term-owes, term-told}
 
 -- a term of a table, over the widths and values of the terms before it
 pub record At (cw store allw allv ws vs : List ℕ) (t : Term) (k : ℕ) : Type 0 where
@@ -121,7 +122,7 @@ low-lits : (P : ℕ → ℕ → Type 0) → IsLow P → (n : ℕ) (ls : List Lit
 low-lits P low n [] h = tt
 low-lits P low n (l ∷ ls) h = (low n l.var h.0, low-lits P low n ls h.1)
 
-low-cells : (P : ℕ → ℕ → Type 0) → IsLow P → (n : ℕ) (cs : List (List Lit)) → AllOk P n cs → AllOk Below n cs
+pub low-cells : (P : ℕ → ℕ → Type 0) → IsLow P → (n : ℕ) (cs : List (List Lit)) → AllOk P n cs → AllOk Below n cs
 low-cells P low n [] h = tt
 low-cells P low n (c ∷ cs) h = (low-ok n c h.0, low-cells P low n cs h.1)
   where
@@ -129,24 +130,30 @@ low-cells P low n (c ∷ cs) h = (low-ok n c h.0, low-cells P low n cs h.1)
     low-ok n [] h = tt
     low-ok n (l ∷ ls) h = (low n l.var h.0, low-ok n ls h.1)
 
+-- each cell that one of these terms reads may be spoken of
+abbrev pub ConeOk : (ℕ → ℕ → Type 0) → ℕ → List (List Lit) → List Term → List ℕ → Type 0
+ConeOk P n cells ts ks = (j : ℕ) → listed ks j ≡ true → OwnOk P n cells (term_at ts j)
+
 pub rises : (P : ℕ → ℕ → Type 0) (lo : ℕ) → within.Fits P lo → IsLow P → (table : Table) (one : Lit) (cells : List (List Lit)) (n : ℕ) (done : List Known)
-    → lo ≤ n → P n one.var → AllOk P n cells → ((j : ℕ) → LitsOk P n (lits_of done j))
+    → lo ≤ n → P n one.var → AllOk Below n cells → ((j : ℕ) → LitsOk P n (lits_of done j))
     → IsTable table → map length cells ≡ table.cells → DoneFit table done
     → (k : ℕ) (need : ℕ → Bool) → k ≤ length table.terms → IsFreshNeed (is_done done) need
+    → ConeOk P n cells table.terms (falling table.terms (is_done done) k need)
     → Rises P table one cells n done (falling table.terms (is_done done) k need)
-rises P lo f low table one cells n done ln o hc hl h e d zero need le fresh = record {
+rises P lo f low table one cells n done ln o hc hl h e d zero need le fresh own = record {
   net = tt;
   lits = λ j. lits-more P lo f n (n + 0) (lits_of done j) ln (omega arith) (hl j);
   told = λ v y m x. m;
 }
-rises P lo f low table one cells n done ln o hc hl h e d (suc k) need le fresh =
+rises P lo f low table one cells n done ln o hc hl h e d (suc k) need le fresh own =
     let ts = table.terms in
     let D = is_done done in
     let up = falling ts D k (with-wants ts D k need) in
     let down = falling ts D k need in
-    chosen {A = List ℕ} (need k) (k ∷ up) down (Rises P table one cells n done)
-    (λ y.
-    let i = rises P lo f low table one cells n done ln o hc hl h e d k (with-wants ts D k need) (omega (arith, le)) (fresh-wants ts D k need fresh) in
+    chosen {A = List ℕ} (need k) (k ∷ up) down (λ ks. ConeOk P n cells ts ks → Rises P table one cells n done ks)
+    (λ y own.
+    let i = rises P lo f low table one cells n done ln o hc hl h e d k (with-wants ts D k need) (omega (arith, le)) (fresh-wants ts D k need fresh)
+    (λ j g. own j (or-right (eqb k j) (listed up j) g)) in
     let r = emitted one cells ts n done up in
     let N = n + length r.defs in
     let t = term_at ts k in
@@ -158,8 +165,9 @@ rises P lo f low table one cells n done ln o hc hl h e d (suc k) need le fresh =
     let nN : n ≤ N = omega arith in
     let lN : lo ≤ N = omega (arith, ln) in
     let oN : P N one.var = ok-more P lo f n N one.var ln nN o in
-    let cN : AllOk P N cells = all-more P lo f n N cells ln nN hc in
-    let ow = term-owes P lo f low one cells (lits_of r.done) N t lN oN cN i.lits q.0 in
+    let cN : AllOk Below N cells = all-more Below 0 fits-zero n N cells (omega arith) nN hc in
+    let mine : OwnOk P N cells t = λ c g. lits-more P lo f n N (cell_at cells c) ln nN (own k (ap (λ b. b || listed up k) (eq-eqb k k refl)) c g) in
+    let ow = term-owes P lo f low one cells (lits_of r.done) N t lN oN mine i.lits q.0 in
     let l : N + length m.defs ≡ n + length (r.defs ++ m.defs) = omega (arith, length-append r.defs m.defs) in
     let M = n + length (r.defs ++ m.defs) in
     record {
@@ -177,7 +185,7 @@ rises P lo f low table one cells n done ln o hc hl h e d (suc k) need le fresh =
           (record {
             holds = ho;
             below = low N one.var oN;
-            inside = low-cells P low N cells cN;
+            inside = cN;
             lits = λ j. low-lits P low N (lits_of r.done j) (i.lits j);
             sizes = w.sizes;
             long = e;
@@ -187,4 +195,5 @@ rises P lo f low table one cells n done ln o hc hl h e d (suc k) need le fresh =
           }) p.1 in
           means-more v table cells r.done k m.outs mr u.fresh (spelled ∙ sym at.value);
     })
-    (λ y. rises P lo f low table one cells n done ln o hc hl h e d k need (omega (arith, le)) fresh)
+    (λ y own. rises P lo f low table one cells n done ln o hc hl h e d k need (omega (arith, le)) fresh own)
+    own

@@ -116,7 +116,7 @@ ok-cells : (n : ℕ) (cs : List (List Lit)) → AllOk Below n cs → CellsBelow 
 ok-cells n [] h = tt
 ok-cells n (c ∷ cs) h = (below_ok n c h.0, ok-cells n cs h.1)
 
-start-keeps : (ws : List ℕ) (h : Held) → IsStart ws h → Keeps Below ws [] h
+pub start-keeps : (ws : List ℕ) (h : Held) → IsStart ws h → Keeps Below ws [] h
 start-keeps ws h s = record {
   widths = s.widths;
   cells = cells-ok h.next h.cells s.below;

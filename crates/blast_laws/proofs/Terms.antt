@@ -27,7 +27,8 @@ use Rattle.bit_blast.specs.Gates.{add_word, subtract_word, divide_word, remainde
 use Rattle.bit_blast.specs.Emission.{cell_at, no_cell, element_of, emission, AreWords, IsReady}
 use Rattle.bit_blast.proofs.Ready.{Operands, words-alike, array-cells}
 use Rattle.blast_laws.proofs.Words.{numeral-number, take-number, standing-number, number-one}
-use Rattle.blast_laws.proofs.Owes.{IsLow, Owes, Below, AllOk, all-more, all-take, all-drop, all-at, folded-owes, inside, inside-one, inside-all, lits-numeral, lits-copies, lits-negated, lit-standing, add-owes, subtract-owes, multiply-owes, divide-owes, remainder-owes, ands-owes, xors-owes, or-owes, shift-owes, equal-owes, less-owes, selected-owes, decoded-owes, picked-owes, extended-owes, lits-take, lit-top}
+use Rattle.blast_laws.specs.Reading.{IsOwn}
+use Rattle.blast_laws.proofs.Owes.{IsLow, Owes, Below, AllOk, all-more, all-take, all-drop, all-at, all-range, folded-owes, inside, inside-one, inside-all, lits-numeral, lits-copies, lits-negated, lit-standing, add-owes, subtract-owes, multiply-owes, divide-owes, remainder-owes, ands-owes, xors-owes, or-owes, shift-owes, equal-owes, less-owes, selected-owes, decoded-owes, picked-owes, extended-owes, lits-take, lit-top}
 use Rattle.blast_laws.proofs.Operations.{sum-told, difference-told, product-told, quotient-told, remainder-told, ands-told, ors-told, xors-told, nots-told, left-told, right-told, signed-told, equal-told, less-told, less_signed-told, choice-told, zeros-told, signs-told}
 use Rattle.blast_laws.proofs.Elements.{element-told}
 use Rattle.blast_laws.proofs.Stores.{cell-spelled, cell-range}
@@ -63,13 +64,17 @@ element-owes P lo f low one n cs index None le o hc hi =
     let l : k + length p.defs ≡ n + length (d.defs ++ p.defs) = omega (arith, length-append d.defs p.defs) in
     (net_ok-append P n d.defs p.defs i.0 j.0, subst (λ (t : ℕ). LitsOk P t p.outs) l j.1)
 
--- what a term adds speaks of the constant, cells and operands
+-- each cell that a term reads by itself may be spoken of
+abbrev pub OwnOk : (ℕ → ℕ → Type 0) → ℕ → List (List Lit) → Term → Type 0
+OwnOk P n cells t = (c : ℕ) → IsOwn t c → LitsOk P n (cell_at cells c)
+
+-- what a term adds speaks of the constant, its own cells and its operands
 pub term-owes : (P : ℕ → ℕ → Type 0) (lo : ℕ) → within.Fits P lo → IsLow P → (one : Lit) (cells : List (List Lit)) (ls : ℕ → List Lit) (n : ℕ) (t : Term) → lo ≤ n
-    → P n one.var → AllOk P n cells → ((i : ℕ) → LitsOk P n (ls i)) → IsReady cells ls t → Owes P n (emission one cells ls n t)
+    → P n one.var → OwnOk P n cells t → ((i : ℕ) → LitsOk P n (ls i)) → IsReady cells ls t → Owes P n (emission one cells ls n t)
 term-owes P lo f low one cells ls n (Constant w v) le o hc hl q = given-owes P lo f n (numeral_of one w v) le (lits-numeral P n one w v o)
-term-owes P lo f low one cells ls n (Cell c) le o hc hl q = given-owes P lo f n (cell_at cells c) le (all-at P n c cells hc)
+term-owes P lo f low one cells ls n (Cell c) le o hc hl q = given-owes P lo f n (cell_at cells c) le (hc c refl)
 term-owes P lo f low one cells ls n (Element b m i) le o hc hl q =
-    element-owes P lo f low one n (take m (drop b cells)) (ls i.0) (spelled_of one (ls i.0)) le o (all-take P n m (drop b cells) (all-drop P n b cells hc)) (hl i.0)
+    element-owes P lo f low one n (take m (drop b cells)) (ls i.0) (spelled_of one (ls i.0)) le o (all-range P n cells b m (λ c least most. hc c (least, most))) (hl i.0)
 term-owes P lo f low one cells ls n (Add i j) le o hc hl q =
     both-owe P lo f low one n (ls i.0) (ls j.0) (add_word one n (ls i.0) (ls j.0)) le o (hl i.0) (hl j.0)
     (λ a b. add-owes (Inside P n n) n (fits_inside P n n) one n (ls i.0) (ls j.0) (omega arith) (inside-one P low n one o) a b)

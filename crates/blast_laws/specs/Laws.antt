@@ -1,16 +1,18 @@
 -- What lists of calls say, what they speak of, and how much they add.
-use Rattle.std.specs.Prelude.{ℕ, ◌≡◌, ◌≤◌, ◌<◌, ◌+◌, Bool, true, List, [], ◌∷◌, ◌++◌, length, take, drop, All, ◌↔◌, slice_index}
+use Rattle.std.specs.Prelude.{ℕ, ◌≡◌, ◌≤◌, ◌<◌, ◌+◌, Bool, true, List, [], ◌∷◌, ◌++◌, length, take, drop, All, ◌↔◌, ◌⊎◌, slice_index}
 use Rattle.prop.specs.declared.Lit.{Lit}
 use Rattle.prop.specs.Logic.{all_hold, count, lit_value}
 use Rattle.bit_gates.specs.Net.{net_clauses, number}
-use Rattle.bit_gates.specs.Laws.{ClausesIn, From}
+use Rattle.bit_gates.specs.Laws.{AllIn, ClausesIn, From}
 use Rattle.bit_words.specs.Elements.{AllLong}
 use Rattle.bv_term.specs.WellFormed.{Table, IsTable, IsWidth}
 use Rattle.bv_term.specs.declared.term.TermId.{TermId}
 use Rattle.bv_term.specs.Values.{IsStore, Holds, values}
 use Rattle.bit_blast.specs.Cone.{cone_of}
+use Rattle.bit_blast.specs.Emission.{cell_at}
 use Rattle.bit_blast.specs.Held.{Held, blast_of, store_of, new_of, renew_of, above_all, IsOver}
 use Rattle.blast_laws.specs.Calls.{Call, Renew, AllMay, held_after, clauses_by, IsOpen, spelled_store, Told, IsStart, CellsIn, HandedIn, OutsIn}
+use Rattle.blast_laws.specs.Reading.{IsRead, IsSet}
 use Rattle.blast_laws.specs.Bounds.{bounds_of, store_bound, constant_bound}
 
 -- the clauses of calls have exactly the solutions that they are to have
@@ -55,6 +57,15 @@ CallsScope =
     (ws : List ℕ) (h : Held) (cs : List Call) (p : ℕ → Bool) → IsStart ws h → AllMay ws [] h cs
     → CellsIn p h.cells → HandedIn p cs → From p h.next (held_after ws h cs).next
     → ClausesIn p (clauses_by ws h cs) × OutsIn p ws h cs × CellsIn p (held_after ws h cs).cells
+
+-- The same where the test holds at those cells alone that a call reads before any call sets them. After the calls it holds
+-- at each cell at which it held at the beginning, and at each that a call set.
+abbrev pub ReadsScope : Type 0
+ReadsScope =
+    (ws : List ℕ) (h : Held) (cs : List Call) (p : ℕ → Bool) → IsStart ws h → AllMay ws [] h cs
+    → ((c : ℕ) → IsRead ws h cs c → AllIn p (cell_at h.cells c)) → HandedIn p cs → From p h.next (held_after ws h cs).next
+    → ClausesIn p (clauses_by ws h cs) × OutsIn p ws h cs
+    × ((c : ℕ) → AllIn p (cell_at h.cells c) ⊎ IsSet cs c → AllIn p (cell_at (held_after ws h cs).cells c))
 
 -- a literal that spells the value of a term of width 1 is true exactly where the term holds
 abbrev pub TruthsRead : Type 0

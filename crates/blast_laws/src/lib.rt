@@ -6,7 +6,7 @@
 //! caller cites what it ensures.
 #![tactic(auto)]
 
-ghost use Rattle.blast_laws.specs.Laws.{CallsExact, CallsScope, NewStarts, RenewStarts, StoresSmall, StoresSpelled, TermsSmall, TruthsRead};
+ghost use Rattle.blast_laws.specs.Laws.{CallsExact, CallsScope, NewStarts, ReadsScope, RenewStarts, StoresSmall, StoresSpelled, TermsSmall, TruthsRead};
 
 /// Over any list of calls from the beginning of a step on, whatever values the variables have that were there before or
 /// that `fresh` made, the others can be chosen so that the clauses of the calls hold. And wherever these hold, the literals
@@ -40,6 +40,14 @@ pub fn truths_read()
 /// beginning of the step, of the literals that calls were handed, and of variables that were made since; of no others.
 pub fn calls_scope()
     ensures { CallsScope }
+{}
+
+/// The clauses of calls, and the literals that they answer, speak of no other variables than those of the literals that calls
+/// were handed, those made since, and those of the cells that some call reads before any call sets them: the cells that
+/// nothing reads stay out. A cell's literals after the calls are those of the cell at the beginning, or of what was handed, or
+/// made since.
+pub fn reads_scope()
+    ensures { ReadsScope }
 {}
 
 /// The literals that `blast` and `blast_all` add are at most the sum of the bounds of the terms that are done by it, each

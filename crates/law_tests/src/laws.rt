@@ -241,3 +241,29 @@ fn formulas_of_cuts() {
     interpolants::laws::first_is_true();
     interpolants::laws::last_is_false();
 }
+
+#[test]
+fn clauses_of_blasting() {
+    blast_laws::calls_exact();
+    blast_laws::new_starts();
+    blast_laws::renew_starts();
+    blast_laws::stores_spelled();
+    blast_laws::truths_read();
+    blast_laws::calls_scope();
+    blast_laws::reads_scope();
+    blast_laws::terms_small();
+    blast_laws::stores_small();
+}
+
+#[test]
+fn clauses_of_paths() {
+    path_laws::questions_are_steps();
+    path_laws::steps_lie_between();
+    path_laws::shared_in_cuts();
+    path_laws::edges_meet_steps();
+    path_laws::steps_take_edges();
+    path_laws::runs_meet_questions();
+    path_laws::questions_make_runs();
+    path_laws::draws_are_read();
+    path_laws::numbers_are_bits();
+}

@@ -107,7 +107,7 @@ pub has_cells : (xs ks : List ℕ) (c : ℕ) → Has xs c → Has (with_cells xs
 has_cells xs [] c h = h
 has_cells xs (k ∷ ks) c h = has_cells (insert_key nat_cmp xs k) ks c (has_old xs k c h)
 
-has_own : (xs : List ℕ) (first n k : ℕ) → k < n → Has (with_cells xs (cells_from first n)) (first + k)
+pub has_own : (xs : List ℕ) (first n k : ℕ) → k < n → Has (with_cells xs (cells_from first n)) (first + k)
 has_own xs first zero k lt = absurd (omega (arith, lt))
 has_own xs first (suc n) zero lt =
     let e : first ≡ first + 0 = omega arith in
@@ -118,7 +118,7 @@ has_own xs first (suc n) (suc k) lt =
     subst (λ (c : ℕ). Has (with_cells (insert_key nat_cmp xs first) (cells_from (first + 1) n)) c) e
     (has_own (insert_key nat_cmp xs first) (first + 1) n k (omega (arith, lt)))
 
-has_terms : (ts : List Term) (xs ks : List ℕ) (c : ℕ) → Has xs c → Has (with_terms ts xs ks) c
+pub has_terms : (ts : List Term) (xs ks : List ℕ) (c : ℕ) → Has xs c → Has (with_terms ts xs ks) c
 has_terms ts xs [] c h = h
 has_terms ts xs (k ∷ ks) c h =
     let s = span_of (term_at ts k) in

@@ -25,10 +25,12 @@ use Rattle.path_formula.specs.Reads.{with_read}
 use Rattle.path_formula.specs.Needs.{gives, kept_of, needed_by_all, operations_at}
 use Rattle.path_formula.specs.Added.{Added, added, added_all, added_if, joined}
 use Rattle.obligations.specs.Stated.{AreRefuted, edge_says, from_of, stated, to_of}
+use Rattle.obligation_laws.specs.Draws.{AreDrawn}
 use Rattle.obligation_laws.specs.Laws.{HoldsOn}
 use Rattle.obligation_laws.proofs.Alike.{AgreeOn, read_alike}
 use Rattle.obligation_laws.proofs.Following.{follows, leaves}
 use Rattle.obligation_laws.proofs.Going.{Goes, Reach, stands_both, goes_nowhere, goes_on, holds_goes, fails_goes, set_goes, store_goes, draw_goes, renew_goes}
+use Rattle.obligation_laws.proofs.Drawing.{draws_low, drawn_agrees, drawn_both, drew}
 use Rattle.obligation_laws.proofs.Nodes.{formula, formula_wide, holds_at, to_store}
 
 below_power : (w : ℕ) (z : ℤ) → modulo w z < 2 ^ w
@@ -67,16 +69,17 @@ op_goes table (Draw c signed) h v s (z ∷ zs) m is f r e = by (in_range_of (sli
     by false e = absurd cc
 
 -- what was added is carried on over, to a store that agrees with the one behind the edge on what is needed
-pub record Walked (table : Table) (later : List ℕ) (h : Held) (v : ℕ → Bool) (more : Added) (after : List ℕ) : Type 0 where
+pub record Walked (table : Table) (later : List ℕ) (h : Held) (v : ℕ → Bool) (more : Added) (inputs : List ℤ) (after : List ℕ) : Type 0 where
   pub store : List ℕ
   pub goes : Goes table h v more.clauses more.held store
   pub agrees : AgreeOn later store after
+  pub drawn : AreDrawn table.cells goes.w more.draws inputs
 
-abbrev Leading : Table → List ℕ → List Operation → List ℕ → Type 0
+abbrev pub Leading : Table → List ℕ → List Operation → List ℕ → Type 0
 Leading table later ops after =
     (h : Held) (v : ℕ → Bool) (s c : List ℕ) (inputs : List ℤ) → Reach table h v s → length s ≡ length c → AgreeOn (needed_by_all table later ops) s c
     → operated_all table ops (Some (moment c inputs)) ≡ Some (moment after [])
-    → Walked table later h v (added_all table h ops (kept_of table later ops)) after
+    → Walked table later h v (added_all table h ops (kept_of table later ops)) inputs after
 
 abbrev then_all : Table → List ℕ → List Operation → Added → Added
 then_all table later os m = joined m (added_all table m.held os (kept_of table later os))
@@ -85,32 +88,49 @@ walk_one : (table : Table) (later : List ℕ) (o : Operation) (os : List Operati
     → (h : Held) (v : ℕ → Bool) (s c : List ℕ) (inputs : List ℤ) → Reach table h v s → length s ≡ length c → AgreeOn (needed_by_all table later (o ∷ os)) s c
     → (m : Moment) → operated table o (moment c inputs) ≡ Some m → operated_all table os (Some m) ≡ Some (moment after [])
     → (b : Bool) → b ≡ gives (needed_by_all table later os) o
-    → Walked table later h v (then_all table later os (added_if b table h o)) after
+    → Walked table later h v (then_all table later os (added_if b table h o)) inputs after
+unfolding goes_on
 walk_one table later o os after is f rest h v s c inputs r l a m q e true g =
     let N = needed_by_all table later os in
     let F = follows table N o s c inputs m is f l a (sym g) q in
     let G = op_goes table o h v s inputs (moment F.store m.inputs) is f r F.goes in
+    let D = drew table o h v G.w s inputs (moment F.store m.inputs) f r F.goes G.reach in
     let k = added table h o in
     let W = rest k.held G.w F.store m.store m.inputs G.reach F.long F.agrees e in
     let d = added_all table k.held os (kept_of table later os) in
-    record { store = W.store; goes = goes_on table table h k.held d.held v k.clauses d.clauses F.store W.store G W.goes; agrees = W.agrees }
+    let first = drawn_agrees table.cells k.held.next G.w W.goes.w k.draws D.used (draws_low table o h) W.goes.agree D.drawn in
+    record {
+      store = W.store;
+      goes = goes_on table table h k.held d.held v k.clauses d.clauses F.store W.store G W.goes;
+      agrees = W.agrees;
+      drawn = subst (AreDrawn table.cells W.goes.w (k.draws ++ d.draws)) (sym D.split)
+          (drawn_both table.cells W.goes.w k.draws d.draws D.used m.inputs first W.drawn);
+    }
 walk_one table later o os after is f rest h v s c inputs r l a m q e false g =
     let L = leaves table (needed_by_all table later os) o s c inputs m l a (sym g) q in
     let W = rest h v s m.store m.inputs r L.long L.agrees e in
-    record { store = W.store; goes = W.goes; agrees = W.agrees }
+    let d = added_all table h os (kept_of table later os) in
+    record { store = W.store; goes = W.goes; agrees = W.agrees; drawn = subst (AreDrawn table.cells W.goes.w d.draws) L.drawn W.drawn }
 
 walk_next : (table : Table) (later : List ℕ) (o : Operation) (os : List Operation) (after : List ℕ) → IsTable table → OperationFits table o → Leading table later os after
     → Leading table later (o ∷ os) after
 walk_next table later o os after is f rest h v s c inputs r l a e = by (operated table o (moment c inputs)) refl e
   where
     by : (x : Option Moment) → operated table o (moment c inputs) ≡ x → operated_all table os x ≡ Some (moment after [])
-        → Walked table later h v (added_all table h (o ∷ os) (kept_of table later (o ∷ os))) after
+        → Walked table later h v (added_all table h (o ∷ os) (kept_of table later (o ∷ os))) inputs after
     by None q e = absurd cc
     by (Some m) q e = walk_one table later o os after is f rest h v s c inputs r l a m q e (gives (needed_by_all table later os) o) refl
 
-walk : (table : Table) (later : List ℕ) (ops : List Operation) (after : List ℕ) → IsTable table → All (OperationFits table) ops → Leading table later ops after
+pub walk : (table : Table) (later : List ℕ) (ops : List Operation) (after : List ℕ) → IsTable table → All (OperationFits table) ops → Leading table later ops after
 walk table later [] after is f h v s c inputs r l a e =
-    record { store = s; goes = goes_nowhere table h v s r; agrees = λ d x. a d x ∙ ap (λ (m : Moment). slice_index m.store d) (moment_is (moment c inputs) (moment after []) e) }
+    let i = moment_is (moment c inputs) (moment after []) e in
+    let goes = goes_nowhere table h v s r in
+    record {
+      store = s;
+      goes = goes;
+      agrees = λ d x. a d x ∙ ap (λ (m : Moment). slice_index m.store d) i;
+      drawn = subst (AreDrawn table.cells goes.w []) (sym (ap (λ (m : Moment). m.inputs) i)) tt;
+    }
 walk table later (o ∷ os) after is f h v s c inputs r l a e =
     walk_next table later o os after is (All-head (OperationFits table) o os f) (walk table later os after is (All-tail (OperationFits table) o os f)) h v s c inputs r l a e
 

@@ -22,12 +22,14 @@ use Rattle.path_formula.specs.Reads.{with_read}
 use Rattle.path_formula.specs.Needs.{gives, kept_of, needed_by_all, operations_at}
 use Rattle.path_formula.specs.Added.{Added, added, added_all, added_if, joined}
 use Rattle.obligations.specs.Stated.{AreRefuted, from_of, stated, to_of}
+use Rattle.obligation_laws.specs.Draws.{AreDrawn}
 use Rattle.obligation_laws.specs.Laws.{EdgeExact}
 use Rattle.obligation_laws.proofs.Alike.{AgreeOn, read_alike}
 use Rattle.obligation_laws.proofs.Following.{follows, leaves}
 use Rattle.blast_laws.proofs.Spelling.{single}
 use Rattle.obligation_laws.proofs.Blasted.{blasted}
 use Rattle.obligation_laws.proofs.Going.{Reach, renew_goes}
+use Rattle.obligation_laws.proofs.Drawing.{drawn_both, drew}
 use Rattle.obligation_laws.proofs.Running.{both, runs, seen}
 use Rattle.obligation_laws.proofs.Nodes.{formula, formula_wide, from_store, holds_at, unit_held}
 use Rattle.obligation_laws.proofs.Edges.{begins, edge_at, edge_of, edge_sound, got_there}
@@ -45,45 +47,55 @@ KeptRun table later (o ∷ os) s draws t =
     ((m : Moment) × (operated table o (moment s draws) ≡ Some m) × KeptRun table later os m.store m.inputs t)
     (KeptRun table later os s draws t)
 
-pub record Kept (table : Table) (later : List ℕ) (ops : List Operation) (u : ℕ → Bool) (s : List ℕ) (h : Held) : Type 0 where
+pub record Kept (table : Table) (later : List ℕ) (ops : List Operation) (u : ℕ → Bool) (s : List ℕ) (m : Added) : Type 0 where
   pub draws : List ℤ
   pub store : List ℕ
   pub run : KeptRun table later ops s draws store
-  pub reach : Reach table h u store
+  pub reach : Reach table m.held u store
+  pub drawn : AreDrawn table.cells u m.draws draws
 
-abbrev Keeping : Table → List ℕ → List Operation → (ℕ → Bool) → Type 0
+abbrev pub Keeping : Table → List ℕ → List Operation → (ℕ → Bool) → Type 0
 Keeping table later ops u =
     (h : Held) (s : List ℕ) → Reach table h u s → all_hold u (added_all table h ops (kept_of table later ops)).clauses ≡ true
-    → Kept table later ops u s (added_all table h ops (kept_of table later ops)).held
+    → Kept table later ops u s (added_all table h ops (kept_of table later ops))
 
 abbrev then_all : Table → List ℕ → List Operation → Added → Added
 then_all table later os m = joined m (added_all table m.held os (kept_of table later os))
 
-record KeptOne (b : Bool) (table : Table) (later : List ℕ) (o : Operation) (os : List Operation) (u : ℕ → Bool) (s : List ℕ) (h : Held) : Type 0 where
+record KeptOne (b : Bool) (table : Table) (later : List ℕ) (o : Operation) (os : List Operation) (u : ℕ → Bool) (s : List ℕ) (k : Added) : Type 0 where
   draws : List ℤ
   store : List ℕ
   run : Chosen b ((m : Moment) × (operated table o (moment s draws) ≡ Some m) × KeptRun table later os m.store m.inputs store) (KeptRun table later os s draws store)
-  reach : Reach table h u store
+  reach : Reach table k.held u store
+  drawn : AreDrawn table.cells u k.draws draws
 
 kept_one : (table : Table) (later : List ℕ) (o : Operation) (os : List Operation) (u : ℕ → Bool) → IsTable table → OperationFits table o → Keeping table later os u
     → (h : Held) (s : List ℕ) → Reach table h u s → (b : Bool) → all_hold u (then_all table later os (added_if b table h o)).clauses ≡ true
-    → KeptOne b table later o os u s (then_all table later os (added_if b table h o)).held
+    → KeptOne b table later o os u s (then_all table later os (added_if b table h o))
 kept_one table later o os u is f rest h s r true held =
     let k = added table h o in
-    let p = both u k.clauses (added_all table k.held os (kept_of table later os)).clauses held in
+    let d = added_all table k.held os (kept_of table later os) in
+    let p = both u k.clauses d.clauses held in
     let R = runs table o h u s is f r p.0 in
     let W = rest k.held R.store R.reach p.1 in
-    record { draws = R.draws ++ W.draws; store = W.store; run = (moment R.store W.draws, R.goes W.draws, W.run); reach = W.reach }
+    let D = drew table o h u u s (R.draws ++ W.draws) (moment R.store W.draws) f r (R.goes W.draws) R.reach in
+    record {
+      draws = R.draws ++ W.draws;
+      store = W.store;
+      run = (moment R.store W.draws, R.goes W.draws, W.run);
+      reach = W.reach;
+      drawn = subst (AreDrawn table.cells u (k.draws ++ d.draws)) (sym D.split) (drawn_both table.cells u k.draws d.draws D.used W.draws D.drawn W.drawn);
+    }
 kept_one table later o os u is f rest h s r false held =
     let W = rest h s r held in
-    record { draws = W.draws; store = W.store; run = W.run; reach = W.reach }
+    record { draws = W.draws; store = W.store; run = W.run; reach = W.reach; drawn = W.drawn }
 
-kept_runs : (table : Table) (later : List ℕ) (ops : List Operation) (u : ℕ → Bool) → IsTable table → All (OperationFits table) ops → Keeping table later ops u
-kept_runs table later [] u is f h s r held = record { draws = []; store = s; run = (refl, refl); reach = r }
+pub kept_runs : (table : Table) (later : List ℕ) (ops : List Operation) (u : ℕ → Bool) → IsTable table → All (OperationFits table) ops → Keeping table later ops u
+kept_runs table later [] u is f h s r held = record { draws = []; store = s; run = (refl, refl); reach = r; drawn = tt }
 kept_runs table later (o ∷ os) u is f h s r held =
     let K = kept_one table later o os u is (All-head (OperationFits table) o os f) (kept_runs table later os u is (All-tail (OperationFits table) o os f)) h s r
     (gives (needed_by_all table later os) o) held in
-    record { draws = K.draws; store = K.store; run = K.run; reach = K.reach }
+    record { draws = K.draws; store = K.store; run = K.run; reach = K.reach; drawn = K.drawn }
 
 -- an operation that gives nothing that is needed goes on in any store
 goes_anyway : (table : Table) (later : List ℕ) (o : Operation) (c : List ℕ) (draws : List ℤ) → gives later o ≡ false
@@ -99,7 +111,7 @@ pub record Whole (table : Table) (later : List ℕ) (ops : List Operation) (c : 
   pub leads : operated_all table ops (Some (moment c draws)) ≡ Some (moment after [])
   pub agrees : AgreeOn later t after
 
-abbrev Completing : Table → List ℕ → List Operation → List ℕ → Type 0
+abbrev pub Completing : Table → List ℕ → List Operation → List ℕ → Type 0
 Completing table later ops t =
     (s c : List ℕ) (draws : List ℤ) → length s ≡ length c → AgreeOn (needed_by_all table later ops) s c → KeptRun table later ops s draws t → Whole table later ops c draws t
 
@@ -119,7 +131,7 @@ whole_one table later o os t is f rest s c draws l a false g run =
     let W = rest s x.0 draws L.long L.agrees run in
     record { after = W.after; leads = ap (operated_all table os) x.1 ∙ W.leads; agrees = W.agrees }
 
-whole_runs : (table : Table) (later : List ℕ) (ops : List Operation) (t : List ℕ) → IsTable table → All (OperationFits table) ops → Completing table later ops t
+pub whole_runs : (table : Table) (later : List ℕ) (ops : List Operation) (t : List ℕ) → IsTable table → All (OperationFits table) ops → Completing table later ops t
 whole_runs table later [] t is f s c draws l a run =
     record { after = c; leads = ap (λ (d : List ℤ). Some (moment c d)) run.1; agrees = subst (λ (x : List ℕ). AgreeOn later x c) run.0 a }
 whole_runs table later (o ∷ os) t is f s c draws l a run =

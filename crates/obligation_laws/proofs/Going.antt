@@ -30,7 +30,7 @@ use Rattle.obligations.specs.Stated.{stated}
 use Rattle.blast_laws.proofs.Spelling.{lit_agrees, number_agrees, store_agrees, single}
 use Rattle.obligation_laws.proofs.Nodes.{unit_holds}
 
-agree_on : (n m : ℕ) (v w u : ℕ → Bool) → Agree n v w → n ≤ m → Agree m w u → Agree n v u
+pub agree_on : (n m : ℕ) (v w u : ℕ → Bool) → Agree n v w → n ≤ m → Agree m w u → Agree n v u
 agree_on n m v w u a le b k lt = b k (omega (arith, lt, le)) ∙ a k lt
 
 meets_agree : (n : ℕ) (ds : List Def) (v w : ℕ → Bool) → Grounded n ds → Agree (n + length ds) v w → Meets v n ds → Meets w n ds
@@ -121,7 +121,7 @@ stands_both n m w u cs ds le a f g x b =
     all_hold-append x cs ds ∙ (ap (λ (t : Bool). t && all_hold x ds) (f x (agree_on n m w u x a le b)) ∙ g x b)
 
 -- from one table's step to another's
-pub goes_on : (table next : Table) (h h2 h3 : Held) (v : ℕ → Bool) (cs ds : List (List Lit)) (s s3 : List ℕ) (g : Goes table h v cs h2 s)
+unfoldable pub goes_on : (table next : Table) (h h2 h3 : Held) (v : ℕ → Bool) (cs ds : List (List Lit)) (s s3 : List ℕ) (g : Goes table h v cs h2 s)
     → Goes next h2 g.w ds h3 s3 → Goes next h v (cs ++ ds) h3 s3
 goes_on table next h h2 h3 v cs ds s s3 g f = record {
   w = f.w;

@@ -3,6 +3,7 @@ pub mod Following
 pub mod Blasted
 pub mod Nodes
 pub mod Going
+pub mod Drawing
 pub mod Edges
 pub mod Running
 pub mod Exact
