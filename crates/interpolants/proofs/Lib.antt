@@ -5,6 +5,7 @@ pub mod Marking
 pub mod Bits
 pub mod Settling
 pub mod Agreeing
+pub mod Rows
 pub mod Walking
 pub mod Ending
 pub mod Truths

@@ -2,6 +2,7 @@ pub mod Cuts
 pub mod Memos
 pub mod Keeping
 pub mod Merging
+pub mod Placings
 pub mod Meanings
 pub mod Rules
 pub mod Sources
