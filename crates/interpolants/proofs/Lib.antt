@@ -6,6 +6,8 @@ pub mod Bits
 pub mod Settling
 pub mod Agreeing
 pub mod Rows
+pub mod Alike
+pub mod Meant
 pub mod Walking
 pub mod Ending
 pub mod Truths

@@ -8,4 +8,5 @@ pub mod Rules
 pub mod Sources
 pub mod Walks
 pub mod Knowing
+pub mod CutMeanings
 pub mod Laws
