@@ -8,6 +8,7 @@ pub mod Agreeing
 pub mod Rows
 pub mod Alike
 pub mod Meant
+pub mod Along
 pub mod Walking
 pub mod Ending
 pub mod Truths
