@@ -12,17 +12,10 @@ use Rattle.resolution_log.specs.Codes.{vars_of, all_vars}
 use Rattle.resolution_log.proofs.Results.{then_parts, step_parts, results_parts}
 use Rattle.interpolants.specs.Rules.{is_behind, some_holds, leaves, joined, steps_truth, chain_truth, truths_after, truths, last_of}
 use Rattle.interpolants.specs.Laws.{Between, StepsLead, CutsLead, FirstIsTrue, LastIsFalse}
+use Rattle.interpolants.proofs.Alike.{listed-left, listed-right}
 use Rattle.interpolants.proofs.Leading.{AllLead, lead-get, lead-last, lead-leaves, lead-log}
 
 -- which variables occur behind a cut
-listed-left : (xs ys : List ℕ) (x : ℕ) → listed xs x ≡ true → listed (xs ++ ys) x ≡ true
-listed-left [] ys x h = absurd cc
-listed-left (y ∷ xs) ys x h = elim (or_cases (nat_eq y x) (listed xs x) h) [ inl a ↦ or_left _ _ a | inr b ↦ or_right _ _ (listed-left xs ys x b) ]
-
-listed-right : (xs ys : List ℕ) (x : ℕ) → listed ys x ≡ true → listed (xs ++ ys) x ≡ true
-listed-right [] ys x h = h
-listed-right (y ∷ xs) ys x h = or_right _ _ (listed-right xs ys x h)
-
 listed-has : (c : List Lit) (l : Lit) → Has c l → listed (vars_of c) l.var ≡ true
 listed-has [] l h = absurd cc
 listed-has (m ∷ c) l h =

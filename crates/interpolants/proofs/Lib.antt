@@ -5,6 +5,10 @@ pub mod Marking
 pub mod Bits
 pub mod Settling
 pub mod Agreeing
+pub mod Rows
+pub mod Alike
+pub mod Meant
+pub mod Along
 pub mod Walking
 pub mod Ending
 pub mod Truths

@@ -17,7 +17,7 @@ get-left [] ys k a h = absurd cc
 get-left (x ∷ xs) ys zero a h = h
 get-left (x ∷ xs) ys (suc k) a h = get-left xs ys k a h
 
-get-end : {A : Type 0} (xs : List A) (x : A) → slice_get (xs ++ x ∷ []) (length xs) ≡ Some x
+pub get-end : {A : Type 0} (xs : List A) (x : A) → slice_get (xs ++ x ∷ []) (length xs) ≡ Some x
 get-end [] x = refl
 get-end (y ∷ xs) x = get-end xs x
 

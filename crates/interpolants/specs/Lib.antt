@@ -2,9 +2,11 @@ pub mod Cuts
 pub mod Memos
 pub mod Keeping
 pub mod Merging
+pub mod Placings
 pub mod Meanings
 pub mod Rules
 pub mod Sources
 pub mod Walks
 pub mod Knowing
+pub mod CutMeanings
 pub mod Laws

@@ -1,6 +1,6 @@
 -- The formula of a cut by McMillan's rules, as its truth under an assignment of the variables. The clauses before the cut are those with
 -- a number below the edge.
-use Rattle.std.specs.Prelude.{ℕ, Bool, true, false, ◌&&◌, ◌||◌, List, [], ◌∷◌, ◌++◌, zero, suc, drop, slice_index_or}
+use Rattle.std.specs.Prelude.{ℕ, Bool, true, false, ◌&&◌, ◌||◌, List, [], ◌∷◌, ◌++◌, zero, suc, drop, take, slice_index_or}
 use Rattle.prop.specs.declared.Lit.{Lit}
 use Rattle.prop.specs.Logic.{lit_value}
 use Rattle.prop.specs.Trues.{listed}
@@ -10,6 +10,10 @@ use Rattle.resolution_log.specs.Codes.{all_vars}
 -- a clause from the edge on has the variable
 abbrev pub is_behind : List (List Lit) → ℕ → ℕ → Bool
 is_behind clauses edge x = listed (all_vars (drop edge clauses)) x
+
+-- a clause before the edge has the variable
+abbrev pub is_before : List (List Lit) → ℕ → ℕ → Bool
+is_before clauses edge x = listed (all_vars (take edge clauses)) x
 
 -- a clause before the cut: one of its literals whose variable occurs behind the cut is true
 abbrev pub some_holds : (ℕ → Bool) → (ℕ → Bool) → List Lit → Bool

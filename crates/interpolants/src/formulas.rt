@@ -1,14 +1,18 @@
 //! A formula for each cut of a path.
 
-ghost use Rattle.std.specs.Prelude.{◌≡◌, ◌+◌, ◌<◌, ◌-◌, ℕ, List, length, suc, All, IfOk, OnOk};
+ghost use Rattle.std.specs.Prelude.{◌≡◌, ◌+◌, ◌<◌, ◌-◌, ℕ, List, length, suc, All, IfOk, OnOk, Some, slice_get, slice_index_or};
 ghost use Rattle.bv_term.specs.Laws.{Extends};
 ghost use Rattle.c_graph.specs.Shape.{widths_of};
 ghost use Rattle.formula_diagrams.specs.Writings.{IsOneBit};
 ghost use Rattle.path_query.specs.Facts.{IsBundle, IsQuery};
 ghost use Rattle.resolution_log.specs.Chains.{IsRefutation};
+ghost use Rattle.interpolants.specs.declared.items.Placed.{Placed};
+ghost use Rattle.interpolants.specs.CutMeanings.{AreCutFormulas, IsCutFormula, IsFormulaAt};
 ghost use Rattle.interpolants.specs.Cuts.{Adds, AreCutBits, AreFormulas};
 ghost use Rattle.interpolants.specs.Knowing.{IsKnown};
 ghost use Rattle.interpolants.specs.Keeping.{term_truth};
+ghost use Rattle.interpolants.specs.Placings.{SameBits};
+ghost use Rattle.interpolants.specs.Sources.{AreEnds};
 ghost use Rattle.interpolants.specs.Walks.{AreCovered, IsCut, IsCutTruth};
 
 use crate::cone::Cone;
@@ -89,7 +93,7 @@ fn put_formula(
     ensures extends { Extends terms.old terms.new }
     ensures bit { IfOk result (IsOneBit terms.new) }
     ensures long { length memo.new ≡ length memo.old }
-    ensures told { (store : List ℕ) → AreCovered cut.now → length memo.old ≡ length cut.now.clauses.now + length cut.now.log.now → 0 < length cut.now.log.now → IfOk result (λ t. IsCutTruth cut.now store (term_truth terms.new (record { 0 = t.0 }) store)) }
+    ensures meaning { (bits : List Placed) → AreEnds cut.now.clauses.now cut.now.ends.now → SameBits bits cut.now.bits.now.bits.items → length memo.old ≡ length cut.now.clauses.now + length cut.now.log.now → 0 < length cut.now.log.now → IfOk result (IsCutFormula terms.new cut.now.clauses.now cut.now.log.now cut.now.edge bits) }
 {
     match put_diagram(alloc, cut, memo, terms) {
         Ok(term) => Ok(term),
@@ -101,9 +105,18 @@ fn put_formula(
 // The cells of a cut.
 fn bundles_at(query: &PathQuery, number: usize) -> &[Bundle]
     requires { number < length query.now.cuts }
-    ensures { (cells : List ℕ) → All (All (IsBundle cells)) query.now.cuts → All (IsBundle cells) result.now }
+    ensures at { slice_get query.now.cuts number ≡ Some result.now }
+    ensures bundles { (cells : List ℕ) → All (All (IsBundle cells)) query.now.cuts → All (IsBundle cells) result.now }
 {
     query.cuts.as_slice()[number].as_slice()
+}
+
+// The clauses before a cut.
+fn edge_at(query: &PathQuery, number: usize) -> u32
+    requires { number < length query.now.starts }
+    ensures { result ≡ slice_index_or query.now.starts number (length query.now.clauses) }
+{
+    query.starts.as_slice()[number]
 }
 
 // The formula of a cut that is neither the first nor the last.
@@ -118,20 +131,27 @@ fn put_at(
 ) -> Result<TermId, Memory>
     requires known { IsKnown query.now.clauses log.now known.now }
     requires refuted { IsRefutation query.now.clauses log.now }
+    requires inner { 0 < number }
     requires start { number < length query.now.starts }
     requires cut { number < length query.now.cuts }
     requires bundles { All (All (IsBundle terms.old.cells)) query.now.cuts }
+    requires room { length memo.old ≡ length query.now.clauses + length log.now }
     ensures extends { Extends terms.old terms.new }
     ensures bit { IfOk result (IsOneBit terms.new) }
+    ensures long { length memo.new ≡ length memo.old }
+    ensures meaning { IfOk result (IsFormulaAt terms.new query.now log.now number) }
 {
-    let bits = place_bits(alloc, bundles_at(query, number))?;
+    let _count = terms.count();
+    let bundles = bundles_at(query, number);
+    let edge = edge_at(query, number);
+    let bits = place_bits(alloc, bundles)?;
     let cut = Cut {
         clauses: &query.clauses,
         log,
         ends: &known.ends,
         cone: &known.cone,
         bits: &bits,
-        edge: query.starts.as_slice()[number],
+        edge,
     };
     put_formula(alloc, &cut, memo, terms)
 }
@@ -147,8 +167,10 @@ fn put_inner(
     requires refuted { IsRefutation query.now.clauses log.now }
     requires cuts { length query.now.cuts ≡ suc (length query.now.starts) }
     requires bundles { All (All (IsBundle terms.old.cells)) query.now.cuts }
+    requires first { length formulas.old.items ≡ 1 }
     ensures extends { Extends terms.old terms.new }
     ensures adds { OnOk result (Adds terms.new (length query.now.starts - 1) formulas.old.items formulas.new.items) }
+    ensures meaning { OnOk result (AreCutFormulas terms.new query.now log.now formulas.new.items) }
 {
     let known = known_of(alloc, query, log)?;
     let clauses = query.clauses.len() as usize;
@@ -183,6 +205,7 @@ pub fn chain(
     requires cells { terms.old.cells ≡ widths_of graph.now.cells }
     ensures extends { Extends terms.old terms.new }
     ensures formulas { IfOk result (λ r. AreFormulas terms.new (length path.now) r.items) }
+    ensures meaning { IfOk result (λ r. AreCutFormulas terms.new query.now log.now r.items) }
 {
     let _ = graph.entry();
     let mut formulas = Vec::new(alloc);

@@ -1,10 +1,12 @@
 //! The bits of a cut's cells, with the literals that stand for them.
 
-ghost use Rattle.std.specs.Prelude.{◌≡◌, ◌<◌, ℕ, List, All, IfSome, IfNone, IfOk, OnOk, slice_get, Some, length};
+ghost use Rattle.std.specs.Prelude.{◌≡◌, ◌≤◌, ◌<◌, ℕ, List, [], ◌∷◌, ◌++◌, All, IfSome, IfNone, IfOk, OnOk, slice_get, Some, length};
+ghost use Rattle.bv_term.specs.WellFormed.{IsWidth};
 ghost use Rattle.formula_diagrams.specs.Shape.{IsBitIn};
 ghost use Rattle.path_query.specs.Facts.{IsBundle};
 ghost use Rattle.interpolants.specs.Cuts.{AreCutBits, IsPlaced};
 ghost use Rattle.interpolants.specs.Meanings.{HasBit, IsBitOf, IsPaired, IsPlacing};
+ghost use Rattle.interpolants.specs.Placings.{SameBits, bit_at, bits_of, row};
 
 use crate::items::{Placed, Twins};
 use formula_diagrams::BitOf;
@@ -31,6 +33,7 @@ pub struct CutBits {
 impl CutBits {
     fn new(alloc: Global) -> CutBits
         ensures placing { IsPlacing result }
+        ensures none { result.bits.items ≡ [] }
         ensures bits { (cells : List ℕ) → AreCutBits cells result }
     {
         CutBits {
@@ -57,6 +60,7 @@ impl CutBits {
     // Puts a bit beside the one before it with the same variable.
     fn pair_up(&mut self, placed: Placed) -> Result<(), Memory>
         ensures paired { IsPlacing self.old → OnOk result (IsPaired self.old self.new placed) }
+        ensures kept { self.new.bits.items ≡ self.old.bits.items }
         ensures bits { (cells : List ℕ) → IsPlaced cells placed → AreCutBits cells self.old → AreCutBits cells self.new }
     {
         match self.find(placed.lit.var) {
@@ -71,6 +75,7 @@ impl CutBits {
     fn add(&mut self, placed: Placed) -> Result<(), Memory>
         ensures placing { IsPlacing self.old → OnOk result (IsPlacing self.new) }
         ensures bits { (cells : List ℕ) → IsPlaced cells placed → AreCutBits cells self.old → AreCutBits cells self.new }
+        ensures added { OnOk result (self.new.bits.items ≡ self.old.bits.items ++ placed ∷ []) }
     {
         self.pair_up(placed)?;
         self.places.insert(placed.lit.var, self.bits.len())?;
@@ -83,6 +88,7 @@ impl CutBits {
 fn place_bit(bits: &mut CutBits, bundle: &Bundle, bit: u32) -> Result<(), Memory>
     ensures placing { IsPlacing bits.old → OnOk result (IsPlacing bits.new) }
     ensures bits { (cells : List ℕ) → IsBundle cells bundle.now → AreCutBits cells bits.old → AreCutBits cells bits.new }
+    ensures added { OnOk result (bits.new.bits.items ≡ bits.old.bits.items ++ bit_at bundle.now bit) }
 {
     let lits = bundle.bits.as_slice();
     let at = bit as usize;
@@ -100,6 +106,7 @@ fn place_bit(bits: &mut CutBits, bundle: &Bundle, bit: u32) -> Result<(), Memory
 fn place_row(bits: &mut CutBits, bundles: &[Bundle], bit: u32) -> Result<(), Memory>
     ensures placing { IsPlacing bits.old → OnOk result (IsPlacing bits.new) }
     ensures bits { (cells : List ℕ) → All (IsBundle cells) bundles.now → AreCutBits cells bits.old → AreCutBits cells bits.new }
+    ensures added { OnOk result (bits.new.bits.items ≡ bits.old.bits.items ++ row bundles.now bit) }
 {
     for back in 0..bundles.len() {
         place_bit(bits, &bundles[bundles.len() - 1 - back], bit)?;
@@ -108,7 +115,9 @@ fn place_row(bits: &mut CutBits, bundles: &[Bundle], bit: u32) -> Result<(), Mem
 }
 
 // The bits of the widest cell.
-fn widest(bundles: &[Bundle]) -> u32 {
+fn widest(bundles: &[Bundle]) -> u32
+    ensures { All (λ b. length b.bits ≤ 128 → length b.bits ≤ result) bundles.now }
+{
     let mut most = 0u32;
     for bundle in bundles {
         let width = bundle.bits.as_slice().len().min(MOST_BITS);
@@ -121,6 +130,7 @@ fn widest(bundles: &[Bundle]) -> u32 {
 pub fn place_bits(alloc: Global, bundles: &[Bundle]) -> Result<CutBits, Memory>
     ensures placing { IfOk result IsPlacing }
     ensures bits { (cells : List ℕ) → All (IsBundle cells) bundles.now → IfOk result (AreCutBits cells) }
+    ensures same { (cells : List ℕ) → All IsWidth cells → All (IsBundle cells) bundles.now → IfOk result (λ b. SameBits (bits_of bundles.now) b.bits.items) }
 {
     let mut bits = CutBits::new(alloc);
     for bit in 0..widest(bundles) {

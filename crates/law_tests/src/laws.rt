@@ -240,6 +240,11 @@ fn formulas_of_cuts() {
     interpolants::laws::cuts_lead();
     interpolants::laws::first_is_true();
     interpolants::laws::last_is_false();
+    interpolants::laws::formulas_lead();
+    interpolants::laws::agreed_are_given();
+    interpolants::laws::formulas_read_their_cut();
+    interpolants::laws::first_is_meant();
+    interpolants::laws::last_is_meant();
 }
 
 #[test]
