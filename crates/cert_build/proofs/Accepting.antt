@@ -1,11 +1,8 @@
 -- The certificate of a map with refutations of its obligations is accepted.
-use Rattle.std.proofs.Common.{◌≡◌, ◌∙◌, ℕ, List, Result, Ok, Err, sym, subst, length, slice_get, Some}
-use Rattle.std.specs.Prelude.{IfOk}
+use Rattle.std.proofs.Common.{◌≡◌, ℕ, sym}
 use Rattle.bv_term.specs.WellFormed.{IsTable}
 use Rattle.c_graph.specs.Shape.{Flow}
 use Rattle.c_graph.specs.Runs.{Formulas, IsMapOf}
-use Rattle.resolution_log.specs.declared.Chain.{Chain}
-use Rattle.obligations.specs.Questions.{count_of}
 use Rattle.obligations.specs.Stated.{obligation_says}
 use Rattle.cert_text.specs.declared.Cert.{Cert}
 use Rattle.cert_check.specs.Answers.{IsAccepted, numbered}

@@ -1,2 +1,3 @@
 pub mod Refutes
+pub mod Gathering
 pub mod Accepting

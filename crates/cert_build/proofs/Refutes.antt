@@ -1,5 +1,5 @@
 -- A lean refutation is a refutation.
-use Rattle.std.proofs.Common.{◌≡◌, ◌∙◌, ℕ, List, [], ◌∷◌, ◌++◌, Some, refl, sym, subst, append_assoc, append-nil}
+use Rattle.std.proofs.Common.{◌≡◌, List, [], ◌∷◌, ◌++◌, Some, refl, sym, subst, append_assoc, append-nil}
 use Rattle.prop.specs.declared.Lit.{Lit}
 use Rattle.resolution_log.specs.declared.Chain.{Chain}
 use Rattle.resolution_log.specs.Chains.{chain_result, results_of, IsRefutation}

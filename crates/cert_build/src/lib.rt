@@ -4,8 +4,8 @@
 //! certificate; what it says is checked by `cert_check`, which asks no solver.
 #![tactic(auto)]
 
-mod certificate;
 mod proving;
+mod storing;
 
-pub use certificate::certificate;
 pub use proving::{Proved, prove};
+pub use storing::certificate;

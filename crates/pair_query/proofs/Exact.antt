@@ -125,7 +125,7 @@ module _ (table : Table) (is : IsTable table) where
       let one = one_of t h o (All-head P t ts w) in
       let rest = told_both ts us m.held s v one.over (All-tail P t ts w) x told.2 in (
         subst (λ (ls : List Lit). Each v s (t ∷ ts) (ls ++ (blasted_each table ts m.held).lits)) (sym one.outs)
-        (truths_read v table s t one.lit (ap (number v) (sym one.outs) ∙ told.1), rest.0),
+            (truths_read v table s t one.lit (ap (number v) (sym one.outs) ∙ told.1), rest.0),
         rest.1,
       )
 
@@ -214,8 +214,8 @@ module _ (table : Table) (is : IsTable table) where
           | inl yes' ↦ subst (λ (s : List ℕ). AllHold table s right) same ((each_true w (store_read table w) right b.lits r).0 yes')
           | inr no' ↦
               absurd (refuted w (parts w ∙ and_of ((all_hold w a.clauses && all_true w a.lits) && all_hold w b.clauses) (all_hold w (closing b.lits b.held))
-                  (and_of (all_hold w a.clauses && all_true w a.lits) (all_hold w b.clauses) (and_of (all_hold w a.clauses) (all_true w a.lits) x on) y)
-                  (lacks w b.lits b.held no')))
+              (and_of (all_hold w a.clauses && all_true w a.lits) (all_hold w b.clauses) (and_of (all_hold w a.clauses) (all_true w a.lits) x on) y)
+              (lacks w b.lits b.held no')))
         ]
       where
         lacks : (w : ℕ → Bool) (ls : List Lit) (h : Held) → all_true w ls ≡ false → all_hold w (closing ls h) ≡ true

@@ -113,10 +113,7 @@ fn print_error<R: Print>(
 }
 
 // The verdict on a complete unwinding: safe where its certificate is accepted.
-fn print_complete<R: Print>(
-    rt: &R,
-    certified: Result<Size, Uncertified>,
-) -> Result<(), Refusal> {
+fn print_complete<R: Print>(rt: &R, certified: Result<Size, Uncertified>) -> Result<(), Refusal> {
     let printed = match certified {
         Ok(size) => {
             let Size {
@@ -125,7 +122,9 @@ fn print_complete<R: Print>(
                 logs,
                 chains,
             } = size;
-            println!(rt; "SAFE\n# certificate: {bytes} bytes, {terms} terms, {logs} logs, {chains} chains")
+            println!(rt;
+                "SAFE\n# certificate: {bytes} bytes, {terms} terms, {logs} logs, {chains} chains"
+            )
         }
         Err(Uncertified::Memory) => return Err(Refusal::Memory),
         Err(Uncertified::Limit(limit)) => println!(rt; "LIMIT {limit} in the certificate"),

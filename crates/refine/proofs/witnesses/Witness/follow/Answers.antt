@@ -20,10 +20,9 @@ loop-number-preserved c =
     let q : x ≡ truth_known k.store t.terms ts c.get-term.result =
     c.known_truth-truth.ensures ∙ ap (λ (us : List Truth). truth_known k.store t.terms us c.get-term.result) c.deref.ensures.value in
     let i = c.in_ok-push.ensures.items in
-    let l = length-append ts (x ∷ []) in
-    (
+    let l = length-append ts (x ∷ []) in (
       known_more t k c.push.new.self.items c.get-term.result x c.count-number-end.ensures.table c.loop-number.invariant.0 e q i
-      (omega (arith, c.loop-number-test.true, n, c.count-number-end.ensures.value)),
+          (omega (arith, c.loop-number-test.true, n, c.count-number-end.ensures.value)),
       omega (arith, ap length i, l, n),
       c.loop-number.invariant.2,
     )
