@@ -6,6 +6,7 @@ use Rattle.bv_term.specs.declared.term.Term.{Term}
 use Rattle.bv_term.specs.declared.term.Term.TheVariants.{Constant}
 use Rattle.bv_term.specs.WellFormed.{Table, IsTable, IsWidth, AllFit, width_in, widths_after, widths}
 use Rattle.bv_term.specs.Values.{value_in, values_after, values, IsStore, AreBelow, FitsSome}
+use Rattle.bv_term.specs.Laws.{ValuesBegin}
 use Rattle.bv_term.proofs.Growing.{widths-append, length-widths, All-widths}
 use Rattle.bv_term.proofs.Bounds.{values-append, AllFit-split, widths-first, value-step}
 use Rattle.bv_term.proofs.Staying.{length-values}
@@ -134,3 +135,19 @@ values-all table store vs i le e =
     past [] (suc k) l = refl
     past (x ∷ xs) zero l = absurd (omega arith)
     past (x ∷ xs) (suc k) l = ap (λ (ys : List ℕ). x ∷ ys) (past xs k (omega arith))
+
+-- the values of a table begin those of one that grew from it
+pub values_begin : ValuesBegin
+values_begin old new store ext =
+    let more = ext.1.0 in
+    let n = length-values old.cells store [] [] old.terms in
+    let m : length (values old store) ≡ length old.terms = omega (arith, n) in
+    let at : (k : ℕ) → k ≡ length old.terms → values old store ≡ take k (values new store) =
+    λ k e.
+    sym
+    (ap (λ (cells : List ℕ). take k (values_after cells store [] [] new.terms)) ext.0
+    ∙ ap (λ (ts : List Term). take k (values_after old.cells store [] [] ts)) ext.1.1
+    ∙ values-take old.cells store (old.terms ++ more) k (omega (arith, e, length-append old.terms more))
+    ∙ ap (λ (j : ℕ). values_after old.cells store [] [] (take j (old.terms ++ more))) e
+    ∙ ap (values_after old.cells store [] []) (take-append_seam old.terms more)) in
+    (m, at (length (values old store)) m)
