@@ -112,7 +112,7 @@ pub values-append : (cells store ws vs : List ℕ) (xs ys : List Term)
 values-append cells store ws vs [] ys = refl
 values-append cells store ws vs (x ∷ xs) ys = values-append cells store (ws ++ width_in cells ws x ∷ []) (vs ++ value_in store ws vs x ∷ []) xs ys
 
-AllFit-split : (cells ws : List ℕ) (xs ys : List Term) → AllFit cells ws (xs ++ ys) → AllFit cells ws xs × AllFit cells (widths_after cells ws xs) ys
+pub AllFit-split : (cells ws : List ℕ) (xs ys : List Term) → AllFit cells ws (xs ++ ys) → AllFit cells ws xs × AllFit cells (widths_after cells ws xs) ys
 AllFit-split cells ws [] ys f = (tt, f)
 AllFit-split cells ws (x ∷ xs) ys f = let r = AllFit-split cells (ws ++ width_in cells ws x ∷ []) xs ys f.1 in ((f.0, r.0), r.1)
 

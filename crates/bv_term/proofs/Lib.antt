@@ -3,3 +3,4 @@ pub mod Growing
 pub mod Rows
 pub mod Bounds
 pub mod Staying
+pub mod Continuing

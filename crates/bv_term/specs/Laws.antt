@@ -1,5 +1,5 @@
 -- What the calls of a table leave, and the laws of values.
-use Rattle.std.specs.Prelude.{ℕ, ◌^◌, ◌<◌, ◌≡◌, ◌⊎◌, List, ◌++◌, length, slice_index, Contains}
+use Rattle.std.specs.Prelude.{ℕ, ◌^◌, ◌<◌, ◌≡◌, ◌⊎◌, List, ◌++◌, length, slice_index, take, Contains}
 use Rattle.bv_term.specs.declared.term.TermId.{TermId}
 use Rattle.bv_term.specs.declared.term.Term.{Term}
 use Rattle.bv_term.specs.WellFormed.{Table, IsTable, with_term, widths}
@@ -18,6 +18,12 @@ abbrev pub ValuesStay : Type 0
 ValuesStay =
     (old new : Table) (store : List ℕ) (t : TermId) → Extends old new → t.0 < length old.terms
     → value new store t ≡ value old store t
+
+-- the values of a table begin those of one that grew from it
+abbrev pub ValuesBegin : Type 0
+ValuesBegin =
+    (old new : Table) (store : List ℕ) → Extends old new
+    → (length (values old store) ≡ length old.terms) × (values old store ≡ take (length (values old store)) (values new store))
 
 -- terms keep their widths as a table grows
 abbrev pub WidthsStay : Type 0

@@ -1,7 +1,8 @@
-ghost use Rattle.std.specs.Prelude.{◌≡◌, ◌<◌, ◌↔◌, ◌∷◌, ◌++◌, [], length, slice_get, slice_index, IsTrue, IsSome, IfOk, OnOk, OnErr, All};
+ghost use Rattle.std.specs.Prelude.{◌≡◌, ◌<◌, ◌↔◌, ◌∷◌, ◌++◌, [], length, slice_get, slice_index, take, Some, IsTrue, IsSome, IfOk, OnOk, OnErr, All};
+ghost use Rattle.bv_term.specs.declared.term.Term.{Term};
 ghost use Rattle.bv_term.specs.WellFormed.{FitsTable, IsTable, IsWidth, with_term, widths};
 ghost use Rattle.bv_term.specs.Keys.{key_of, first_from};
-ghost use Rattle.bv_term.specs.Values.{IsStore, values};
+ghost use Rattle.bv_term.specs.Values.{AreBelow, IsStore, value_in, values};
 ghost use Rattle.bv_term.specs.Laws.{IsPut};
 
 use crate::key::Key;
@@ -225,6 +226,32 @@ impl Terms {
         is_store(&self.cells, store)
     }
 
+    /// The value of a term in a store, the terms before it having these values. It takes no memory.
+    pub fn value_after(&self, store: &[u128], before: &[u128], term: TermId) -> u128
+        requires there { term.0 < length self.now.terms }
+        requires count { length before.now ≡ term.0 }
+        requires below { AreBelow (take term.0 (widths self.now)) before.now }
+        ensures { (t : Term) → slice_get self.now.terms term.0 ≡ Some t → result ≡ value_in store.now (take term.0 (widths self.now)) before.now t }
+    {
+        let number = term.0 as usize;
+        value_over(store, &self.widths[..number], before, self.terms[number])
+    }
+
+    /// Appends the values of the further terms to those of the first in a store of the table's cells, so that each term has
+    /// its value. None that is known is computed again: it takes time in proportion to the further terms.
+    pub fn values_on(&self, store: &[u128], known: &mut Vec<u128>) -> Result<(), Memory>
+        requires store { IsStore self.now.cells store.now }
+        requires known { known.old.items ≡ take (length known.old.items) (values self.now store.now) }
+        ensures all { OnOk result (known.new.items ≡ values self.now store.now) }
+        ensures first { OnErr result (known.new.items ≡ take (length known.new.items) (values self.now store.now)) }
+    {
+        for number in known.len()..self.terms.len() {
+            let value = self.value_after(store, known, TermId(number as u32));
+            known.push(value)?;
+        }
+        Ok(())
+    }
+
     /// The values of all terms in a store of the table's cells, in the order of the terms. Each value is computed
     /// once, from the values of earlier terms, so that the call takes time in proportion to the table.
     pub fn values(&self, alloc: Global, store: &[u128]) -> Result<Vec<u128>, Memory>
@@ -232,10 +259,7 @@ impl Terms {
         ensures { IfOk result (λ v. v.items ≡ values self.now store.now) }
     {
         let mut known: Vec<u128> = Vec::new(alloc);
-        for (number, term) in self.terms.iter().enumerate() {
-            let value = value_over(store, &self.widths[..number], &known, *term);
-            known.push(value)?;
-        }
+        self.values_on(store, &mut known)?;
         Ok(known)
     }
 }

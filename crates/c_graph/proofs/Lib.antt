@@ -3,3 +3,4 @@ pub mod Keeping
 pub mod Checking
 pub mod Chaining
 pub mod Marks
+pub mod Halving

@@ -44,6 +44,7 @@ pub record IsFnFlow (functions : ℕ) (table : Table) (g : FnFlow) : Type 0 wher
 -- the facts that function graphs keep
 pub record AreFlows (p : Flows) : Type 0 where
   pub each : All (IsFnFlow (length p.graphs) p.terms) p.graphs
+  pub few_cells : length p.cells < 4294967296
   pub cells : p.terms.cells ≡ widths_of p.cells
   pub table : IsTable p.terms
   pub exits : length p.exits ≡ length p.graphs

@@ -65,6 +65,7 @@ GoesOn nodes edges v = slice_get nodes v.0 ≡ Some Plain → IsTrue (has_out ed
 pub record IsFlow (g : Flow) : Type 0 where
   pub no_calls : All IsNoCall g.nodes
   pub few : length g.nodes + length g.edges ≤ 2147483647
+  pub few_cells : length g.cells < 4294967296
   pub entry : IsNodeOf g.nodes g.entry
   pub edges : All (EdgeFits g.nodes g.terms) g.edges
   pub entry_goes_on : GoesOn g.nodes g.edges g.entry

@@ -9,6 +9,9 @@ use bv_term::{Term, TermId, Terms, laws};
 /// The most nodes and edges of a graph together.
 pub(crate) const MOST_PARTS: usize = 2147483647;
 
+/// The most cells of a graph: each has a number of 32 bits, and so has their count.
+pub(crate) const MOST_CELLS: usize = 4294967295;
+
 /// Whether these parts make a graph.
 pub fn is_graph(
     nodes: &[Node],
@@ -28,7 +31,10 @@ pub fn is_graph(
     }) }
 {
     let few = nodes.len() <= MOST_PARTS && edges.len() <= MOST_PARTS - nodes.len();
-    if !few || !no_calls(nodes) || !are_widths_of(cells, terms.cells()) {
+    if !few || cells.len() > MOST_CELLS {
+        return false;
+    }
+    if !no_calls(nodes) || !are_widths_of(cells, terms.cells()) {
         return false;
     }
     if !is_node(nodes, entry) || !goes_on(nodes, edges, entry) || !are_loops(nodes, loops) {

@@ -6,7 +6,9 @@ ghost use Rattle.c_graph.specs.Shape.{Flow, IsFlow, IsNodeOf};
 ghost use Rattle.c_graph.specs.Functions.{AreFlows, Flows, FnFlow, IsFnFlow};
 ghost use Rattle.c_graph.specs.Parts.{AreMarks, CallFitsBy, GoesOnBy, IsSound, error_flow, error_flows, error_function};
 
-use crate::check::{MOST_PARTS, are_loops, are_widths_of, fit_edges, is_node, is_plain, no_calls};
+use crate::check::{
+    MOST_CELLS, MOST_PARTS, are_loops, are_widths_of, fit_edges, is_node, is_plain, no_calls,
+};
 use crate::flow::Graph;
 use crate::functions::{FnGraph, FnGraphs};
 use crate::graph::{Cell, Edge, LoopAt, Node, NodeId};
@@ -60,7 +62,7 @@ fn make_graph(
       loops = loops.now;
     })) }
 {
-    if !no_calls(nodes) || !are_widths_of(cells, terms.cells()) {
+    if cells.len() > MOST_CELLS || !no_calls(nodes) || !are_widths_of(cells, terms.cells()) {
         return Ok(false);
     }
     let marks = marks_of(alloc, nodes.len(), edges)?;
@@ -184,6 +186,9 @@ fn make_function_graphs(
     })) }
 {
     let is_there = (main as usize) < graphs.len();
+    if cells.len() > MOST_CELLS {
+        return Ok(false);
+    }
     if !is_there || !are_widths_of(cells, terms.cells()) || !return_at(graphs, exits) {
         return Ok(false);
     }

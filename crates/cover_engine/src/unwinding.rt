@@ -90,6 +90,14 @@ impl Unwinding {
         })
     }
 
+    /// The tree: the vertices, and the table of the terms of their labels.
+    pub fn tree(&self) -> &Tree
+        ensures vertices { result.now.vertices ≡ self.now.vertices }
+        ensures terms { result.now.terms ≡ self.now.terms }
+    {
+        &self.tree
+    }
+
     /// The vertices, by number.
     pub fn vertices(&self) -> &[Vertex]
         ensures value { result.now ≡ self.now.vertices }

@@ -8,3 +8,5 @@ pub mod Places
 pub mod MarkLaws
 pub mod StepLaws
 pub mod RowLaws
+pub mod Refuting
+pub mod Dense

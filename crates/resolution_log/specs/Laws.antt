@@ -5,7 +5,7 @@ use Rattle.prop.specs.declared.Lit.{Lit}
 use Rattle.prop.specs.Logic.{negated, all_hold}
 use Rattle.prop.specs.Steps.{Has, In}
 use Rattle.resolution_log.specs.declared.Chain.{Chain}
-use Rattle.resolution_log.specs.Chains.{chain_result, results_of, pivots_differ}
+use Rattle.resolution_log.specs.Chains.{chain_result, results_of, pivots_differ, IsRefutation}
 use Rattle.resolution_log.specs.Propagation.{Derived, Quiet, Closed, Empowering, IsNew}
 use Rattle.resolution_log.specs.Logs.{New, Lean, Same, AllSame}
 use Rattle.resolution_log.specs.Cones.{rank, Anew, Kept}
@@ -48,3 +48,7 @@ NewLogsAreValid = (clauses rs : List (List Lit)) (log : List Chain) → New clau
 -- count as needed, each kept chain names needed clauses alone, and so does the last.
 abbrev pub CutsStayLean : Type 0
 CutsStayLean = (need : ℕ → Bool) (clauses rs : List (List Lit)) (front kept : List Chain) (last last2 : Chain) → ((j : ℕ) → j < length clauses → need j ≡ true) → New clauses front rs → chain_result (clauses ++ rs) last ≡ Some [] → pivots_differ last.pairs ≡ true → Kept need (length clauses) front kept → Anew need last last2 → Lean clauses (kept ++ (last2 ∷ []))
+
+-- a lean refutation is a refutation
+abbrev pub LeanRefutes : Type 0
+LeanRefutes = (clauses : List (List Lit)) (log : List Chain) → Lean clauses log → IsRefutation clauses log

@@ -1,6 +1,6 @@
 //! Laws of the definitions, each as the contract of a function that does nothing.
 
-ghost use Rattle.resolution_log.specs.Laws.{ResultsAreImplied, PropagationStays, NewByClosedSet, NoneIsNewOverEmpty, SetsAreEnough, NewLogsGrow, NewLogsAreValid, CutsStayLean};
+ghost use Rattle.resolution_log.specs.Laws.{ResultsAreImplied, PropagationStays, NewByClosedSet, NoneIsNewOverEmpty, SetsAreEnough, NewLogsGrow, NewLogsAreValid, CutsStayLean, LeanRefutes};
 
 /// Every result of a valid log is implied by the clauses.
 pub fn results_are_implied()
@@ -41,4 +41,9 @@ pub fn new_logs_are_valid()
 /// A lean refutation cut to the cone of its last chain, with its clauses numbered anew, stays lean.
 pub fn cuts_stay_lean()
     ensures { CutsStayLean }
+{}
+
+/// A lean refutation is a refutation.
+pub fn lean_refutes()
+    ensures { LeanRefutes }
 {}

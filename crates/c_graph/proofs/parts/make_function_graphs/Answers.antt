@@ -13,6 +13,7 @@ loop-graph-preserved c =
 pub returns : goal.returns
 returns c = λ _. record {
   each = All-seen (IsFnFlow (length c.args.graphs.now) c.args.terms.now) c.args.graphs.now c.loop-graph.graph-index c.loop-graph-test.false c.loop-graph.invariant;
+  few_cells = search rules;
   cells = search rules;
   table = search rules;
   exits = c.if-not-return_at.ensures.count refl;
