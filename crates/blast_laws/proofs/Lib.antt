@@ -12,3 +12,4 @@ pub mod Keeping
 pub mod Runs
 pub mod Scopes
 pub mod Bounding
+pub mod Drawing

@@ -1,3 +1,4 @@
 pub mod Calls
 pub mod Bounds
 pub mod Laws
+pub mod Drawn
