@@ -13,3 +13,4 @@ pub mod Runs
 pub mod Spelling
 pub mod Scopes
 pub mod Bounding
+pub mod Drawing

@@ -202,11 +202,11 @@ renew_starts ws h before after s a =
     (st, calls_exact ws (renew_of g) after st r.1.1, clauses-join ws h before (Renew ∷ after))
 
 -- any store is spelled by some values of the first cells
-abbrev set-bits : (ℕ → Bool) → ℕ → ℕ → ℕ → (ℕ → Bool)
+abbrev pub set-bits : (ℕ → Bool) → ℕ → ℕ → ℕ → (ℕ → Bool)
 set-bits v n zero x = v
 set-bits v n (suc w) x = changed (set-bits v (suc n) w (x / 2)) n (x % 2 == 1)
 
-set-other : (v : ℕ → Bool) (n w x k : ℕ) → (k < n) ⊎ (n + w ≤ k) → set-bits v n w x k ≡ v k
+pub set-other : (v : ℕ → Bool) (n w x k : ℕ) → (k < n) ⊎ (n + w ≤ k) → set-bits v n w x k ≡ v k
 set-other v n zero x k o = refl
 set-other v n (suc w) x k o =
     ap (λ (t : Bool). cond t (x % 2 == 1) (set-bits v (suc n) w (x / 2) k)) (ne_eqb n k (λ e. apart e o)) ∙ set-other v (suc n) w (x / 2) k (further o)
@@ -219,14 +219,14 @@ set-other v n (suc w) x k o =
     further (inl lt) = inl (omega (arith, lt))
     further (inr le) = inr (omega (arith, le))
 
-number-same : (v w : ℕ → Bool) (n k : ℕ) → ((j : ℕ) → n ≤ j → j < n + k → w j ≡ v j) → number w (fresh_lits n k) ≡ number v (fresh_lits n k)
+pub number-same : (v w : ℕ → Bool) (n k : ℕ) → ((j : ℕ) → n ≤ j → j < n + k → w j ≡ v j) → number w (fresh_lits n k) ≡ number v (fresh_lits n k)
 number-same v w n zero h = refl
 number-same v w n (suc k) h =
     let b : bit (w n) ≡ bit (v n) = ap bit (h n (omega arith) (omega arith)) in
     let i = number-same v w (suc n) k (λ j le lt. h j (omega (arith, le)) (omega (arith, lt))) in
     omega (arith, b, i)
 
-set-number : (v : ℕ → Bool) (n w x : ℕ) → x < 2 ^ w → number (set-bits v n w x) (fresh_lits n w) ≡ x
+pub set-number : (v : ℕ → Bool) (n w x : ℕ) → x < 2 ^ w → number (set-bits v n w x) (fresh_lits n w) ≡ x
 set-number v n zero x lt = omega (arith, lt)
 set-number v n (suc w) x lt =
     let e : 2 ^ suc w ≡ 2 * 2 ^ w = pow-succ' 2 w in

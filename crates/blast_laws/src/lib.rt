@@ -6,6 +6,7 @@
 //! caller cites what it ensures.
 #![tactic(auto)]
 
+ghost use Rattle.blast_laws.specs.Drawn.{AnyStoreAndDraws, FreshStay, FreshTakeAny};
 ghost use Rattle.blast_laws.specs.Laws.{CallsExact, CallsScope, NewStarts, ReadsScope, RenewStarts, StoresSmall, StoresSpelled, TermsSmall, TruthsRead};
 
 /// Over any list of calls from the beginning of a step on, whatever values the variables have that were there before or
@@ -62,4 +63,20 @@ pub fn terms_small()
 /// and index, and one where there was no constant literal yet.
 pub fn stores_small()
     ensures { StoresSmall }
+{}
+
+/// Fresh literals may spell any values that fit, one for each call of `fresh`: their variables are different ones, and were
+/// not there before.
+pub fn fresh_take_any()
+    ensures { FreshTakeAny }
+{}
+
+/// What fresh literals spell rests on their own variables alone, which calls leave open.
+pub fn fresh_stay()
+    ensures { FreshStay }
+{}
+
+/// After `Bits::new` the clauses of calls hold with any store in the first cells and any values of the fresh literals at once.
+pub fn any_store_and_draws()
+    ensures { AnyStoreAndDraws }
 {}

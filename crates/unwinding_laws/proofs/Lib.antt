@@ -8,3 +8,4 @@ pub mod Expansion
 pub mod Journals
 pub mod Rooting
 pub mod Tables
+pub mod Steering

@@ -52,7 +52,7 @@ named_length done (t ∷ ts) = let h = named_length (done ++ named_in done t ∷
 
 module _ (g : Flow) (old new : Table) (ext : Extends old new) where
   -- the conjuncts of a label are terms of the first table
-  abbrev Known : List TermId → Type 0
+  abbrev pub Known : List TermId → Type 0
   Known ts = All (λ t. t.0 < length old.terms) ts
 
   get_stays : (t : TermId) → t.0 < length old.terms → slice_get new.terms t.0 ≡ slice_get old.terms t.0
@@ -134,14 +134,14 @@ module _ (g : Flow) (old new : Table) (ext : Extends old new) where
       ∙ ap (λ (w : List ℕ). if strengthens old vs x f then x ∷ strengthened_along old (strengthened vs (record { 0 = x }) f) xs fs else w) (listed_stays vs xs fs b)
 
   -- the unwinding over either table
-  abbrev before : Unwound → Unwound
+  abbrev pub before : Unwound → Unwound
   before u = record u { terms = old }
 
-  abbrev later : Unwound → Unwound
+  abbrev pub later : Unwound → Unwound
   later u = record u { terms = new }
 
   -- every label is of terms of the first table
-  abbrev Labelled : List Vertex → Type 0
+  abbrev pub Labelled : List Vertex → Type 0
   Labelled vs = (k : ℕ) → Known (vertex_at vs k).label
 
   known_of : (fs : List TermId) → All (λ t. HasWidth old t 1) fs → Known fs
@@ -153,7 +153,7 @@ module _ (g : Flow) (old new : Table) (ext : Extends old new) where
       let (a, b) = rest_known f fs k in
       subst Known (sym (reverse-append (f ∷ []) fs)) (All-push (λ t. t.0 < length old.terms) (reverse fs) f (known_reverse fs b) a)
 
-  open_stays : (u : Unwound) (v : VertexId) → Labelled u.vertices → is_open_leaf g (later u) v ≡ is_open_leaf g (before u) v
+  pub open_stays : (u : Unwound) (v : VertexId) → Labelled u.vertices → is_open_leaf g (later u) v ≡ is_open_leaf g (before u) v
   open_stays u v k = rw (some_false_stays (vertex_at u.vertices v.0).label (k v.0)) refl
 
   can_later : (u : Unwound) (x : UnitDone) → Labelled u.vertices → Can g (before u) x → Can g (later u) x
@@ -184,7 +184,7 @@ module _ (g : Flow) (old new : Table) (ext : Extends old new) where
     misses = λ m. c.misses (meets_from store (vertex_at u.vertices w.0).label (k w.0) m);
   }
 
-  after_later : (u : Unwound) (x : UnitDone) → Can g (before u) x → after g (later u) x ≡ later (after g (before u) x)
+  pub after_later : (u : Unwound) (x : UnitDone) → Can g (before u) x → after g (later u) x ≡ later (after g (before u) x)
   after_later u (Expand v) c = refl
   after_later u (Refine v fs) c =
       let f : Known (reverse fs) = known_reverse fs (known_of fs c.terms) in
@@ -192,7 +192,7 @@ module _ (g : Flow) (old new : Table) (ext : Extends old new) where
   after_later u (CoverYes v w) c = refl
   after_later u (CoverNo v w store) c = refl
 
-  after_before : (u : Unwound) (x : UnitDone) → after g (before u) x ≡ before (after g (before u) x)
+  pub after_before : (u : Unwound) (x : UnitDone) → after g (before u) x ≡ before (after g (before u) x)
   after_before u (Expand v) = refl
   after_before u (Refine v fs) = refl
   after_before u (CoverYes v w) = refl
@@ -239,7 +239,7 @@ module _ (g : Flow) (old new : Table) (ext : Extends old new) where
     | inr ne ↦ subst (λ (y : Vertex). Known y.label) (sym (changed_other vs v j (with_children cs) ne)) (k j)
   ]
 
-  known_after : (u : Unwound) (x : UnitDone) → Can g (before u) x → Labelled u.vertices → Labelled (after g (before u) x).vertices
+  pub known_after : (u : Unwound) (x : UnitDone) → Can g (before u) x → Labelled u.vertices → Labelled (after g (before u) x).vertices
   known_after u (Expand v) c k =
       known_append (changed u.vertices v.0 (with_children (numbers_from (length u.vertices) (length (outs g (vertex_at u.vertices v.0).node))))) (leaves_of g.edges v (outs g (vertex_at u.vertices v.0).node))
       (known_changed u.vertices v.0 (numbers_from (length u.vertices) (length (outs g (vertex_at u.vertices v.0).node))) k)
@@ -261,7 +261,7 @@ module _ (g : Flow) (old new : Table) (ext : Extends old new) where
         ap (λ (w : Unwound). after_all g w xs) there ∙ b ∙ ap (λ (w : Unwound). later (after_all g w xs)) (sym same),
       )
 
-  known_start : Labelled (root_at g.entry ∷ [])
+  pub known_start : Labelled (root_at g.entry ∷ [])
   known_start zero = known_nothing
   known_start (suc k) = known_nothing
 

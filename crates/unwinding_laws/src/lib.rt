@@ -6,6 +6,7 @@
 
 ghost use Rattle.cover_engine.specs.WellLabelled.{LegalIsWellLabelled};
 ghost use Rattle.unwinding_laws.specs.Laws.{GrowingTablesKeepLegality, LegalIsATree, LegalPathsAreOfEdges};
+ghost use Rattle.unwinding_laws.specs.Steered.{GrowingTablesKeepSteering, OneMoreIsSteered};
 
 /// A legal unwinding is well labelled, whatever legal units made it: its root's label is true, each vertex's label with
 /// the edge to a child implies the child's label, a vertex has no children or one for each edge that leads on, and each
@@ -29,4 +30,14 @@ pub fn legal_is_a_tree()
 /// The edges that lead to vertices of a legal unwinding, as `Unwinding::path_to` answers them, are edges of the graph.
 pub fn legal_paths_are_of_edges()
     ensures { LegalPathsAreOfEdges }
+{}
+
+/// A legal and steered unwinding with one unit that keeps its kind's rule is steered.
+pub fn one_more_is_steered()
+    ensures { OneMoreIsSteered }
+{}
+
+/// An unwinding stays steered where further terms come to its table.
+pub fn growing_tables_keep_steering()
+    ensures { GrowingTablesKeepSteering }
 {}

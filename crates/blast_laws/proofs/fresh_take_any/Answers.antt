@@ -1,0 +1,5 @@
+use Rattle.blast_laws.proofs.Drawing as law
+use Rattle.blast_laws.proofs.fresh_take_any.Goals as goal
+
+pub returns : goal.returns
+returns c = law.fresh_take_any
