@@ -9,13 +9,18 @@
 //! about four times that of the width alone. Quotients and remainders of signed kinds are those of the operands without their
 //! signs. All else costs in proportion to the width.
 //!
-//! No contract says so: what is proved is that each call returns, and that every term that is put is well formed.
+//! What a call promises of its term holds in every store: the term's width, and its value as a function of those of the operands
+//! (`specs/Numbers`, `specs/Operations`), where the operands stand in the table and have the widths that the call asks for. Then the
+//! table stays sound.
 #![tactic(auto)]
 
 mod arithmetic;
+mod failing;
+mod single;
 mod values;
 mod words;
 
-pub use arithmetic::{Fails, Operands, negation_overflows, tests_of};
-pub use values::{converted, is_signed, narrow, promoted, widen};
+pub use arithmetic::Operands;
+pub use failing::{Fails, Tests, negation_overflows, tests_of};
+pub use values::{complement, converted, is_signed, narrow, negated, promoted, widen};
 pub use words::{SLOT_WIDTH, Words};

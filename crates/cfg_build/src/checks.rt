@@ -3,7 +3,8 @@
 use crate::layout::{Layout, elements_of, is_array, kind_of};
 use bv_term::{Term, TermId};
 use c_terms::{
-    Fails, Operands, Words, converted, is_signed, negation_overflows, promoted, tests_of, widen,
+    Fails, Operands, Tests, Words, converted, is_signed, negation_overflows, promoted, tests_of,
+    widen,
 };
 use c_tree::{BinaryOp, Crement};
 use c_typed::Object;
@@ -55,6 +56,15 @@ fn changes_tested(by: Crement, kind: Kind) -> u32 {
     } else {
         0
     }
+}
+
+fn add_check(fails: Fails, at: u32, found: &mut Vec<Check>) -> Result<(), Memory> {
+    found.push(Check {
+        kind: fails.kind,
+        at,
+        when: fails.when,
+    })?;
+    Ok(())
 }
 
 impl Ground<'_> {
@@ -161,41 +171,35 @@ impl Ground<'_> {
         at: u32,
         found: &mut Vec<Check>,
     ) -> Result<(), Memory> {
-        let mut fails: Vec<Fails> = Vec::new(*found.allocator());
-        self.operation_tests(instruction, &mut fails)?;
-        for fail in &fails {
-            found.push(Check {
-                kind: fail.kind,
-                at,
-                when: fail.when,
-            })?;
+        match self.operation_tests(instruction)? {
+            Tests::None => Ok(()),
+            Tests::One(fails) => add_check(fails, at, found),
+            Tests::Two(first, second) => {
+                add_check(first, at, found)?;
+                add_check(second, at, found)
+            }
         }
-        Ok(())
     }
 
-    fn operation_tests(
-        &mut self,
-        instruction: Instruction,
-        fails: &mut Vec<Fails>,
-    ) -> Result<(), Memory> {
+    fn operation_tests(&mut self, instruction: Instruction) -> Result<Tests, Memory> {
         match instruction {
             Instruction::Binary(slot, op, kind, _) => {
                 let left = self.slot(slot)?;
                 let right = self.slot(slot.saturating_add(1))?;
                 let operands = Operands::new(self.words, kind, self.model, left, right)?;
-                operands.tests(self.words, op, fails)
+                operands.tests(self.words, op)
             }
             Instruction::Update(slot, op, kind, _, _, _) => {
                 let operands = self.updated(slot, kind)?;
-                operands.tests(self.words, op, fails)
+                operands.tests(self.words, op)
             }
             Instruction::Change(slot, _, by, kind, _, object) if changes_tested(by, kind) > 0 => {
                 let index = self.slot(slot)?;
                 let old = self.element(object, index)?;
                 let operands = self.changed(kind, old)?;
-                operands.tests(self.words, operation_of(by), fails)
+                operands.tests(self.words, operation_of(by))
             }
-            _ => Ok(()),
+            _ => Ok(Tests::None),
         }
     }
 }

@@ -4,7 +4,7 @@ use crate::checks::{Ground, operation_of};
 use crate::layout::{is_array, kind_of};
 use bv_term::{Term, TermId};
 use c_graph::Operation;
-use c_terms::{Operands, converted, is_signed, narrow, widen};
+use c_terms::{Operands, complement, converted, is_signed, narrow, negated, widen};
 use c_tree::Crement;
 use lv_base::{Kind, Memory, width};
 use slot_code::Instruction;
@@ -129,17 +129,12 @@ impl Ground<'_> {
 
     fn negated(&mut self, slot: usize, kind: Kind) -> Result<TermId, Memory> {
         let operand = self.slot(slot)?;
-        let bits = narrow(self.words, kind, self.model, operand)?;
-        let zero = self.words.constant_of(width(kind, self.model), 0)?;
-        let negated = self.words.put(Term::Subtract(zero, bits))?;
-        widen(self.words, kind, self.model, negated)
+        negated(self.words, kind, self.model, operand)
     }
 
     fn complement(&mut self, slot: usize, kind: Kind) -> Result<TermId, Memory> {
         let operand = self.slot(slot)?;
-        let bits = narrow(self.words, kind, self.model, operand)?;
-        let turned = self.words.not(bits)?;
-        widen(self.words, kind, self.model, turned)
+        complement(self.words, kind, self.model, operand)
     }
 
     // What a call gave, or 0 where it gave nothing.

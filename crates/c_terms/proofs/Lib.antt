@@ -1,0 +1,3 @@
+pub mod Putting
+pub mod Slots
+pub mod Finding

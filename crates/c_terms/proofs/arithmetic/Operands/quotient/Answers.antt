@@ -1,0 +1,7 @@
+use Rattle.c_terms.proofs.Putting.{after}
+use Rattle.c_terms.proofs.arithmetic.Operands.quotient.Goals as goal
+
+pub returns : goal.returns
+returns c = λ s a b x h.
+    let z = c.in_ok-bits.ensures s a b x h in
+    after _ _ _ _ s _ _ z.grows (c.widen.ensures s _ z.shows)

@@ -1,0 +1,5 @@
+use Rattle.c_terms.proofs.Putting.{gives-less_signed}
+use Rattle.c_terms.proofs.words.Words.less_signed.Goals as goal
+
+pub returns : goal.returns
+returns c = λ s w a b h g. c.put.ensures.shows s _ _ (gives-less_signed _ s _ _ w a b h g)

@@ -1,0 +1,5 @@
+use Rattle.c_terms.proofs.Putting.{gives-truncate}
+use Rattle.c_terms.proofs.words.Words.truncate.Goals as goal
+
+pub returns : goal.returns
+returns c = λ s v w a e is le h. c.put.ensures.shows s _ _ (gives-truncate _ s _ _ v w a e is le h)

@@ -1,0 +1,13 @@
+pub mod Residues
+pub mod Sums
+pub mod Differences
+pub mod Orders
+pub mod Wrapping
+pub mod Shifts
+pub mod Quotients
+pub mod Products
+pub mod Answering
+pub mod Agreeing
+pub mod Shifting
+pub mod Dividing
+pub mod Whole
