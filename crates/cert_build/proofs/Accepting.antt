@@ -7,7 +7,6 @@ use Rattle.obligations.specs.Stated.{obligation_says}
 use Rattle.cert_text.specs.declared.Cert.{Cert}
 use Rattle.cert_check.specs.Answers.{IsAccepted, numbered}
 use Rattle.cert_build.specs.Proofs.{AreProofs}
-use Rattle.cert_build.proofs.Refutes.{lean_refutes}
 
 pub accepted : (g : Flow) (m : Formulas) (learn : ℕ) (c : Cert) → IsMapOf g m → IsTable m.terms → AreProofs g m learn c.logs.items
     → c.layout ≡ 2 → c.terms.items ≡ m.terms.terms → numbered c.formulas.items ≡ m.at → IsAccepted g c

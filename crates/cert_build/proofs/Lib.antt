@@ -1,3 +1,2 @@
-pub mod Refutes
 pub mod Gathering
 pub mod Accepting

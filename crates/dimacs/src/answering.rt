@@ -6,7 +6,7 @@ ghost use Rattle.dimacs.specs.Dimacs.{IsTold, status_of};
 
 use cdcl_solver::{Answer, SolveFail, solve};
 use prop::{Assignment, Clauses};
-use resolution_log::{Log, LogFail, check_log};
+use resolution_log::{Log, LogFail, check_log, laws};
 use std::alloc::{AllocError, Global};
 
 /// What is known of some clauses, with how many chains and pairs the log of it has.
@@ -60,6 +60,7 @@ pub fn tell(alloc: Global, clauses: &Clauses, learn: u64) -> Result<Told, AllocE
     requires { 0 < learn }
     ensures told { IfOk result (IsTold clauses.now) }
 {
+    laws::lean_refutes();
     match solve(alloc, clauses, learn) {
         Ok(Answer::Sat(assignment)) => Ok(Told::Satisfiable(assignment)),
         Ok(Answer::Unsat(log)) => refuted(alloc, clauses, &log),

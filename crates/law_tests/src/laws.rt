@@ -1,6 +1,6 @@
 //! Each law is there under its name, and may be called by whoever needs what it says.
 
-use bv_term::laws::{one_for_each, values_fit, values_stay, widths_stay};
+use bv_term::laws::{one_for_each, values_begin, values_fit, values_stay, widths_stay};
 use c_graph::laws::inductive_means_safe;
 use c_tokens::{has_no_other, has_one, has_spans, is_lexed};
 use c_typed::{drawn_inputs, more_turns};
@@ -24,7 +24,7 @@ use high_tree_laws::{faults, too_high};
 use jump_rules::bodies_walked;
 use name_bindings::part_by_part;
 use resolution_log::laws::{
-    cuts_stay_lean, new_by_closed_set, new_logs_are_valid, new_logs_grow, none_is_new_over_empty,
+    cuts_stay_lean, lean_refutes, new_by_closed_set, new_logs_are_valid, new_logs_grow, none_is_new_over_empty,
     propagation_stays, results_are_implied, sets_are_enough,
 };
 use run_replay::orders_agree;
@@ -176,6 +176,7 @@ fn calls_on_cycles() {
 #[test]
 fn tables_of_terms_and_graphs() {
     values_stay();
+    values_begin();
     widths_stay();
     values_fit();
     one_for_each();
@@ -192,6 +193,7 @@ fn logs_of_steps() {
     new_logs_grow();
     new_logs_are_valid();
     cuts_stay_lean();
+    lean_refutes();
 }
 
 #[test]
@@ -208,6 +210,8 @@ fn unwindings() {
     unwinding_laws::growing_tables_keep_legality();
     unwinding_laws::legal_is_a_tree();
     unwinding_laws::legal_paths_are_of_edges();
+    unwinding_laws::one_more_is_steered();
+    unwinding_laws::growing_tables_keep_steering();
 }
 
 #[test]
@@ -225,6 +229,28 @@ fn maps_and_obligations() {
     cert_check_laws::accepted_is_inductive();
     cert_check_laws::accepted_is_safe();
     cert_check_laws::accepted_is_not_refused();
+}
+
+#[test]
+fn fresh_literals() {
+    blast_laws::fresh_take_any();
+    blast_laws::fresh_stay();
+    blast_laws::any_store_and_draws();
+}
+
+#[test]
+fn pairs() {
+    pair_query::laws::pair_exact();
+    pair_query::laws::pair_read();
+}
+
+#[test]
+fn operations_of_c() {
+    word_laws::laws::conversions_agree();
+    word_laws::laws::zeros_agree();
+    word_laws::laws::operations_agree();
+    word_laws::laws::failures_agree();
+    word_laws::laws::negations_agree();
 }
 
 #[test]

@@ -10,6 +10,7 @@ use Rattle.term_laws.proofs.Made.{made}
 use Rattle.c_graph.specs.Shape.{Flow, widths_of}
 use Rattle.c_graph.specs.Steps.{IsWhole}
 use Rattle.resolution_log.specs.declared.Chain.{Chain}
+use Rattle.resolution_log.proofs.Refuting.{lean_refutes}
 use Rattle.resolution_log.proofs.Results.{refutation_sound}
 use Rattle.clause_learning.specs.Solve.{IsRefuted}
 use Rattle.reach_tree.specs.declared.vertex.VertexId.{VertexId}
@@ -20,7 +21,6 @@ use Rattle.pair_query.specs.Laws.{AllHold, AreBits, IsStoreOf, pair_of, store_re
 use Rattle.pair_query.proofs.Exact.{pair_exact, pair_read}
 use Rattle.refine.specs.Decisions.{IsClosedLabel, IsConjunct, IsSubset}
 use Rattle.refine.specs.Witnesses.{KeepsApart}
-use Rattle.refine.proofs.Refutes.{lean_refutes}
 
 abbrev Implied : Table → List TermId → List TermId → Type 0
 Implied table left right = (store : List ℕ) → IsStoreOf table store → AllHold table store left → AllHold table store right

@@ -1,22 +1,11 @@
--- A lean refutation is a refutation.
-use Rattle.std.proofs.Common.{◌≡◌, ℕ, List, [], ◌∷◌, ◌++◌, Some, refl, sym, subst, append_assoc, append-nil}
+-- The solver's refutations are lean.
+use Rattle.std.proofs.Common.{◌≡◌, ℕ, List, subst}
 use Rattle.prop.specs.declared.Lit.{Lit}
 use Rattle.resolution_log.specs.declared.Chain.{Chain}
-use Rattle.resolution_log.specs.Chains.{chain_result, results_of, IsRefutation}
+use Rattle.resolution_log.specs.Logs.{Lean}
 use Rattle.clause_learning.specs.declared.Answer.{Answer}
 use Rattle.clause_learning.specs.declared.Answer.TheVariants.{Unsat}
 use Rattle.clause_learning.specs.Solve.{IsAnswer}
-use Rattle.resolution_log.specs.Logs.{New, New.none, New.more, Lean}
 
-ended : {known rs : List (List Lit)} {log : List Chain} (last : Chain) → New known log rs → chain_result (known ++ rs) last ≡ Some [] → results_of known (log ++ (last ∷ [])) ≡ Some (rs ++ ([] ∷ []))
-ended {known} last none h = let g : chain_result known last ≡ Some [] = subst (λ x. chain_result x last ≡ Some []) (append-nil known) h in rw g refl
-ended {known} last (more {rs = rs} {ch = ch} {r = r} g d x v) h =
-    let ih = ended last v (subst (λ x. chain_result x last ≡ Some []) (sym (append_assoc known (r ∷ []) rs)) h) in
-    rw (g, ih) refl
-
-pub lean_refutes : (clauses : List (List Lit)) (log : List Chain) → Lean clauses log → IsRefutation clauses log
-lean_refutes clauses log l = (l.results, subst (λ x. results_of clauses x ≡ Some (l.results ++ ([] ∷ []))) (sym l.parts) (ended l.last l.new l.empty))
-
--- the solver's refutations are refutations
-pub unsat_refutes : (clauses : List (List Lit)) (learn : ℕ) (a : Answer) (log : List Chain) → a ≡ Unsat log → IsAnswer clauses learn a → IsRefutation clauses log
-unsat_refutes clauses learn a log e h = lean_refutes clauses log (subst (IsAnswer clauses learn) e h).0
+pub unsat_lean : (clauses : List (List Lit)) (learn : ℕ) (a : Answer) (log : List Chain) → a ≡ Unsat log → IsAnswer clauses learn a → Lean clauses log
+unsat_lean clauses learn a log e h = (subst (IsAnswer clauses learn) e h).0

@@ -19,7 +19,7 @@ use lv_base::Memory;
 use path_formula::path_clauses;
 use path_query::PathQuery;
 use reach_tree::VertexId;
-use resolution_log::Log;
+use resolution_log::{Log, laws};
 use std::alloc::Global;
 use term_copy::number_in;
 
@@ -98,6 +98,7 @@ pub fn refine_leaf(
     let path = unwinding.path_to(alloc, v).map_err(no_memory)?;
     let edges = path.edges.as_slice();
     let query = path_clauses(alloc, graph, edges).map_err(no_clauses)?;
+    laws::lean_refutes();
     match answer_to(alloc, &query.clauses, learn) {
         Ok(Answer::Sat(found)) => {
             let values = drawn_values(alloc, graph, edges, &query, &found);

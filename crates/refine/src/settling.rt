@@ -113,7 +113,7 @@ fn asked_and_kept(
     let Decision::Apart(store) = &decision else {
         return Ok(decision);
     };
-    let Ok(copy) = crate::witnesses::copied(store) else {
+    let Ok(copy) = store.copy() else {
         return Err(QueryFail::Memory);
     };
     match witnesses.keep(alloc, terms, copy) {

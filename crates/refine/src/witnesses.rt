@@ -141,14 +141,6 @@ fn known_truth(store: &Store, truths: &[Truth], terms: &Terms, term: Term) -> Tr
     }
 }
 
-// (until Store has a copy)
-pub fn copied(store: &Store) -> Result<Store, Memory>
-    ensures { IfOk result (λ s. s ≡ store.now) }
-{
-    let _ = store.cells();
-    Err(Memory)
-}
-
 impl Witness {
     // Learns the truths of the terms that the table got since.
     fn follow(&mut self, terms: &Terms) -> Result<(), Memory>
@@ -245,7 +237,7 @@ impl Witnesses {
         while number > 0 {
             number -= 1;
             if keeps_apart(&mut self.kept[number], terms, left, right)? {
-                let store = copied(&self.kept[number].store)?;
+                let store = self.kept[number].store.copy()?;
                 return Ok(Some(store));
             }
         }

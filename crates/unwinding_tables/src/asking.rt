@@ -103,7 +103,10 @@ pub(crate) fn ask(
     let found = numbers(alloc, rest)?;
     match word {
         "complete" => Ok(unwinding.complete(graph)),
-        "vertices" => Ok(is_count(&found, unwinding.vertices().len())),
+        "vertices" => Ok(
+            is_count(&found, unwinding.vertices().len())
+                && is_count(&found, unwinding.tree().vertices().len()),
+        ),
         "journal" => Ok(is_count(&found, unwinding.journal().len())),
         "terms" => Ok(found.as_slice() == [unwinding.terms().count()].as_slice()),
         _ => of_vertices(graph, unwinding, word, &found),

@@ -42,7 +42,14 @@ pub(crate) fn has_values(alloc: Global, rest: &str) -> Result<bool, RowFail> {
     let cells = number(Some(half(parts.next())?))?;
     let store = Store::new(cells, named_in(alloc, half(parts.next())?)?);
     let wanted = wides(alloc, wanted)?;
-    Ok(has_each(&store, &wanted) && store.values(alloc)?.as_slice() == wanted.as_slice())
+    let copy = store.copy()?;
+    let again = Store::new(cells, store.named().to_vec(alloc)?);
+    Ok(
+        has_each(&store, &wanted)
+            && has_each(&copy, &wanted)
+            && has_each(&again, &wanted)
+            && store.values(alloc)?.as_slice() == wanted.as_slice(),
+    )
 }
 
 /// Tries the row of a map.
