@@ -279,3 +279,14 @@ cut-told (Ok f) T cut store x y is told e h = (
   λ p. h ∙ and_from x y (told p.0 ∙ p.1) (e ∙ is.each store p.0),
 )
 cut-told (Err d) T cut store x y is told e h = tt
+
+-- a step's two cases
+pub told-joined : {E : Type 0} (r : Result Formula E) (T : Formula → List ℕ → Bool) (b : Bool) (x y : List ℕ → Bool) → b ≡ true
+    → IfOk r (λ f. (s : List ℕ) → T f s ≡ (x s && y s)) → IfOk r (λ f. (s : List ℕ) → T f s ≡ joined b (x s) (y s))
+told-joined (Ok f) T b x y e h = λ s. h s ∙ sym (ap (λ (t : Bool). joined t (x s) (y s)) e)
+told-joined (Err k) T b x y e h = tt
+
+pub told-either : {E : Type 0} (r : Result Formula E) (T : Formula → List ℕ → Bool) (b : Bool) (x y : List ℕ → Bool) → b ≡ false
+    → IfOk r (λ f. (s : List ℕ) → T f s ≡ (x s || y s)) → IfOk r (λ f. (s : List ℕ) → T f s ≡ joined b (x s) (y s))
+told-either (Ok f) T b x y e h = λ s. h s ∙ sym (ap (λ (t : Bool). joined t (x s) (y s)) e)
+told-either (Err k) T b x y e h = tt
