@@ -4,6 +4,7 @@ use Rattle.bv_term.specs.WellFormed.{IsTable}
 use Rattle.c_graph.specs.Shape.{Flow}
 use Rattle.c_graph.specs.Runs.{Formulas, IsMapOf}
 use Rattle.obligations.specs.Stated.{obligation_says}
+use Rattle.resolution_log.proofs.Refuting.{lean_refutes}
 use Rattle.cert_text.specs.declared.Cert.{Cert}
 use Rattle.cert_check.specs.Answers.{IsAccepted, numbered}
 use Rattle.cert_build.specs.Proofs.{AreProofs}

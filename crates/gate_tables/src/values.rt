@@ -52,8 +52,10 @@ fn has_value(
     let values = terms.values(alloc, cells)?;
     let mut again = Vec::new(alloc);
     terms.values_on(cells, &mut again)?;
-    Ok(values.get(id.0 as usize).copied() == Some(wanted)
-        && again.get(id.0 as usize).copied() == Some(wanted))
+    Ok(
+        values.get(id.0 as usize).copied() == Some(wanted)
+            && again.get(id.0 as usize).copied() == Some(wanted),
+    )
 }
 
 // The bits of the cells, from the first cell on.

@@ -24,8 +24,8 @@ use high_tree_laws::{faults, too_high};
 use jump_rules::bodies_walked;
 use name_bindings::part_by_part;
 use resolution_log::laws::{
-    cuts_stay_lean, lean_refutes, new_by_closed_set, new_logs_are_valid, new_logs_grow, none_is_new_over_empty,
-    propagation_stays, results_are_implied, sets_are_enough,
+    cuts_stay_lean, lean_refutes, new_by_closed_set, new_logs_are_valid, new_logs_grow,
+    none_is_new_over_empty, propagation_stays, results_are_implied, sets_are_enough,
 };
 use run_replay::orders_agree;
 use slot_laws::{code_goes_on, code_runs_as_tree, code_shaped, ranks_fall};
