@@ -1,5 +1,4 @@
 pub mod Renumbering
-pub mod Refutes
 pub mod Knowing
 pub mod Stores
 pub mod Pairs

@@ -1,12 +1,18 @@
 //! An error leaf: its path has a run, or is strengthened.
 
-ghost use Rattle.std.specs.Prelude.{◌<◌, ◌≡◌, IfOk, length, map};
+ghost use Rattle.std.specs.Prelude.{◌<◌, ◌≡◌, IfOk, OnErr, length, map, reverse};
 ghost use Rattle.bv_term.specs.Laws.{Extends};
 ghost use Rattle.c_graph.specs.Shape.{widths_of};
 ghost use Rattle.path_query.specs.Facts.{IsQuery};
 ghost use Rattle.reach_tree.specs.Trees.{IsLabel};
 ghost use Rattle.resolution_log.specs.Chains.{IsRefutation};
 ghost use Rattle.term_copy.specs.Copies.{number_in};
+ghost use Rattle.reach_tree.specs.declared.vertex.VertexId.{VertexId};
+ghost use Rattle.path_formula.specs.Questions.{question_of};
+ghost use Rattle.cover_engine.specs.Unwindings.{path_of};
+ghost use Rattle.cover_engine.specs.Units.{Legal, edges_to};
+ghost use Rattle.chain_laws.specs.Laws.{AreLinks};
+ghost use Rattle.refine.specs.Refinements.{IsRefined, IsStrengthened, OnlyGrows, edges_of};
 
 use crate::answers::{Refined, answer_to, no_clauses, no_memory};
 use crate::values::drawn_values;
@@ -19,7 +25,7 @@ use lv_base::Memory;
 use path_formula::path_clauses;
 use path_query::PathQuery;
 use reach_tree::VertexId;
-use resolution_log::{Log, laws};
+use resolution_log::Log;
 use std::alloc::Global;
 use term_copy::number_in;
 
@@ -46,10 +52,14 @@ fn formulas_of(
     requires cells { unwinding.old.terms.cells ≡ widths_of graph.now.cells }
     requires query { IsQuery (widths_of graph.now.cells) (length path.now) query.now }
     requires refuted { IsRefutation query.now.clauses log.now }
+    requires question { query.now ≡ question_of graph.now path.now }
     ensures formulas { IfOk result (IsLabel unwinding.new.terms) }
     ensures extends { Extends unwinding.old.terms unwinding.new.terms }
-    ensures vertices { unwinding.new.vertices ≡ unwinding.old.vertices }
+    ensures others { unwinding.new ≡ record unwinding.old { terms = unwinding.new.terms } }
+    ensures links { (v : VertexId) → Legal graph.now unwinding.old → v.0 < length unwinding.old.vertices → path.now ≡ edges_of unwinding.old v
+        → IfOk result (AreLinks graph.now unwinding.new v) }
 {
+    let _entry = graph.entry();
     let cells = graph.terms().cells().to_vec(alloc)?;
     let mut terms = Terms::new(alloc, cells);
     let formulas = chain(alloc, graph, path, query, log, &mut terms)?;
@@ -66,17 +76,20 @@ fn strengthen(
     v: VertexId,
     path: &[EdgeId],
     query: &PathQuery,
-    log: Log,
-) -> Result<Refined, Memory>
+    log: &Log,
+) -> Result<(), Memory>
     requires vertex { v.0 < length unwinding.old.vertices }
     requires cells { unwinding.old.terms.cells ≡ widths_of graph.now.cells }
     requires query { IsQuery (widths_of graph.now.cells) (length path.now) query.now }
-    requires refuted { IsRefutation query.now.clauses log }
+    requires refuted { IsRefutation query.now.clauses log.now }
+    requires question { query.now ≡ question_of graph.now path.now }
+    requires path { path.now ≡ edges_of unwinding.old v }
     ensures extends { Extends unwinding.old.terms unwinding.new.terms }
+    ensures strengthened { IfOk result (λ _. IsStrengthened graph.now unwinding.old unwinding.new v) }
+    ensures only { OnErr result (OnlyGrows unwinding.old unwinding.new) }
 {
-    let formulas = formulas_of(alloc, graph, unwinding, path, query, &log)?;
-    unwinding.refined(alloc, graph, v, formulas)?;
-    Ok(Refined::Strengthened(log))
+    let formulas = formulas_of(alloc, graph, unwinding, path, query, log)?;
+    unwinding.refined(alloc, graph, v, formulas)
 }
 
 /// Asks for a run of an error leaf's path. Where there is none, one Refine unit strengthens the path by formulas that one
@@ -94,20 +107,27 @@ pub fn refine_leaf(
     requires cells { unwinding.old.terms.cells ≡ widths_of graph.now.cells }
     requires learn { 0 < learn }
     ensures extends { Extends unwinding.old.terms unwinding.new.terms }
+    ensures refined { IfOk result (IsRefined graph.now unwinding.old unwinding.new v learn) }
+    ensures only { OnErr result (OnlyGrows unwinding.old unwinding.new) }
 {
-    let path = unwinding.path_to(alloc, v).map_err(no_memory)?;
+    let path = match unwinding.path_to(alloc, v) {
+        Ok(path) => path,
+        Err(end) => return Err(no_memory(end)),
+    };
     let edges = path.edges.as_slice();
-    let query = path_clauses(alloc, graph, edges).map_err(no_clauses)?;
-    laws::lean_refutes();
-    match answer_to(alloc, &query.clauses, learn) {
-        Ok(Answer::Sat(found)) => {
-            let values = drawn_values(alloc, graph, edges, &query, &found);
-            Ok(Refined::Feasible(values.map_err(no_memory)?))
-        }
-        Ok(Answer::Unsat(log)) => {
-            strengthen(alloc, graph, unwinding, v, edges, &query, log).map_err(no_memory)
-        }
-        Ok(Answer::Spent(log)) => Ok(Refined::Spent(log)),
-        Err(end) => Err(end),
+    let query = match path_clauses(alloc, graph, edges) {
+        Ok(query) => query,
+        Err(end) => return Err(no_clauses(end)),
+    };
+    match answer_to(alloc, &query.clauses, learn)? {
+        Answer::Sat(found) => match drawn_values(alloc, graph, edges, &query, &found) {
+            Ok(values) => Ok(Refined::Feasible(values)),
+            Err(end) => Err(no_memory(end)),
+        },
+        Answer::Unsat(log) => match strengthen(alloc, graph, unwinding, v, edges, &query, &log) {
+            Ok(()) => Ok(Refined::Strengthened(log)),
+            Err(end) => Err(no_memory(end)),
+        },
+        Answer::Spent(log) => Ok(Refined::Spent(log)),
     }
 }
