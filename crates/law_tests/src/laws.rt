@@ -298,3 +298,9 @@ fn clauses_of_paths() {
     path_laws::draws_are_read();
     path_laws::numbers_are_bits();
 }
+
+#[test]
+fn formulas_along_paths() {
+    chain_laws::formulas_are_linked();
+    chain_laws::formulas_make_links();
+}

@@ -1,0 +1,5 @@
+pub mod Occurring
+pub mod Reading
+pub mod Linking
+pub mod Copying
+pub mod Descending
