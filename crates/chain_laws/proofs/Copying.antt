@@ -9,7 +9,6 @@ use Rattle.interpolants.specs.Cuts.{AreFormulas}
 use Rattle.term_copy.specs.Copies.{AreCopies, number_in}
 use Rattle.cover_engine.specs.Unwindings.{is_bit, is_false_term}
 use Rattle.cover_engine.specs.Units.{EdgeImplies, begins_true}
-use Rattle.chain_laws.specs.Laws.{KeepsConstants}
 use Rattle.chain_laws.proofs.Reading.{at-all}
 
 -- lists under a function
@@ -44,13 +43,13 @@ module _ (table into : Table) (to : List TermId) (long : length to ≡ length ta
   copied-implies g e f h lf lh implies edge store draws after there whole holds leads =
       copies.values after h lh ∙ implies edge store draws after there whole (sym (copies.values store f lf) ∙ holds) leads
 
-  pub copied-true : (steps : ℕ) (fs : List TermId) → KeepsConstants table into to → AreFormulas table steps fs
+  pub copied-true : (steps : ℕ) (fs : List TermId) → AreFormulas table steps fs
       → begins_true into (map (number_in to) fs) ≡ true
-  copied-true steps [] keeps are = absurd (omega (arith, are.count))
-  copied-true steps (f ∷ fs) keeps are =
-      ap (is_bit 1) (keeps f 1 1 (is-there steps (f ∷ fs) 0 f are refl) (are.first f refl))
+  copied-true steps [] are = absurd (omega (arith, are.count))
+  copied-true steps (f ∷ fs) are =
+      ap (is_bit 1) (copies.terms f (Constant 1 1) (is-there steps (f ∷ fs) 0 f are refl) (are.first f refl))
 
-  pub copied-false : (steps : ℕ) (fs : List TermId) (f : TermId) → KeepsConstants table into to → AreFormulas table steps fs → 0 < steps
+  pub copied-false : (steps : ℕ) (fs : List TermId) (f : TermId) → AreFormulas table steps fs → 0 < steps
       → slice_get fs steps ≡ Some f → is_false_term into (number_in to f) ≡ true
-  copied-false steps fs f keeps are pos g =
-      ap (is_bit 0) (keeps f 1 0 (is-there steps fs steps f are g) (are.last f pos g))
+  copied-false steps fs f are pos g =
+      ap (is_bit 0) (copies.terms f (Constant 1 0) (is-there steps fs steps f are g) (are.last f pos g))

@@ -90,7 +90,7 @@ some-edge g [] log refuted =
 some-edge g (e ∷ path) log refuted = omega arith
 
 pub formulas_make_links : FormulasMakeLinks
-formulas_make_links g u v path table to log fs flow legal there is query refuted are made long copies keeps =
+formulas_make_links g u v path table to log fs flow legal there is query refuted are made long copies =
     let t : IsTree g u = legal_tree g u legal in
     let vs : List Vertex = u.vertices in
     let down : List ℕ = reverse (path_of vs v) in
@@ -110,11 +110,11 @@ formulas_make_links g u v path table to log fs flow legal there is query refuted
     let last : (f : TermId) → slice_get (map number fs) (length d.rest) ≡ Some f → is_false_term u.terms f ≡ true = λ f at.
     let (a, ga, ea) = map-back number fs (length d.rest) f at in
     let here : slice_get fs (length path) ≡ Some a = subst (λ (n : ℕ). slice_get fs n ≡ Some a) (sym many) ga in
-    subst (λ (x : TermId). is_false_term u.terms x ≡ true) ea (copied-false table u.terms to long copies (length path) fs a keeps are pos here) in
+    subst (λ (x : TermId). is_false_term u.terms x ≡ true) ea (copied-false table u.terms to long copies (length path) fs a are pos here) in
     let count : length (map number fs) ≡ suc (length d.rest) = map-long number fs ∙ are.count ∙ ap suc many in
     let links : Links g u.terms vs (0 ∷ d.rest) (map number fs) =
     links-down g u.terms vs 0 d.rest (map number fs) d.came count (subst (λ (es : List EdgeId). Steps g u.terms es (map number fs)) edges each) last in (
       copied-bits table u.terms to long copies (length path) fs are,
-      copied-true table u.terms to long copies (length path) fs keeps are,
+      copied-true table u.terms to long copies (length path) fs are,
       subst (λ (xs : List ℕ). Links g u.terms vs xs (map number fs)) (sym d.parts) links,
     )

@@ -1,7 +1,6 @@
 -- The formulas of a path's cuts are a chain along the path's edges.
 use Rattle.std.specs.Prelude.{ℕ, ◌<◌, ◌≡◌, true, All, List, length, map, reverse, suc, Some, slice_get}
 use Rattle.bv_term.specs.declared.term.TermId.{TermId}
-use Rattle.bv_term.specs.declared.term.Term.TheVariants.{Constant}
 use Rattle.bv_term.specs.WellFormed.{Table}
 use Rattle.c_graph.specs.declared.graph.EdgeId.{EdgeId}
 use Rattle.c_graph.specs.Shape.{Flow, HasWidth, IsFlow, widths_of}
@@ -24,12 +23,6 @@ FormulasAreLinked =
     → AreCutFormulas table (question_of g path) log fs
     → slice_get path k ≡ Some e → slice_get fs k ≡ Some f → slice_get fs (suc k) ≡ Some h → EdgeImplies g table e f h
 
--- a constant of one table is the same constant of the other, under its new number
-abbrev pub KeepsConstants : Table → Table → List TermId → Type 0
-KeepsConstants from into to =
-    (t : TermId) (w n : ℕ) → t.0 < length to → slice_get from.terms t.0 ≡ Some (Constant w n)
-    → slice_get into.terms (number_in to t).0 ≡ Some (Constant w n)
-
 -- terms with new numbers in the table of an unwinding: each is one bit wide, the first is true, and along the path down to the vertex they
 -- are links
 abbrev pub AreLinks : Flow → Unwound → VertexId → List TermId → Type 0
@@ -43,5 +36,5 @@ FormulasMakeLinks =
     → IsFlow g → Legal g u → v.0 < length u.vertices → path ≡ edges_to u.vertices (reverse (path_of u.vertices v))
     → IsQuery (widths_of g.cells) (length path) (question_of g path) → IsRefutation (question_of g path).clauses log
     → AreFormulas table (length path) fs → AreCutFormulas table (question_of g path) log fs
-    → length to ≡ length table.terms → AreCopies table u.terms to → KeepsConstants table u.terms to
+    → length to ≡ length table.terms → AreCopies table u.terms to
     → AreLinks g u v (map (number_in to) fs)
