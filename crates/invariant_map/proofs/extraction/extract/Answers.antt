@@ -8,7 +8,7 @@ use Rattle.invariant_map.proofs.Whole.{labels_placed, map_says}
 use Rattle.invariant_map.proofs.extraction.extract.Goals as goal
 
 pub needed-requires : goal.needed-requires
-needed-requires c = c._vertices-vertices.ensures.labelled
+needed-requires c = c.vertices-vertices.ensures.labelled
 
 pub joined-requires : goal.joined-requires
 joined-requires c =
@@ -19,7 +19,7 @@ joined-requires c =
     let d : AreCopies c.args.unwinding.now.terms c.copied.new.terms marks ps = subst (λ (m : List Bool). AreCopies c.args.unwinding.now.terms c.copied.new.terms m ps) c.deref.ensures.value b in
     record {
       placed = subst (λ (w : List TermId). ArePlaced c.args.unwinding.now (length c.nodes-nodes.result.now) c.copied.new.terms w) (sym c.deref-2.ensures.value)
-          (labels_placed c.args.unwinding.now (length c.nodes-nodes.result.now) c.copied.new.terms marks ps c._vertices-vertices.ensures.labelled c.in_ok-marks.ensures.length
+          (labels_placed c.args.unwinding.now (length c.nodes-nodes.result.now) c.copied.new.terms marks ps c.vertices-vertices.ensures.labelled c.in_ok-marks.ensures.length
           (c.in_ok-places.ensures.length ∙ ap length c.deref.ensures.value) c.in_ok-marks.ensures.marked d);
     }
 

@@ -15,8 +15,8 @@ invariant_of-self-2 c =
     let all : All (Contains (vertex_at c.self.inside.unwinding.vertices c.args.v).label) (vertex_at c.self.inside.unwinding.vertices c.args.w).label =
     subst (λ (vs : List Vertex). All (Contains (vertex_at vs c.args.v).label) (vertex_at vs c.args.w).label) c.vertices.ensures.value (c.has_label_of.ensures c.if-not-has_label_of.false) in
     let can : CanCover c.self.inside.graph c.self.inside.unwinding (vertex c.args.v) (vertex c.args.w) = record {
-      left = omega (arith, c.if-v-count.false, ap length c.vertices-count.ensures);
-      right = omega (arith, c.if-w-count.false, ap length c.vertices-count.ensures);
+      left = omega (arith, c.if-v-count.false, ap length c.vertices-count.ensures.value);
+      right = omega (arith, c.if-w-count.false, ap length c.vertices-count.ensures.value);
       pair = (and_parts (may_pair c.self.inside.unwinding (vertex c.args.v) (vertex c.args.w)) (not (stays_apart c.self.inside.unwinding.apart c.self.inside.unwinding.vertices (vertex c.args.v) (vertex c.args.w))) settles).0;
       implies = λ store whole. subset_meets c.self.inside.unwinding.terms store (vertex_at c.self.inside.unwinding.vertices c.args.v).label (vertex_at c.self.inside.unwinding.vertices c.args.w).label all;
     } in
