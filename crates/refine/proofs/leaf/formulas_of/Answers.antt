@@ -36,12 +36,12 @@ returns-clause-links c =
     c.new.ensures ∙ c.in_ok-numbers.ensures ∙ ap (λ (to : List TermId). map (number_in to) c.deref-2.result.now) c.deref.ensures.value
     ∙ ap (map (number_in c.in_ok-to.to.items)) c.deref-2.ensures.value in
     λ v legal lv e.
-        let links : AreLinks g grown v (map (number_in to) fs) =
-        formulas_make_links g grown v path _ to log fs c.entry-entry.ensures.flow (legal_later g old.terms c.take_terms.new.self.terms c.take_terms.ensures.extends old refl legal) lv e
-        (subst (λ (q : PathQuery). IsQuery (widths_of g.cells) (length path) q) c.requires.question c.requires.query)
-        (subst (λ (q : PathQuery). IsRefutation q.clauses log) c.requires.question c.requires.refuted)
-        c.in_ok-formulas.ensures.formulas
-        (subst (λ (q : PathQuery). AreCutFormulas _ q log fs) c.requires.question c.in_ok-formulas.ensures.meaning)
-        c.in_ok-to.ensures.count c.in_ok-to.ensures.copies in
-        subst (λ (u : Unwound). AreLinks g u v c.new.result) (sym c.take_terms.ensures.others)
-        (subst (λ (ts : List TermId). AreLinks g grown v ts) (sym named) links)
+    let links : AreLinks g grown v (map (number_in to) fs) =
+    formulas_make_links g grown v path c.chain.new.terms to log fs c.entry-entry.ensures.flow (legal_later g old.terms c.take_terms.new.self.terms c.take_terms.ensures.extends old refl legal) lv e
+    (subst (λ (q : PathQuery). IsQuery (widths_of g.cells) (length path) q) c.requires.question c.requires.query)
+    (subst (λ (q : PathQuery). IsRefutation q.clauses log) c.requires.question c.requires.refuted)
+    c.in_ok-formulas.ensures.formulas
+    (subst (λ (q : PathQuery). AreCutFormulas c.chain.new.terms q log fs) c.requires.question c.in_ok-formulas.ensures.meaning)
+    c.in_ok-to.ensures.count c.in_ok-to.ensures.copies in
+    subst (λ (u : Unwound). AreLinks g u v c.new.result) (sym c.take_terms.ensures.others)
+    (subst (λ (ts : List TermId). AreLinks g grown v ts) (sym named) links)
