@@ -84,7 +84,7 @@ fn answer<R: Print>(alloc: Global, rt: &R, source: &[u8], request: Request) -> R
         examined: &examined,
         graph: &graph,
     };
-    tell(alloc, rt, &tried, request.learn, explored)
+    tell(alloc, rt, &tried, request.learn, &explored)
 }
 
 // The data model that a word names.

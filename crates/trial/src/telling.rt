@@ -5,10 +5,9 @@ ghost use Rattle.explore.specs.Ends.{IsOverCells};
 
 use crate::certifying::{Size, Uncertified, certify};
 use crate::{Refusal, Tried};
-use c_graph::{Graph, Node};
 use cover_engine::{UnitDone, Unwinding};
 use explore::Explored;
-use lv_base::{ErrorKind, Place, place_of};
+use lv_base::{Place, place_of};
 use refine::Values;
 use run_replay::{Ending, Replay};
 use std::alloc::Global;
@@ -82,27 +81,16 @@ fn place_in(source: &[u8], at: usize) -> Place {
     place_of(source, at)
 }
 
-// The error at whose node the highest open leaf stands.
-fn last_open(graph: &Graph, unwinding: &mut Unwinding) -> Option<(ErrorKind, u32)> {
-    let leaf = unwinding.highest_open(graph)?;
-    let node = unwinding.vertices().get(leaf.0 as usize)?.node;
-    match graph.nodes().get(node.0 as usize) {
-        Some(Node::Error(kind, at)) => Some((*kind, *at)),
-        _ => None,
-    }
-}
-
-// The verdict on values that drive the program to an error: their replay has to end at the error of the highest open leaf.
+// The verdict on values that drive the program to an error: its replay has to meet one.
 fn print_error<R: Print>(
     alloc: Global,
     rt: &R,
     tried: &Tried<'_>,
-    wanted: Option<(ErrorKind, u32)>,
     values: &Values,
 ) -> Result<(), Refusal> {
     let mut replay = Replay::new(alloc, tried.examined)?;
     let printed = match replay.run(values.as_slice(), TURNS) {
-        Ending::Error(kind, at, _) if wanted == Some((kind, at)) => {
+        Ending::Error(kind, at, _) => {
             let place = place_in(tried.source, at as usize);
             let (name, line, column) = (kind.name(), place.line, place.column);
             println!(rt; "UNSAFE {name} at {line}:{column}")
@@ -140,26 +128,26 @@ pub fn tell<R: Print>(
     rt: &R,
     tried: &Tried<'_>,
     learn: u64,
-    explored: Explored,
+    explored: &Explored,
 ) -> Result<(), Refusal>
-    requires cells { IsOverCells tried.graph.now explored }
+    requires cells { IsOverCells tried.now.graph.now explored.now }
     requires learn { 0 < learn }
 {
-    let Tried {
-        source,
-        model,
-        graph,
-        ..
-    } = *tried;
     let (printed, unwinding) = match explored {
         Explored::Complete(unwinding) => {
-            let certified = certify(alloc, graph, source, model, &unwinding, learn);
+            let certified = certify(
+                alloc,
+                tried.graph,
+                tried.source,
+                tried.model,
+                unwinding,
+                learn,
+            );
             print_complete(rt, certified)?;
             (Ok(()), unwinding)
         }
-        Explored::Feasible(mut unwinding, values) => {
-            let wanted = last_open(graph, &mut unwinding);
-            print_error(alloc, rt, tried, wanted, &values)?;
+        Explored::Feasible(unwinding, values) => {
+            print_error(alloc, rt, tried, values)?;
             (Ok(()), unwinding)
         }
         Explored::Units(unwinding) => (println!(rt; "UNKNOWN units"), unwinding),
@@ -167,6 +155,6 @@ pub fn tell<R: Print>(
         Explored::Over(unwinding, count) => (println!(rt; "LIMIT 6 {count}"), unwinding),
         Explored::OverLog(unwinding, _) => (println!(rt; "LIMIT 7"), unwinding),
     };
-    print_counts(rt, &unwinding)?;
+    print_counts(rt, unwinding)?;
     printed.map_err(|_| Refusal::Output)
 }
