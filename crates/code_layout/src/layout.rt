@@ -116,12 +116,14 @@ impl Layout {
         self.index
     }
 
+    /// All cells, by number.
     pub fn cells(&self) -> &[Cell]
         ensures { result.now ≡ self.now.cells }
     {
         &self.cells
     }
 
+    /// All cells, by number. It takes no memory.
     pub fn into_cells(self) -> Vec<Cell>
         ensures { result.items ≡ self.cells }
     {

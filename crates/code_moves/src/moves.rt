@@ -131,9 +131,7 @@ impl Ground<'_> {
         match instruction {
             Instruction::Constant(slot, value) => self.constant(words, slot, value, ops),
             Instruction::Read(slot, object) => self.read(words, slot, object, ops),
-            Instruction::Element(slot, _, object, _) => {
-                self.load(words, slot, slot, object, ops)
-            }
+            Instruction::Element(slot, _, object, _) => self.load(words, slot, slot, object, ops),
             Instruction::Load(slot, object) => { self.load_behind(words, slot, object, ops) }
             Instruction::Store(slot, object) => self.store(words, slot, object, ops),
             Instruction::Convert(slot, kind) => self.convert(words, slot, kind, ops),
