@@ -245,6 +245,11 @@ fn pairs() {
 }
 
 #[test]
+fn layouts_of_code() {
+    code_layout::laws::layouts_lie();
+}
+
+#[test]
 fn operations_of_c() {
     word_laws::laws::conversions_agree();
     word_laws::laws::zeros_agree();
