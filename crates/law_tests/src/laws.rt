@@ -238,6 +238,11 @@ fn calls_as_copies() {
 }
 
 #[test]
+fn chains_of_edges() {
+    edge_chain_laws::chains_keep_errors();
+}
+
+#[test]
 fn fresh_literals() {
     blast_laws::fresh_take_any();
     blast_laws::fresh_stay();
