@@ -1,9 +1,10 @@
-ghost use Rattle.std.specs.Prelude.{◌<◌, ◌≡◌, IfOk, IsTrue, Some, length, slice_get, true};
-ghost use Rattle.c_graph.specs.declared.graph.Node.TheVariants.{Plain};
+ghost use Rattle.std.specs.Prelude.{◌<◌, ◌≡◌, IfOk, length, slice_get, true};
 ghost use Rattle.c_graph.specs.Shape.{widths_of};
 ghost use Rattle.reach_tree.specs.Trees.{vertex_at};
 ghost use Rattle.cover_engine.specs.Unwindings.{is_open_leaf};
-ghost use Rattle.explore.specs.Ends.{IsOverCells, IsReady};
+ghost use Rattle.cover_engine.specs.Units.{Legal};
+ghost use Rattle.refine.specs.Refinements.{IsErrorLeaf};
+ghost use Rattle.explore.specs.Ends.{IsOverCells, IsReady, is_plain, is_plain_at, unwinding_of};
 
 use crate::beside::Beside;
 use c_graph::{Graph, Node};
@@ -94,14 +95,10 @@ fn next_leaf(graph: &Graph, unwinding: &mut Unwinding, budget: Budget) -> Result
 
 // Whether edges lead on from the vertex's node.
 fn is_plain(graph: &Graph, unwinding: &Unwinding, v: VertexId) -> bool
-    ensures { IsTrue result → slice_get graph.now.nodes (vertex_at unwinding.now.vertices v.0).node.0 ≡ Some Plain }
+    requires { v.0 < length unwinding.now.vertices }
+    ensures { result ≡ is_plain_at graph.now unwinding.now v }
 {
-    let vertices = unwinding.vertices();
-    let number = v.0 as usize;
-    if number >= vertices.len() {
-        return false;
-    }
-    let node = vertices[number].node.0 as usize;
+    let node = unwinding.vertices()[v.0 as usize].node.0 as usize;
     let nodes = graph.nodes();
     if node >= nodes.len() {
         return false;
@@ -193,6 +190,7 @@ fn refine_at(
     budget: Budget,
 ) -> Result<(), End>
     requires leaf { leaf.0 < length work.old.unwinding.vertices }
+    requires error { IsErrorLeaf graph.now work.old.unwinding leaf }
     requires ready { IsReady graph.now work.old.unwinding work.old.witnesses }
     requires learn { 0 < budget.learn }
     ensures ready { IsReady graph.now work.new.unwinding work.new.witnesses }
@@ -209,6 +207,21 @@ fn refine_at(
     Ok(())
 }
 
+// Expands the highest open leaf, or refines it at an error.
+fn advance(alloc: Global, graph: &Graph, work: &mut Work, budget: Budget) -> Result<(), End>
+    requires ready { IsReady graph.now work.old.unwinding work.old.witnesses }
+    requires learn { 0 < budget.learn }
+    ensures ready { IsReady graph.now work.new.unwinding work.new.witnesses }
+{
+    let _entry = graph.entry();
+    let leaf = next_leaf(graph, &mut work.unwinding, budget)?;
+    if is_plain(graph, &work.unwinding, leaf) {
+        work.unwinding.expanded(alloc, graph, leaf)?;
+        return Ok(());
+    }
+    refine_at(alloc, graph, work, leaf, budget)
+}
+
 // One turn: the highest open leaf is covered, expanded or refined. Settling its pairs without covering it leaves it the highest.
 fn turn(alloc: Global, graph: &Graph, work: &mut Work, budget: Budget) -> Result<(), End>
     requires ready { IsReady graph.now work.old.unwinding work.old.witnesses }
@@ -219,12 +232,7 @@ fn turn(alloc: Global, graph: &Graph, work: &mut Work, budget: Budget) -> Result
     if is_plain(graph, &work.unwinding, first) && settle_all(alloc, graph, work, first, budget)? {
         return Ok(());
     }
-    let leaf = next_leaf(graph, &mut work.unwinding, budget)?;
-    if !is_plain(graph, &work.unwinding, leaf) {
-        return refine_at(alloc, graph, work, leaf, budget);
-    }
-    work.unwinding.expanded(alloc, graph, leaf)?;
-    Ok(())
+    advance(alloc, graph, work, budget)
 }
 
 // Makes turns until there is an end. Each makes a unit, so there are no more turns than units.
@@ -244,11 +252,13 @@ fn run(alloc: Global, graph: &Graph, work: &mut Work, budget: Budget) -> End
     }
 }
 
-/// Explores a graph from its entry, by at most so many units, each question to the solver learning at most so many clauses.
+/// Explores a graph from its entry, by at most so many units, each question to the solver learning at most so many clauses. Each unit is
+/// legal where it stands.
 pub fn explore(alloc: Global, graph: &Graph, units: u64, learn: u64) -> Result<Explored, Memory>
     requires units { 0 < units }
     requires learn { 0 < learn }
     ensures cells { IfOk result (IsOverCells graph.now) }
+    ensures legal { IfOk result (λ e. Legal graph.now (unwinding_of e)) }
 {
     let mut work = Work {
         unwinding: Unwinding::new(alloc, graph)?,
