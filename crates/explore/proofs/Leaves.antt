@@ -1,5 +1,6 @@
 -- The node of an open leaf of a legal unwinding.
-use Rattle.std.proofs.Common.{◌≡◌, ℕ, ◌<◌, ◌≤◌, ◌&&◌, ◌||◌, Bool, true, false, not, All, List, [], ◌∷◌, length, Option, Some, None, slice_get, zero, suc, refl, sym, ap, ◌∙◌, subst, arith}
+use Rattle.std.proofs.Common.{◌≡◌, ℕ, ◌<◌, ◌≤◌, ◌⊎◌, inl, inr, ◌&&◌, ◌||◌, Bool, true, false, not, All, List, [], ◌∷◌, length, Option, Some, None, slice_get, zero, suc, refl, sym, ap, ◌∙◌, subst, arith}
+use Rattle.std.proofs.lemmas.Bool.{cases_eq}
 use Rattle.std.proofs.lemmas.Option.{get_or_from_slice_get, slice_get_within}
 use Rattle.lv_base.specs.declared.fault.ErrorKind.{ErrorKind}
 use Rattle.bv_term.specs.WellFormed.{Table}
@@ -9,7 +10,7 @@ use Rattle.c_graph.specs.declared.graph.Edge.{Edge}
 use Rattle.c_graph.specs.Shape.{EdgeFits, Flow, IsFlow, IsNoCall}
 use Rattle.reach_tree.specs.declared.vertex.VertexId.{VertexId}
 use Rattle.reach_tree.specs.Trees.{target_of, vertex_at}
-use Rattle.cover_engine.specs.Unwindings.{Unwound, is_covered, is_end, is_none, is_open_leaf, some_false}
+use Rattle.cover_engine.specs.Unwindings.{Unwound, is_covered, is_end, is_none, is_open_leaf, none_open, some_false}
 use Rattle.cover_engine.specs.Units.{Legal}
 use Rattle.unwinding_laws.specs.Laws.{IsChild, IsTree}
 use Rattle.unwinding_laws.proofs.Rooting.{legal_tree}
@@ -74,3 +75,22 @@ plain_node (Some Plain) e = refl
 plain_node (Some (Error kind offset)) e = absurd cc
 plain_node (Some End) e = absurd cc
 plain_node (Some (Call f n)) e = absurd cc
+
+both-false : (a b : Bool) → b ≡ false → (a && b) ≡ false
+both-false true b e = e
+both-false false b e = refl
+
+-- an unwinding with an open leaf is not complete
+pub open_incomplete : (g : Flow) (u : Unwound) (n : ℕ) (v : VertexId) → v.0 < n → is_open_leaf g u v ≡ true → none_open g u n ≡ false
+open_incomplete g u zero v lt is-open = absurd (omega (arith, lt))
+open_incomplete g u (suc n) v lt is-open = way (cases_eq v.0 n) (λ less. open_incomplete g u n v less is-open)
+  where
+    last : VertexId
+    last = record { 0 = n }
+
+    way : (v.0 ≡ n) ⊎ (v.0 ≡ n → ⊥) → (v.0 < n → none_open g u n ≡ false) → (not (is_open_leaf g u last) && none_open g u n) ≡ false
+    way (inl e) f =
+        let same : v ≡ last = ap (λ (k : ℕ). let w : VertexId = record { 0 = k } in w) e in
+        let here : is_open_leaf g u last ≡ true = subst (λ (w : VertexId). is_open_leaf g u w ≡ true) same is-open in
+        ap (λ (b : Bool). not b && none_open g u n) here
+    way (inr n1) f = both-false (not (is_open_leaf g u last)) (none_open g u n) (f (omega (arith, lt, n1)))
