@@ -44,6 +44,7 @@ pub fn certificate(
     map: &Map,
     logs: Vec<Log>,
 ) -> Result<Cert, Memory>
+    ensures named { IfOk result (λ c. (c.hash ≡ hash) × (c.model ≡ model)) }
     ensures accepted { (g : Flow) (learn : ℕ) → IsMapOf g map.now → AreProofs g map.now learn logs.items → IfOk result (IsAccepted g) }
 {
     let _count = map.terms().count();

@@ -1,0 +1,5 @@
+pub mod Asked
+pub mod Options
+pub mod Values
+pub mod Views
+pub mod Words

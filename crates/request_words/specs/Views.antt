@@ -1,0 +1,40 @@
+-- What the program's words give, without where they lie in memory.
+use Rattle.std.specs.Option.{option_map}
+use Rattle.request_words.specs.declared.gathering.Given.{Given}
+use Rattle.request_words.specs.declared.asking.Checking.{Checking}
+use Rattle.request_words.specs.declared.asking.Verifying.{Verifying}
+use Rattle.request_words.specs.declared.asking.Asked.{Asked}
+use Rattle.request_words.specs.declared.asking.Asked.TheVariants.{Check, Verify}
+use Rattle.request_words.specs.Words as w
+use Rattle.request_words.specs.Asked as a
+
+abbrev pub given_of : Given → w.Given
+given_of given = record {
+  first = option_map (λ s. s.now) given.first;
+  second = option_map (λ s. s.now) given.second;
+  model = given.model;
+  units = given.units;
+  learn = given.learn;
+  workers = given.workers;
+  cert = option_map (λ s. s.now) given.cert;
+  run = option_map (λ s. s.now) given.run;
+  awaited = given.awaited;
+}
+
+abbrev pub checking_of : Checking → a.Checking
+checking_of c = record { source = c.source.now; cert = c.cert.now; model = c.model; workers = c.workers }
+
+abbrev pub verifying_of : Verifying → a.Verifying
+verifying_of v = record {
+  source = v.source.now;
+  model = v.model;
+  units = v.units;
+  learn = v.learn;
+  workers = v.workers;
+  cert = option_map (λ s. s.now) v.cert;
+  run = option_map (λ s. s.now) v.run;
+}
+
+abbrev pub asked_by : Asked → a.Asked
+asked_by (Check c) = a.Check (checking_of c)
+asked_by (Verify v) = a.Verify (verifying_of v)

@@ -1,0 +1,86 @@
+-- What the verdict on a source means.
+use Rattle.std.specs.Prelude.{ℕ, ◌≡◌, ◌<◌, ◌≤◌, ◌⊎◌, ◌^◌, Bool, false, nat_lt, ◌==◌, if◌then◌else◌, List, length, ℤ, Option, Some, None, Ok, Err, unsigned_abs}
+use Rattle.std.specs.List.{list_all}
+use Rattle.lv_base.specs.Place.{place_at}
+use Rattle.lv_base.specs.declared.kind.Model.{Model}
+use Rattle.lv_base.specs.declared.fault.ErrorKind.{ErrorKind}
+use Rattle.lv_base.specs.declared.place.Place.{Place}
+use Rattle.c_run.specs.Run.{End, Error}
+use Rattle.slot_code.specs.declared.reply.Ending.{Ending}
+use Rattle.slot_code.specs.declared.reply.Ending.TheVariants as ending
+use Rattle.c_typed.specs.Tree.{Program}
+use Rattle.c_typed.specs.Run.{run}
+use Rattle.c_graph.specs.Shape.{Flow}
+use Rattle.c_graph.specs.Runs.{Formulas, IsMapOf}
+use Rattle.stored_text.specs.declared.StoredFail.{StoredFail}
+use Rattle.stored_text.specs.declared.StoredFail.TheVariants as stored
+use Rattle.stored_text.specs.Writing.{write_run_of}
+use Rattle.cert_text.specs.declared.Cert.{Cert}
+use Rattle.cert_text.specs.Content.{content_of}
+use Rattle.cert_text.specs.Writing.{write_cert_of}
+use Rattle.cert_build.specs.Proofs.{HasModel}
+use Rattle.cert_verdicts.specs.Judged.{IsCertificate}
+use Rattle.source_verdicts.specs.declared.replaying.Met.{Met}
+use Rattle.verdicts.specs.declared.verdict.Verdict.{Verdict}
+use Rattle.verdicts.specs.declared.verdict.Verdict.TheVariants.{Safe, Unsafe, OutOfUnits, OutOfLearn, Unreplayed, Unproved, Accepted, Rejected, Faulty, Over, ReadFault, NoMemory}
+
+-- the text is that of a certificate of this source, which is accepted on this graph
+pub record IsProved (g : Flow) (source : List ℕ) (model : Model) (text : List ℕ) : Type 0 where
+  pub cert : Cert
+  pub written : write_cert_of (content_of cert) ≡ Ok text
+  pub is : IsCertificate g source model cert
+
+-- these values, all of them being drawn, lead the program to this error
+pub record Meets (p : Program) (source : List ℕ) (kind : ErrorKind) (place : Place) (values : List ℤ) : Type 0 where
+  pub at : ℕ
+  pub is_at : place ≡ place_at source at
+  pub turns : ℕ
+  pub ends : run turns p values ≡ Error kind at (length values)
+
+-- a value has at most twenty digits
+abbrev pub is_short_value : ℤ → Bool
+is_short_value v = nat_lt (unsigned_abs v) 100000000000000000000
+
+-- the error that a run meets once it has drawn so many values
+abbrev pub met_in : ℕ → End → Option Met
+met_in n (Error kind at drawn) = if drawn == n then Some (record { kind = kind; at = at }) else None
+met_in n _ = None
+
+-- the same of an ending without its store
+abbrev pub met_at : ℕ → Ending → Option Met
+met_at n (ending.Error kind at drawn) = if drawn == n then Some (record { kind = kind; at = at }) else None
+met_at n _ = None
+
+-- values of a path that are none of a run file, or that meet no error with some number of turns, all of them being drawn
+abbrev pub IsAstray : Program → List ℤ → Type 0
+IsAstray p values = (list_all is_short_value values ≡ false) ⊎ ((turns : ℕ) × (met_in (length values) (run turns p values) ≡ None))
+
+-- Which limit was passed: on the literals of a question or obligation, on the pairs of its log, on the bytes of a certificate
+-- that is accepted, or on the values that lead to an error.
+pub data IsLimit (p : Program) (g : Flow) (source : List ℕ) (model : Model) (number count : ℕ) : Type 0 where
+  of_literals : number ≡ 6 → IsLimit p g source model number count
+  of_pairs : number ≡ 7 → IsLimit p g source model number count
+  of_bytes : (cert : Cert) → IsCertificate g source model cert → write_cert_of (content_of cert) ≡ Err (stored.Over number count) → IsLimit p g source model number count
+  of_values : (kind : ErrorKind) (place : Place) (values : List ℤ) → Meets p source kind place values → write_run_of values ≡ Err (stored.Over number count) → IsLimit p g source model number count
+
+-- What a verdict means, on a source with this typed tree, from the graph that was made of it, with so many units and learned
+-- clauses of a question.
+abbrev pub IsVerified : Program → Flow → List ℕ → Model → ℕ → ℕ → Verdict → Type 0
+IsVerified p g source model units learn (Safe text) = IsProved g source model text
+IsVerified p g source model units learn (Unsafe kind place values text) = Meets p source kind place values × (write_run_of values ≡ Ok text)
+IsVerified p g source model units learn (OutOfUnits n) = n ≡ units
+IsVerified p g source model units learn (OutOfLearn n) = n ≡ learn
+IsVerified p g source model units learn Unreplayed = (values : List ℤ) × IsAstray p values
+IsVerified p g source model units learn (Unproved n) = (m : Formulas) × IsMapOf g m × HasModel g m n
+IsVerified p g source model units learn (Over number count) = IsLimit p g source model number count
+IsVerified p g source model units learn NoMemory = Unit {0}
+IsVerified p g source model units learn Accepted = ⊥
+IsVerified p g source model units learn (Rejected rejection) = ⊥
+IsVerified p g source model units learn (Faulty fault place) = ⊥
+IsVerified p g source model units learn ReadFault = ⊥
+
+-- the answer where a text is not written
+abbrev pub unwritten_for : StoredFail → Verdict
+unwritten_for (stored.Over number count) = Over number count
+unwritten_for (stored.Format at) = NoMemory
+unwritten_for stored.Memory = NoMemory

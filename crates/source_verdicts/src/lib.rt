@@ -1,0 +1,10 @@
+//! The verdict on a source: its graph is explored, and a complete unwinding's certificate is made and written, or the values of a path to
+//! an error are replayed.
+#![tactic(auto)]
+
+mod certifying;
+mod replaying;
+mod unwritten;
+mod verifying;
+
+pub use verifying::{Budget, verify};

@@ -1,0 +1,77 @@
+ghost use Rattle.std.specs.Prelude.{◌<◌, ◌≤◌, ◌^◌, length};
+ghost use Rattle.c_typed.specs.Parts.{tree_of};
+ghost use Rattle.source_verdicts.specs.Verified.{IsVerified};
+
+use crate::certifying::certified;
+use crate::replaying::replayed;
+use c_graph::Graph;
+use c_rules::Examined;
+use clause_learning::MOST_PAIRS;
+use explore::{Explored, explore};
+use lv_base::Model;
+use std::alloc::Global;
+use verdicts::Verdict;
+
+/// What a verification may spend: units of the method, and learned clauses of a question.
+#[derive(Clone, Copy)]
+pub struct Budget {
+    pub units: u64,
+    pub learn: u64,
+}
+
+/// The verdict on a source, by its typed tree and the graph that was made of it. Without units or learned clauses nothing is tried.
+pub fn verify(
+    alloc: Global,
+    examined: &Examined,
+    graph: &Graph,
+    source: &[u8],
+    model: Model,
+    budget: Budget,
+) -> Verdict
+    requires small { length source.now ≤ 2 ^ 20 }
+    ensures { IsVerified (tree_of examined.now.typed) graph.now source.now model budget.units budget.learn result }
+{
+    if budget.units == 0 {
+        return Verdict::OutOfUnits(0);
+    }
+    if budget.learn == 0 {
+        return Verdict::OutOfLearn(0);
+    }
+    explored(alloc, examined, graph, source, model, budget)
+}
+
+fn explored(
+    alloc: Global,
+    examined: &Examined,
+    graph: &Graph,
+    source: &[u8],
+    model: Model,
+    budget: Budget,
+) -> Verdict
+    requires small { length source.now ≤ 2 ^ 20 }
+    requires units { 0 < budget.units }
+    requires learn { 0 < budget.learn }
+    ensures { IsVerified (tree_of examined.now.typed) graph.now source.now model budget.units budget.learn result }
+{
+    match explore(alloc, graph, budget.units, budget.learn) {
+        Ok(Explored::Complete(unwinding)) => {
+            certified(alloc, graph, source, model, &unwinding, budget.learn)
+        }
+        Ok(Explored::Feasible(unwinding, values)) => {
+            let steps = steps_in(graph, unwinding.vertices().len());
+            replayed(alloc, examined, source, values.as_slice(), steps)
+        }
+        Ok(Explored::Units(_)) => Verdict::OutOfUnits(budget.units),
+        Ok(Explored::Learned(_, _)) => Verdict::OutOfLearn(budget.learn),
+        Ok(Explored::Over(_, count)) => Verdict::Over(6, count),
+        Ok(Explored::OverLog(_, _)) => Verdict::Over(7, MOST_PAIRS),
+        Err(_) => Verdict::NoMemory,
+    }
+}
+
+// A path has no more edges than there are vertices, and an edge goes over each node at most once: so many steps a walk along a path
+// has at most, and a run takes no more turns than its walk has steps.
+fn steps_in(graph: &Graph, vertices: usize) -> u64 {
+    let nodes = (graph.nodes().len() as u64).saturating_add(1);
+    nodes.saturating_mul((vertices as u64).saturating_add(1))
+}
