@@ -61,6 +61,7 @@ def translated(text, is_root, is_main):
     text = text.replace("Box::new(", "rstd::box_new(").replace("Box::into_inner(", "rstd::box_into(")
     text = re.sub(r"\.to_vec\(", ".to_vec_r(", text)
     text = re.sub(r"\.collect\((\w)", r".collect_r(\1", text)
+    text = text.replace("fmt<W: fmt::Write>(", "fmt(").replace("fmt::Formatter<W>", "fmt::Formatter<'_>")
     text = re.sub(r"\bstd::", "rstd::", text)
     text = re.sub(r"(?<![:\w])(vec|println|eprintln|format|prove)!", r"rstd::\1!", text)
     if is_main:

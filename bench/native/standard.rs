@@ -501,6 +501,8 @@ pub trait AllocGlobal {
 impl AllocGlobal for HostRuntime {}
 pub trait Print {}
 impl Print for HostRuntime {}
+pub trait Eprint {}
+impl Eprint for HostRuntime {}
 pub trait CloneR: Sized {
     fn clone(&self) -> Result<Self, AllocError>;
 }
@@ -511,7 +513,8 @@ impl CloneR for HostRuntime {
 }
 pub mod prelude {
     pub use crate::{
-        eprintln, format, println, prove, vec, AllocGlobal, CloneR, HostRuntime, IterExt, Print,
+        eprintln, format, println, prove, vec, AllocGlobal, CloneR, Eprint, HostRuntime, IterExt,
+        Print,
         SliceExt, String, Vec,
     };
 }

@@ -12,4 +12,5 @@ mod witnesses;
 pub use answers::{Refined, Settled, Values};
 pub use leaf::refine_leaf;
 pub use settling::{settle, settle_with};
+pub use values::drawn_values;
 pub use witnesses::Witnesses;

@@ -66,3 +66,9 @@ pub fn blocks_of(alloc: Global, examined: &Examined) -> Result<Graph, SourceFail
         Err(Memory) => Err(SourceFail::Memory),
     }
 }
+
+/// The graph of the blocks of a source that breaks no rule.
+pub fn source_blocks(alloc: Global, source: &[u8], model: Model) -> Result<Graph, SourceFail> {
+    let examined = examined(alloc, source, model)?;
+    blocks_of(alloc, &examined)
+}
