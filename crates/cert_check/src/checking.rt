@@ -14,8 +14,8 @@ use obligations::obligation_count;
 use resolution_log::Log;
 use std::alloc::Global;
 
-// Checks the obligations, one after another.
-fn check_logs(alloc: Global, graph: &Graph, map: &Map, logs: &[Log]) -> Result<(), CheckFail>
+/// Checks the obligations, one after another.
+pub fn check_logs(alloc: Global, graph: &Graph, map: &Map, logs: &[Log]) -> Result<(), CheckFail>
     requires map { IsMapOf graph.now map.now }
     requires all { length logs.now ≡ count_of graph.now }
     requires few { length logs.now ≤ 2147483648 }

@@ -9,8 +9,10 @@ mod fails;
 mod map;
 mod one;
 
-pub use checking::check;
+pub use checking::{check, check_logs};
 pub use fails::{CheckFail, MapFault};
+pub use map::{count_logs, map_of};
+pub use one::check_one;
 
 /// The number of the layout that a certificate is to have: that of graphs whose blocks are joined.
 pub const JOINED_LAYOUT: u32 = 2;
