@@ -1,10 +1,18 @@
 //! The nodes and edges of one instruction.
 
-ghost use Rattle.std.specs.Prelude.{◌∷◌, [], List, ℕ, IfOk};
+ghost use Rattle.std.specs.Prelude.{◌≡◌, ◌==◌, ◌∷◌, [], List, ℕ, IfOk};
 ghost use Rattle.c_graph.specs.declared.graph.Node.TheVariants as Node;
+ghost use Rattle.lv_base.specs.Integers.{residue};
+ghost use Rattle.bv_term.specs.Numbers.{truth};
+ghost use Rattle.c_terms.specs.Numbers.{nonzero};
 ghost use Rattle.c_terms.specs.Shown.{Grows};
+ghost use Rattle.c_terms.specs.declared.failing.Tests.TheVariants as Tests;
+ghost use Rattle.c_graph.specs.declared.graph.Operation.TheVariants as Operation;
+ghost use Rattle.code_moves.specs.Setting.{setting_of, Stands};
+ghost use Rattle.code_moves.specs.Values.{slot_value};
 ghost use Rattle.code_moves.specs.Deeds.{Tells};
-ghost use Rattle.cfg_build.specs.Steps.{Adds, Branches, edge, node_id, next_of};
+ghost use Rattle.cfg_build.specs.Steps as s;
+ghost use Rattle.cfg_build.specs.Steps.{Adds, Behind, Built, Checked, Fork, Goes, IsTurned, Way, edge, node_id, next_of};
 
 use crate::draft::Draft;
 use bv_term::TermId;
@@ -45,19 +53,31 @@ pub(crate) fn nodes_at(instruction: Instruction) -> u32 {
 }
 
 // The offset at which the checks of an instruction fail.
-fn offset_of(instruction: Instruction) -> u32 {
+fn offset_of(instruction: Instruction) -> u32
+    ensures { result ≡ s.offset_of instruction }
+{
     match instruction {
-        Instruction::Element(_, at, _, _) | Instruction::Locate(_, at, _, _) => at,
-        Instruction::Negate(_, _, at) | Instruction::Binary(_, _, _, at) => at,
-        Instruction::Update(_, _, _, _, at, _) | Instruction::Change(_, _, _, _, at, _) => at,
+        Instruction::Element(_, at, _, _) => at,
+        Instruction::Locate(_, at, _, _) => at,
+        Instruction::Negate(_, _, at) => at,
+        Instruction::Binary(_, _, _, at) => at,
+        Instruction::Update(_, _, _, _, at, _) => at,
+        Instruction::Change(_, _, _, _, at, _) => at,
         Instruction::Take(_, at, _, _) => at,
-        _ => 0,
+        Instruction::Constant(_, _) | Instruction::Read(_, _) | Instruction::Load(_, _) => 0,
+        Instruction::Store(_, _) | Instruction::Convert(_, _) => 0,
+        Instruction::Complement(_, _, _) | Instruction::Not(_) | Instruction::Truth(_) => 0,
+        Instruction::Draw(_, _) | Instruction::Fill(_, _, _) => 0,
+        Instruction::Begin(_, _, _, _) | Instruction::Bind(_, _) | Instruction::Jump(_) => 0,
+        Instruction::Turn(_, _) | Instruction::SkipZero(_, _) => 0,
+        Instruction::SkipEqual(_, _, _) | Instruction::Call(_, _, _) => 0,
+        Instruction::Return(_) | Instruction::Fail(_, _) | Instruction::Stop => 0,
     }
 }
 
 /// A node from which one edge leads on.
 pub(crate) fn add_way(draft: &mut Draft, to: NodeId) -> Result<(), Memory>
-    ensures { IfOk result (λ u. Adds draft.old draft.new (Node.Plain ∷ []) (edge (node_id (next_of draft.old)) to [] ∷ [])) }
+    ensures { IfOk result (λ u. Built draft.old draft.new (Way to)) }
 {
     let from = draft.node(Node::Plain)?;
     draft.plain_edge(from, to)?;
@@ -73,7 +93,7 @@ fn add_branch(
     other: NodeId,
 ) -> Result<(), Memory>
     ensures { (f : List ℕ → ℕ) → Tells words.old.terms test 1 f
-        → IfOk result (λ u. Grows words.old words.new × Branches words.new.terms draft.old draft.new test to other) }
+        → IfOk result (λ u. Grows words.old words.new × Built draft.old draft.new (Fork words.new.terms f to other)) }
 {
     let from = draft.node(Node::Plain)?;
     draft.edge_if(from, to, Operation::Assume(test))?;
@@ -90,7 +110,10 @@ pub(crate) fn add_skip_zero(
     ground: &Ground<'_>,
     words: &mut Words,
     draft: &mut Draft,
-) -> Result<(), Memory> {
+) -> Result<(), Memory>
+    ensures { Stands (setting_of ground.now) words.old
+        → IfOk result (λ u. Grows words.old words.new × Built draft.old draft.new (Fork words.new.terms (λ store. nonzero (slot_value (setting_of ground.now) store slot)) next to)) }
+{
     let value = ground.slot(words, slot)?;
     let is_zero = words.is_zero(value)?;
     let is_true = words.not(is_zero)?;
@@ -106,23 +129,100 @@ pub(crate) fn add_skip_equal(
     ground: &Ground<'_>,
     words: &mut Words,
     draft: &mut Draft,
-) -> Result<(), Memory> {
+) -> Result<(), Memory>
+    ensures { Stands (setting_of ground.now) words.old
+        → IfOk result (λ u. Grows words.old words.new × Built draft.old draft.new (Fork words.new.terms (λ store. truth (slot_value (setting_of ground.now) store slot == residue 64 value)) to next)) }
+{
     let held = ground.slot(words, slot)?;
     let wanted = words.constant(value)?;
     let is_equal = words.equal(held, wanted)?;
     add_branch(words, draft, is_equal, to, next)
 }
 
-// The error of a check, to which an edge leads from a node; answers the operation that goes on where the check passes.
+// The error of a check, to which an edge leads from a node; answers the term that is 1 where the check passes.
 fn add_check(
     words: &mut Words,
     draft: &mut Draft,
     from: NodeId,
     fails: Fails,
     at: u32,
-) -> Result<Operation, Memory> {
+) -> Result<TermId, Memory>
+    ensures passes { (f : List ℕ → ℕ) → Tells words.old.terms fails.when 1 f
+        → IfOk result (λ t. Grows words.old words.new × IsTurned words.new.terms t fails.when) }
+    ensures adds { IfOk result (λ t. Adds draft.old draft.new (Node.Error fails.kind at ∷ []) (edge from (node_id (next_of draft.old)) (Operation.Assume fails.when ∷ []) ∷ [])) }
+{
     draft.error(from, Operation::Assume(fails.when), fails.kind, at)?;
-    Ok(Operation::Assume(words.not(fails.when)?))
+    let passed = words.not(fails.when)?;
+    Ok(passed)
+}
+
+// The edge of an instruction from its last node on: what it does, behind these operations.
+fn add_last(
+    alloc: Global,
+    instruction: Instruction,
+    from: NodeId,
+    next: NodeId,
+    ground: &Ground<'_>,
+    words: &mut Words,
+    draft: &mut Draft,
+    first: Vec<Operation>,
+) -> Result<(), Memory>
+    ensures { Stands (setting_of ground.now) words.old
+        → IfOk result (λ u. Grows words.old words.new × Goes (setting_of ground.now) words.new.terms draft.old draft.new instruction from next first.items) }
+{
+    let mut moves = Vec::new(alloc);
+    ground.moves(words, instruction, &mut moves)?;
+    let mut ops = first;
+    ops.extend_from_slice(&moves)?;
+    draft.edge(from, next, ops)?;
+    Ok(())
+}
+
+// One check, and then what the instruction does.
+fn checked_once(
+    alloc: Global,
+    instruction: Instruction,
+    next: NodeId,
+    fails: Fails,
+    ground: &Ground<'_>,
+    words: &mut Words,
+    draft: &mut Draft,
+) -> Result<(), Memory>
+    ensures { (f : List ℕ → ℕ) → Stands (setting_of ground.now) words.old → Tells words.old.terms fails.when 1 f
+        → IfOk result (λ u. Grows words.old words.new × Built draft.old draft.new (Behind (setting_of ground.now) words.new.terms instruction next (Tests.One fails))) }
+{
+    let from = draft.node(Node::Plain)?;
+    let passed = add_check(words, draft, from, fails, offset_of(instruction))?;
+    let mut ops = Vec::new(alloc);
+    ops.push(Operation::Assume(passed))?;
+    add_last(alloc, instruction, from, next, ground, words, draft, ops)?;
+    Ok(())
+}
+
+// Two checks one after the other, and then what the instruction does.
+fn checked_twice(
+    alloc: Global,
+    instruction: Instruction,
+    next: NodeId,
+    first: Fails,
+    second: Fails,
+    ground: &Ground<'_>,
+    words: &mut Words,
+    draft: &mut Draft,
+) -> Result<(), Memory>
+    ensures { (f h : List ℕ → ℕ) → Stands (setting_of ground.now) words.old → Tells words.old.terms first.when 1 f → Tells words.old.terms second.when 1 h
+        → IfOk result (λ u. Grows words.old words.new × Built draft.old draft.new (Behind (setting_of ground.now) words.new.terms instruction next (Tests.Two first second))) }
+{
+    let at = offset_of(instruction);
+    let from = draft.node(Node::Plain)?;
+    let passed = add_check(words, draft, from, first, at)?;
+    let between = draft.node(Node::Plain)?;
+    draft.edge_if(from, between, Operation::Assume(passed))?;
+    let last = add_check(words, draft, between, second, at)?;
+    let mut ops = Vec::new(alloc);
+    ops.push(Operation::Assume(last))?;
+    add_last(alloc, instruction, between, next, ground, words, draft, ops)?;
+    Ok(())
 }
 
 /// The node of an instruction that goes on behind itself, with its checks.
@@ -133,25 +233,29 @@ pub(crate) fn add_moves(
     ground: &Ground<'_>,
     words: &mut Words,
     draft: &mut Draft,
-) -> Result<(), Memory> {
+) -> Result<(), Memory>
+    ensures { Stands (setting_of ground.now) words.old
+        → IfOk result (λ u. Grows words.old words.new × Built draft.old draft.new (Checked (setting_of ground.now) words.new.terms instruction next)) }
+{
     let tests = ground.checks(words, instruction)?;
-    let at = offset_of(instruction);
-    let from = draft.node(Node::Plain)?;
-    let mut ops = Vec::new(alloc);
-    let last = match tests {
-        Tests::None => from,
-        Tests::One(fails) => {
-            ops.push(add_check(words, draft, from, fails, at)?)?;
-            from
+    match tests {
+        Tests::None => {
+            let from = draft.node(Node::Plain)?;
+            let ops = Vec::new(alloc);
+            add_last(alloc, instruction, from, next, ground, words, draft, ops)
         }
+        Tests::One(fails) => checked_once(alloc, instruction, next, fails, ground, words, draft),
         Tests::Two(first, second) => {
-            let passed = add_check(words, draft, from, first, at)?;
-            let between = draft.node(Node::Plain)?;
-            draft.edge_if(from, between, passed)?;
-            ops.push(add_check(words, draft, between, second, at)?)?;
-            between
+            checked_twice(
+                alloc,
+                instruction,
+                next,
+                first,
+                second,
+                ground,
+                words,
+                draft,
+            )
         }
-    };
-    ground.moves(words, instruction, &mut ops)?;
-    draft.edge(last, next, ops)
+    }
 }

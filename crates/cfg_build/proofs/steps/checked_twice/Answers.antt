@@ -1,0 +1,36 @@
+use Rattle.std.proofs.Common.{refl, ap, ◌∙◌, ◌∷◌, [], ◌++◌, List}
+use Rattle.c_graph.specs.declared.graph.Operation.{Operation}
+use Rattle.c_graph.specs.declared.graph.Operation.TheVariants.{Assume}
+use Rattle.c_terms.proofs.Putting.{grows-twice}
+use Rattle.code_moves.proofs.Standing.{stand-later}
+use Rattle.code_moves.proofs.Doing.{tells-later}
+use Rattle.cfg_build.proofs.Adding.{turned-later, twice}
+use Rattle.cfg_build.proofs.steps.checked_twice.Goals as goal
+
+pub returns : goal.returns
+returns c = λ f1 f2 h t1 t2.
+    let k = c.in_ok-passed.ensures.passes f1 t1 in
+    let m = c.in_ok-last.ensures.passes f2 (tells-later _ _ _ 1 f2 k.0 t2) in
+    let km = grows-twice _ _ _ k.0 m.0 in
+    let l = c.in_ok-add_last.ensures (stand-later _ _ _ km h) in (
+      grows-twice _ _ _ km l.0,
+      record {
+        nodes = _;
+        edges = _;
+        adds = twice _ _ _ _ _ _ _ _ _ _ _ _ c.in_ok-passed.passed c.in_ok-last.last _ _ _ _ _ l.1.ops c.in_ok-from.ensures.number c.in_ok-between.ensures.number c.offset_of-at.ensures
+            (c.in_ok-push.ensures.items ∙ ap (λ (xs : List Operation). xs ++ Assume c.in_ok-last.last ∷ []) c.new-ops.ensures.items)
+            c.in_ok-from.ensures.adds c.in_ok-passed.ensures.adds c.in_ok-between.ensures.adds c.in_ok-edge_if.ensures c.in_ok-last.ensures.adds l.1.adds;
+        form = record {
+          passed = c.in_ok-passed.passed;
+          last = c.in_ok-last.last;
+          ops = l.1.ops;
+          passes = (
+            turned-later _ _ _ _ f1 (grows-twice _ _ _ m.0 l.0) (tells-later _ _ _ 1 f1 k.0 t1) k.1,
+            turned-later _ _ _ _ f2 l.0 (tells-later _ _ _ 1 f2 km t2) m.1,
+          );
+          does = l.1.does;
+          nodes_are = refl;
+          edges_are = refl;
+        };
+      },
+    )
