@@ -1,0 +1,9 @@
+//! Tests of the check of certificates by workers: that they run beside each other, and that their answer is that of one.
+#![tactic(auto)]
+
+#[cfg(test)]
+mod answers;
+#[cfg(test)]
+mod beside;
+#[cfg(test)]
+mod certs;
