@@ -4,6 +4,7 @@ ghost use Rattle.std.specs.Prelude.{◌≡◌, length};
 ghost use Rattle.c_graph.specs.Shape.{widths_of};
 ghost use Rattle.path_query.specs.Facts.{IsQuery};
 ghost use Rattle.resolution_log.specs.Chains.{IsRefutation};
+ghost use Rattle.clause_learning.specs.Solve.{IsAnswer};
 
 use crate::finding::error_paths;
 use crate::linking::{LEARN, is_constant, is_link};
@@ -17,6 +18,17 @@ use refine::drawn_values;
 use resolution_log::Log;
 use row_text::RowFail;
 use std::alloc::Global;
+
+// What was found of a path.
+#[derive(Drop)]
+enum Found {
+    // It was refuted, with formulas that are a chain.
+    Refuted,
+    // It has a run, which draws these values.
+    Run(Vec<i128>),
+    // It had no answer, or formulas that are no chain.
+    Other,
+}
 
 /// What became of some paths.
 #[derive(Drop)]
@@ -81,31 +93,52 @@ fn is_chain(
     )
 }
 
-// Tries one path.
-fn try_path(
+// What the solver says of a path.
+fn judged(
     alloc: Global,
     graph: &Graph,
     path: &[EdgeId],
-    tally: &mut Tally,
-) -> Result<(), RowFail> {
-    let query = path_clauses(alloc, graph, path)?;
-    match solve(alloc, &query.clauses, LEARN) {
-        Ok(Answer::Unsat(log)) => {
-            if is_chain(alloc, graph, path, &query, &log)? {
-                tally.refuted = tally.refuted.saturating_add(1);
-                return Ok(());
+    query: &PathQuery,
+    answer: Answer,
+) -> Result<Found, RowFail>
+    requires query { IsQuery (widths_of graph.now.cells) (length path.now) query.now }
+    requires answer { IsAnswer query.now.clauses 1000000 answer }
+{
+    match answer {
+        Answer::Unsat(log) => {
+            if is_chain(alloc, graph, path, query, &log)? {
+                Ok(Found::Refuted)
+            } else {
+                Ok(Found::Other)
             }
         }
-        Ok(Answer::Sat(found)) => {
-            let values = drawn_values(alloc, graph, path, &query, &found)?;
-            tally.values = values.as_slice().to_vec(alloc)?;
-            tally.reached = tally.reached.saturating_add(1);
-            return Ok(());
+        Answer::Sat(found) => {
+            let values = drawn_values(alloc, graph, path, query, &found)?;
+            Ok(Found::Run(values.as_slice().to_vec(alloc)?))
         }
-        _ => {}
+        Answer::Spent(_log) => Ok(Found::Other),
     }
-    tally.others = tally.others.saturating_add(1);
-    Ok(())
+}
+
+// Asks the solver for a run of a path.
+fn ask(alloc: Global, graph: &Graph, path: &[EdgeId]) -> Result<Found, RowFail> {
+    let query = path_clauses(alloc, graph, path)?;
+    match solve(alloc, &query.clauses, LEARN) {
+        Ok(answer) => judged(alloc, graph, path, &query, answer),
+        Err(_fail) => Ok(Found::Other),
+    }
+}
+
+// Counts what was found of a path.
+fn count(tally: &mut Tally, found: Found) {
+    match found {
+        Found::Refuted => tally.refuted = tally.refuted.saturating_add(1),
+        Found::Run(values) => {
+            tally.values = values;
+            tally.reached = tally.reached.saturating_add(1);
+        }
+        Found::Other => tally.others = tally.others.saturating_add(1),
+    }
 }
 
 /// Tries each path of at most so many edges that leads from the entry to an error.
@@ -117,7 +150,8 @@ pub(crate) fn try_paths(alloc: Global, graph: &Graph, most: u32) -> Result<Tally
         values: Vec::new(alloc),
     };
     for path in &error_paths(alloc, graph, most as usize)? {
-        try_path(alloc, graph, path, &mut tally)?;
+        let found = ask(alloc, graph, path)?;
+        count(&mut tally, found);
     }
     Ok(tally)
 }
