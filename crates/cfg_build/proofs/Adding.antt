@@ -30,7 +30,7 @@ nodes-equal a b ns ms es e h = subst (λ (xs : List Node). Adds a b xs es) e h
 
 -- ---- Numbers
 
-next-more : (a b : Draft) (ns : List Node) (es : List Edge) → Adds a b ns es → next_of b ≡ next_of a + length ns
+pub next-more : (a b : Draft) (ns : List Node) (es : List Edge) → Adds a b ns es → next_of b ≡ next_of a + length ns
 next-more a b ns es h = ap length h.nodes_are ∙ length-append a.nodes.items ns
 
 -- ---- Checks

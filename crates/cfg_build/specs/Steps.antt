@@ -31,6 +31,9 @@ pub record Adds (old new : Draft) (nodes : List Node) (edges : List Edge) : Type
   pub nodes_are : new.nodes.items ≡ old.nodes.items ++ nodes
   pub edges_are : new.edges.items ≡ old.edges.items ++ edges
 
+abbrev pub IsEmpty : Draft → Type 0
+IsEmpty d = (d.nodes.items ≡ []) × (d.edges.items ≡ [])
+
 -- the number of the next node
 abbrev pub next_of : Draft → ℕ
 next_of d = length d.nodes.items

@@ -2,7 +2,8 @@
 
 use crate::draft::Draft;
 use crate::looping::loops_in;
-use crate::steps::{add_moves, add_skip_equal, add_skip_zero, add_way, nodes_at};
+use crate::placing::{Places, Range, Whole, add_places, node_of};
+use crate::steps::nodes_at;
 use bv_term::Terms;
 use c_graph::{FnGraph, FnGraphs, LoopAt, Node, NodeId, Operation, function_graphs_from};
 use c_rules::Examined;
@@ -10,7 +11,7 @@ use c_terms::Words;
 use c_typed::{Object, Owner, Typed};
 use code_layout::{Layout, elements_of, widths_of};
 use code_moves::Ground;
-use lv_base::{Memory, SourceFail, width};
+use lv_base::{Memory, Model, SourceFail, width};
 use slot_code::Instruction;
 use slot_compiler::{Code, compiled, slots_in};
 use slot_values::Link;
@@ -21,24 +22,6 @@ const MOST_NODES: u64 = 65_536;
 
 /// The limit on nodes.
 const NODES: u8 = 5;
-
-/// The code of one function: the places from its first on up to its end.
-#[derive(Clone, Copy)]
-struct Range {
-    function: u32,
-    entry: usize,
-    end: usize,
-}
-
-/// Where everything in the code of the whole program stands.
-#[derive(Clone, Copy)]
-struct Places<'a> {
-    code: &'a [Instruction],
-    // the number of each place's node in the graph of its function
-    numbers: &'a [u32],
-    // the function that begins at a place
-    entries: &'a [Option<u32>],
-}
 
 /// The graphs of a program's functions, by their numbers.
 ///
@@ -56,17 +39,18 @@ pub fn build(alloc: Global, examined: &Examined) -> Result<FnGraphs, SourceFail>
     let entries = entries_of(alloc, &code)?;
     let widths = widths_of(alloc, layout.cells())?;
     let mut words = Words::new(Terms::new(alloc, widths));
-    let places = Places {
+    let whole = Whole {
         code: &code.instructions,
         numbers: &numbers,
         entries: &entries,
+        ranges: &ranges,
     };
     let ground = Ground {
         objects,
         model,
         layout: &layout,
     };
-    let (graphs, exits) = graphs_of(alloc, typed, &places, &ranges, main, &ground, &mut words)?;
+    let Graphs { graphs, exits } = graphs_of(alloc, typed, &whole, main, &ground, &mut words)?;
     // graphs over terms that are not well formed count for nothing: without a graph the parts make none
     let graphs = if words.is_sound() {
         graphs
@@ -167,32 +151,89 @@ fn number_all(code: &[Instruction], range: Range, first: u32, numbers: &mut Vec<
     number
 }
 
-// The graph of each function, and the nodes at which they return.
+// The graphs of functions, and the node at which each returns.
+#[derive(Drop)]
+struct Graphs {
+    graphs: Vec<FnGraph>,
+    exits: Vec<NodeId>,
+}
+
+impl Graphs {
+    fn new(alloc: Global) -> Graphs {
+        Graphs {
+            graphs: Vec::new(alloc),
+            exits: Vec::new(alloc),
+        }
+    }
+}
+
+// The graph of each function. There is none where nodes have other numbers than their places: in the code of a program they have not.
 fn graphs_of(
     alloc: Global,
     typed: &Typed,
-    places: &Places<'_>,
-    ranges: &[Range],
+    whole: &Whole<'_>,
     main: u32,
     ground: &Ground<'_>,
     words: &mut Words,
-) -> Result<(Vec<FnGraph>, Vec<NodeId>), Memory> {
-    let mut graphs = Vec::new(alloc);
-    let mut exits = Vec::new(alloc);
-    for range in ranges {
-        let mut draft = Draft::new(alloc);
-        if range.function == main {
-            add_opening(alloc, typed, ground, words, &mut draft)?;
-        }
-        let exit = add_places(alloc, places, *range, ground, words, &mut draft)?;
-        if range.function == main {
-            let loops = main_loops(alloc, typed, main)?;
-            add_loops(places, *range, &loops, &mut draft)?;
-        }
-        graphs.push(draft.into_graph())?;
-        exits.push(exit)?;
+) -> Result<Graphs, Memory> {
+    let mut all = Graphs::new(alloc);
+    for number in 0..whole.ranges.len() {
+        let range = whole.ranges[number];
+        let places = places_of(whole, range, NodeId(u32::from(range.function == main)));
+        let Some(graph) = graph_of(alloc, typed, &places, main, ground, words)? else {
+            return Ok(Graphs::new(alloc));
+        };
+        all.graphs.push(graph)?;
+        all.exits.push(places.exit)?;
     }
-    Ok((graphs, exits))
+    Ok(all)
+}
+
+fn graph_of(
+    alloc: Global,
+    typed: &Typed,
+    places: &Places<'_>,
+    main: u32,
+    ground: &Ground<'_>,
+    words: &mut Words,
+) -> Result<Option<FnGraph>, Memory> {
+    if places.range.function == main {
+        main_graph(alloc, typed, places, main, ground, words)
+    } else {
+        own_graph(alloc, places, ground, words)
+    }
+}
+
+// The graph of a function that is not `main`.
+fn own_graph(
+    alloc: Global,
+    places: &Places<'_>,
+    ground: &Ground<'_>,
+    words: &mut Words,
+) -> Result<Option<FnGraph>, Memory> {
+    let mut draft = Draft::new(alloc);
+    if !add_places(alloc, places, ground, words, &mut draft)? {
+        return Ok(None);
+    }
+    Ok(Some(draft.into_graph(Vec::new(alloc))))
+}
+
+fn main_graph(
+    alloc: Global,
+    typed: &Typed,
+    places: &Places<'_>,
+    main: u32,
+    ground: &Ground<'_>,
+    words: &mut Words,
+) -> Result<Option<FnGraph>, Memory> {
+    let mut draft = Draft::new(alloc);
+    add_opening(alloc, ground, words, &mut draft)?;
+    if !add_places(alloc, places, ground, words, &mut draft)? {
+        return Ok(None);
+    }
+    let loops = main_loops(alloc, typed, main)?;
+    let loops = loops_at(alloc, places, &loops)?;
+    Ok(Some(draft.into_graph(loops)))
 }
 
 // The offsets of the loops in the body of `main`.
@@ -207,38 +248,61 @@ fn main_loops(alloc: Global, typed: &Typed, main: u32) -> Result<Vec<u32>, Memor
 // The node at which `main` begins, with an edge that gives each element its first value.
 fn add_opening(
     alloc: Global,
-    typed: &Typed,
     ground: &Ground<'_>,
     words: &mut Words,
     draft: &mut Draft,
 ) -> Result<(), Memory> {
     let from = draft.node(Node::Plain)?;
-    let mut ops = Vec::new(alloc);
-    for (number, object) in typed.objects().iter().enumerate() {
-        let Ok(number) = u32::try_from(number) else {
-            return Err(Memory);
-        };
-        open_object(number, object, ground, words, &mut ops)?;
-    }
+    let ops = opening(alloc, ground, words)?;
     let to = draft.next()?;
-    draft.edge(from, to, ops)
+    draft.edge(from, to, ops)?;
+    Ok(())
+}
+
+// Operations that give each element its first value.
+fn opening(
+    alloc: Global,
+    ground: &Ground<'_>,
+    words: &mut Words,
+) -> Result<Vec<Operation>, Memory> {
+    let mut ops = Vec::new(alloc);
+    for number in 0..ground.objects.len() {
+        open_object(number, &ground.objects[number], ground, words, &mut ops)?;
+    }
+    Ok(ops)
 }
 
 fn open_object(
-    number: u32,
+    number: usize,
     object: &Object,
     ground: &Ground<'_>,
     words: &mut Words,
     ops: &mut Vec<Operation>,
 ) -> Result<(), Memory> {
-    let bits = width(object.kind, ground.model);
-    let Some(first) = ground.layout.first(number) else {
-        return Ok(());
+    let Ok(number) = u32::try_from(number) else {
+        return Err(Memory);
     };
+    match ground.layout.first(number) {
+        None => Ok(()),
+        Some(first) => open_elements(first, object, ground.model, words, ops),
+    }
+}
+
+// Each element of an object, whose first cell is known, gets its first value.
+fn open_elements(
+    first: u32,
+    object: &Object,
+    model: Model,
+    words: &mut Words,
+    ops: &mut Vec<Operation>,
+) -> Result<(), Memory> {
+    let bits = width(object.kind, model);
     for element in 0..elements_of(object) {
-        let value = first_value(object, element);
-        let value = words.constant_of(bits, value)?;
-        ops.push(Operation::Set(first.saturating_add(element), value))?;
+        let value = words.constant_of(bits, first_value(object, element))?;
+        let Some(cell) = first.checked_add(element) else {
+            return Err(Memory);
+        };
+        ops.push(Operation::Set(cell, value))?;
     }
     Ok(())
 }
@@ -254,116 +318,41 @@ fn first_value(object: &Object, element: u32) -> i128 {
     }
 }
 
+// The places of a function, the first of which has this node.
+fn places_of<'a>(whole: &Whole<'a>, range: Range, first: NodeId) -> Places<'a> {
+    Places {
+        whole: *whole,
+        range,
+        exit: exit_of(whole, range, first),
+    }
+}
+
 // The node behind those of a function's places, the first of which is this one.
-fn exit_of(places: &Places<'_>, range: Range, first: NodeId) -> NodeId {
+fn exit_of(whole: &Whole<'_>, range: Range, first: NodeId) -> NodeId {
     let mut exit = first.0;
     for place in range.entry..range.end {
-        if place < places.code.len() {
-            exit = exit.saturating_add(nodes_at(places.code[place]));
+        if place < whole.code.len() {
+            exit = exit.saturating_add(nodes_at(whole.code[place]));
         }
     }
     NodeId(exit)
 }
 
-// The nodes and edges of a function's places, and its exit.
-fn add_places(
-    alloc: Global,
-    places: &Places<'_>,
-    range: Range,
-    ground: &Ground<'_>,
-    words: &mut Words,
-    draft: &mut Draft,
-) -> Result<NodeId, Memory> {
-    let exit = exit_of(places, range, draft.next()?);
-    for place in range.entry..range.end {
-        add_place(alloc, places, range, exit, place, ground, words, draft)?;
-    }
-    draft.node(Node::End)
-}
-
-// The node of a place of this function, or its exit.
-fn node_of(places: &Places<'_>, range: Range, exit: NodeId, place: usize) -> NodeId {
-    if range.entry <= place && place < range.end && place < places.numbers.len() {
-        NodeId(places.numbers[place])
-    } else {
-        exit
-    }
-}
-
-fn add_place(
-    alloc: Global,
-    places: &Places<'_>,
-    range: Range,
-    exit: NodeId,
-    place: usize,
-    ground: &Ground<'_>,
-    words: &mut Words,
-    draft: &mut Draft,
-) -> Result<(), Memory> {
-    let Some(instruction) = places.code.get(place).copied() else {
-        return Ok(());
-    };
-    let behind = place.saturating_add(1);
-    let next = node_of(places, range, exit, behind);
-    match instruction {
-        Instruction::Fail(kind, at) => {
-            draft.node(Node::Error(kind, at))?;
-            Ok(())
-        }
-        Instruction::Stop => {
-            draft.node(Node::End)?;
-            Ok(())
-        }
-        Instruction::Call(_, goal, _) => {
-            let function = called(places, goal);
-            draft.node(Node::Call(function, next))?;
-            Ok(())
-        }
-        Instruction::Return(_) => add_way(draft, exit),
-        Instruction::Jump(skip) => {
-            let to = node_of(places, range, exit, behind.saturating_add(skip as usize));
-            add_way(draft, to)
-        }
-        Instruction::Turn(_, goal) => add_way(draft, node_of(places, range, exit, goal)),
-        Instruction::SkipZero(slot, skip) => {
-            let to = node_of(places, range, exit, behind.saturating_add(skip as usize));
-            add_skip_zero(slot, next, to, ground, words, draft)
-        }
-        Instruction::SkipEqual(slot, value, skip) => {
-            let to = node_of(places, range, exit, behind.saturating_add(skip as usize));
-            add_skip_equal(slot, value, next, to, ground, words, draft)
-        }
-        _ => add_moves(alloc, instruction, next, ground, words, draft),
-    }
-}
-
-// The function that begins at a place.
-fn called(places: &Places<'_>, goal: usize) -> u32 {
-    match places.entries.get(goal) {
-        Some(Some(function)) => *function,
-        _ => 0,
-    }
-}
-
 // The node at which each visit of each loop stands: the one to which the turns of its keyword go.
-fn add_loops(
-    places: &Places<'_>,
-    range: Range,
-    loops: &[u32],
-    draft: &mut Draft,
-) -> Result<(), Memory> {
+fn loops_at(alloc: Global, places: &Places<'_>, loops: &[u32]) -> Result<Vec<LoopAt>, Memory> {
+    let mut found = Vec::new(alloc);
     let mut number = 0;
-    for place in range.entry..range.end {
+    for place in places.range.entry..places.range.end {
         if number >= loops.len() {
-            return Ok(());
+            return Ok(found);
         }
-        if let Some(Instruction::Turn(at, goal)) = places.code.get(place).copied() {
+        if let Some(Instruction::Turn(at, goal)) = places.whole.code.get(place).copied() {
             if at == loops[number] {
-                let node = node_of(places, range, NodeId(0), goal);
-                draft.loops.push(LoopAt { at, node })?;
+                let node = node_of(places, goal);
+                found.push(LoopAt { at, node })?;
                 number += 1;
             }
         }
     }
-    Ok(())
+    Ok(found)
 }

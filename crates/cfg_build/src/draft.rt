@@ -2,7 +2,7 @@
 
 ghost use Rattle.std.specs.Prelude.{◌≡◌, ◌∷◌, [], IfOk};
 ghost use Rattle.c_graph.specs.declared.graph.Node.TheVariants as Node;
-ghost use Rattle.cfg_build.specs.Steps.{Adds, edge, node_id, next_of};
+ghost use Rattle.cfg_build.specs.Steps.{Adds, IsEmpty, edge, node_id, next_of};
 
 use c_graph::{Edge, FnGraph, LoopAt, Node, NodeId, Operation, Operations};
 use lv_base::{ErrorKind, Memory};
@@ -13,27 +13,28 @@ pub(crate) struct Draft {
     alloc: Global,
     pub(crate) nodes: Vec<Node>,
     pub(crate) edges: Vec<Edge>,
-    pub(crate) loops: Vec<LoopAt>,
 }
 
 impl Draft {
-    /// The graph of the function, which begins at its first node.
-    pub(crate) fn into_graph(self) -> FnGraph {
+    /// The graph of the function, which begins at its first node and has these loops.
+    pub(crate) fn into_graph(self, loops: Vec<LoopAt>) -> FnGraph
+        ensures { result ≡ record { nodes = self.nodes.items; edges = self.edges.items; entry = node_id 0; loops = loops.items } }
+    {
         let Draft {
             alloc: _,
             nodes,
             edges,
-            loops,
         } = self;
         FnGraph::new(nodes, edges, NodeId(0), loops)
     }
 
-    pub(crate) fn new(alloc: Global) -> Draft {
+    pub(crate) fn new(alloc: Global) -> Draft
+        ensures { IsEmpty result }
+    {
         Draft {
             alloc,
             nodes: Vec::new(alloc),
             edges: Vec::new(alloc),
-            loops: Vec::new(alloc),
         }
     }
 

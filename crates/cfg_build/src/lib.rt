@@ -24,6 +24,7 @@
 mod building;
 mod draft;
 mod looping;
+mod placing;
 mod steps;
 
 pub use building::build;

@@ -1,0 +1,222 @@
+//! The nodes and edges of a function's places.
+
+ghost use Rattle.std.specs.Prelude.{◌≡◌, IfOk, IfSome, IsTrue, Some, slice_get};
+ghost use Rattle.c_terms.specs.Shown.{Grows};
+ghost use Rattle.code_moves.specs.Setting.{setting_of, Stands};
+ghost use Rattle.cfg_build.specs.Steps.{Built};
+ghost use Rattle.cfg_build.specs.Follows as of;
+ghost use Rattle.cfg_build.specs.Follows.{plan_of, Begins, Exit, Follows, PlacesFollow, StandsAt};
+
+use crate::draft::Draft;
+use crate::steps::{add_moves, add_skip_equal, add_skip_zero, add_way};
+use c_graph::{Node, NodeId};
+use c_terms::Words;
+use code_layout::behind;
+use code_moves::Ground;
+use lv_base::Memory;
+use slot_code::Instruction;
+use std::alloc::Global;
+
+/// The code of one function: the places from its first on up to its end.
+#[derive(Clone, Copy)]
+pub(crate) struct Range {
+    pub(crate) function: u32,
+    pub(crate) entry: usize,
+    pub(crate) end: usize,
+}
+
+/// The code of a whole program, and where everything in it stands.
+#[derive(Clone, Copy)]
+pub(crate) struct Whole<'a> {
+    pub(crate) code: &'a [Instruction],
+    /// The number of each place's node in the graph of its function.
+    pub(crate) numbers: &'a [u32],
+    /// The function that begins at a place.
+    pub(crate) entries: &'a [Option<u32>],
+    pub(crate) ranges: &'a [Range],
+}
+
+/// One function in it, and the node behind all its places.
+#[derive(Clone, Copy)]
+pub(crate) struct Places<'a> {
+    pub(crate) whole: Whole<'a>,
+    pub(crate) range: Range,
+    pub(crate) exit: NodeId,
+}
+
+// The node of a place of this function, or its exit.
+pub(crate) fn node_of(places: &Places<'_>, place: usize) -> NodeId
+    ensures { result ≡ of.node_of (plan_of places.now) place }
+{
+    if place < places.range.entry {
+        return places.exit;
+    }
+    if place >= places.range.end {
+        return places.exit;
+    }
+    match places.whole.numbers.get(place) {
+        None => places.exit,
+        Some(number) => NodeId(*number),
+    }
+}
+
+// The function that seems to begin at a place.
+fn entry_at(places: &Places<'_>, place: usize) -> Option<u32> {
+    match places.whole.entries.get(place) {
+        None => None,
+        Some(entry) => *entry,
+    }
+}
+
+// The function that begins at a place.
+fn called(places: &Places<'_>, place: usize) -> Option<u32>
+    ensures { IfSome result (λ f. Begins places.now.whole.ranges.now f place) }
+{
+    let Some(function) = entry_at(places, place) else {
+        return None;
+    };
+    let Some(range) = places.whole.ranges.get(function as usize) else {
+        return None;
+    };
+    if range.entry != place {
+        return None;
+    }
+    Some(function)
+}
+
+// The node of a call, if a function begins there.
+fn add_call(
+    places: &Places<'_>,
+    goal: usize,
+    next: NodeId,
+    draft: &mut Draft,
+) -> Result<bool, Memory>
+    ensures { IfOk result (λ b. IsTrue b → Built draft.old draft.new (of.Calls places.now.whole.ranges.now goal next)) }
+{
+    let Some(function) = called(places, goal) else {
+        return Ok(false);
+    };
+    draft.node(Node::Call(function, next))?;
+    Ok(true)
+}
+
+// The node of a place at which a run ends.
+fn add_last(node: Node, draft: &mut Draft) -> Result<bool, Memory>
+    ensures { IfOk result (λ b. Built draft.old draft.new (of.Last node)) }
+{
+    draft.node(node)?;
+    Ok(true)
+}
+
+// The nodes and edges of the instruction at a place. It answers false, and they count for nothing, where a call is of no function.
+fn add_place(
+    alloc: Global,
+    places: &Places<'_>,
+    place: usize,
+    instruction: Instruction,
+    ground: &Ground<'_>,
+    words: &mut Words,
+    draft: &mut Draft,
+) -> Result<bool, Memory>
+    ensures { Stands (setting_of ground.now) words.old
+        → IfOk result (λ b. IsTrue b → Grows words.old words.new × Built draft.old draft.new (Follows (plan_of places.now) (setting_of ground.now) words.new.terms place instruction)) }
+{
+    let following = behind(place, 1)?;
+    let next = node_of(places, following);
+    match instruction {
+        Instruction::Fail(kind, at) => add_last(Node::Error(kind, at), draft),
+        Instruction::Stop => add_last(Node::End, draft),
+        Instruction::Call(_, goal, _) => add_call(places, goal, next, draft),
+        Instruction::Return(_) => {
+            add_way(draft, places.exit)?;
+            Ok(true)
+        }
+        Instruction::Jump(skip) => {
+            add_way(draft, node_of(places, behind(following, skip as usize)?))?;
+            Ok(true)
+        }
+        Instruction::Turn(_, goal) => {
+            add_way(draft, node_of(places, goal))?;
+            Ok(true)
+        }
+        Instruction::SkipZero(slot, skip) => {
+            let to = node_of(places, behind(following, skip as usize)?);
+            add_skip_zero(slot, next, to, ground, words, draft)?;
+            Ok(true)
+        }
+        Instruction::SkipEqual(slot, value, skip) => {
+            let to = node_of(places, behind(following, skip as usize)?);
+            add_skip_equal(slot, value, next, to, ground, words, draft)?;
+            Ok(true)
+        }
+        _ => {
+            add_moves(alloc, instruction, next, ground, words, draft)?;
+            Ok(true)
+        }
+    }
+}
+
+fn is_number_of(places: &Places<'_>, place: usize, node: NodeId) -> bool
+    ensures { IsTrue result → slice_get places.now.whole.numbers.now place ≡ Some node.0 }
+{
+    match places.whole.numbers.get(place) {
+        None => false,
+        Some(number) => *number == node.0,
+    }
+}
+
+// A place more, whose node has its number. It answers false where it has not.
+fn add_next(
+    alloc: Global,
+    places: &Places<'_>,
+    place: usize,
+    ground: &Ground<'_>,
+    words: &mut Words,
+    draft: &mut Draft,
+) -> Result<bool, Memory>
+    ensures { Stands (setting_of ground.now) words.old
+        → IfOk result (λ b. IsTrue b → Grows words.old words.new × Built draft.old draft.new (StandsAt (plan_of places.now) (setting_of ground.now) words.new.terms place)) }
+{
+    let Some(instruction) = places.whole.code.get(place).copied() else {
+        return Ok(false);
+    };
+    let number = draft.next()?;
+    if !is_number_of(places, place, number) {
+        return Ok(false);
+    }
+    add_place(alloc, places, place, instruction, ground, words, draft)
+}
+
+// The exit, which has its number. It answers false where it has not.
+fn add_exit(places: &Places<'_>, draft: &mut Draft) -> Result<bool, Memory>
+    ensures { IfOk result (λ b. IsTrue b → Built draft.old draft.new (Exit (plan_of places.now))) }
+{
+    let number = draft.next()?;
+    if number.0 != places.exit.0 {
+        return Ok(false);
+    }
+    draft.node(Node::End)?;
+    Ok(true)
+}
+
+/// The nodes and edges of a function's places, and its exit. It answers false, and they count for nothing, where nodes have other
+/// numbers, or a call is of no function: in the code of a program neither is so.
+pub(crate) fn add_places(
+    alloc: Global,
+    places: &Places<'_>,
+    ground: &Ground<'_>,
+    words: &mut Words,
+    draft: &mut Draft,
+) -> Result<bool, Memory>
+    ensures { Stands (setting_of ground.now) words.old
+        → IfOk result (λ b. IsTrue b → Grows words.old words.new × Built draft.old draft.new (PlacesFollow (plan_of places.now) (setting_of ground.now) words.new.terms)) }
+{
+    let count = places.range.end.saturating_sub(places.range.entry);
+    for number in 0..count {
+        let place = behind(places.range.entry, number)?;
+        if !add_next(alloc, places, place, ground, words, draft)? {
+            return Ok(false);
+        }
+    }
+    add_exit(places, draft)
+}
