@@ -21,7 +21,7 @@ use std::alloc::Global;
 pub enum Explored {
     /// No leaf is open.
     Complete(Unwinding),
-    /// These input values drive the path of the highest open leaf to its error.
+    /// These input values drive the path of an open leaf to its error.
     Feasible(Unwinding, Values),
     /// There are as many units as were allowed.
     Units(Unwinding),
@@ -46,9 +46,10 @@ pub enum End {
 }
 
 impl From<Memory> for End {
-    ghost use Rattle.explore.specs.Ends.{IsOther};
+    ghost use Rattle.std.specs.Prelude.{◌≡◌};
+    ghost use Rattle.explore.specs.declared.strategy.End.TheVariants.{Memory as NoRoom};
 
-    ghost from_gives = { λ _ e. IsOther e };
+    ghost from_gives = { λ _ e. e ≡ NoRoom };
 
     fn from(_: Memory) -> End {
         End::Memory
@@ -56,9 +57,10 @@ impl From<Memory> for End {
 }
 
 impl From<QueryFail> for End {
-    ghost use Rattle.explore.specs.Ends.{IsOther};
+    ghost use Rattle.std.specs.Prelude.{◌≡◌};
+    ghost use Rattle.explore.specs.Ends.{end_of};
 
-    ghost from_gives = { λ _ e. IsOther e };
+    ghost from_gives = { λ fail e. e ≡ end_of fail };
 
     fn from(fail: QueryFail) -> End {
         match fail {
@@ -88,7 +90,7 @@ pub struct Work {
 fn next_leaf(graph: &Graph, unwinding: &mut Unwinding, budget: Budget) -> Result<VertexId, End>
     ensures leaf { IfOk result (λ v. (v.0 < length unwinding.new.vertices) × (is_open_leaf graph.now unwinding.new v ≡ true)) }
     ensures more { IfOk result (λ _. length unwinding.new.journal < budget.units) }
-    ensures ended { IfErr result (IsEnd graph.now budget.units unwinding.new) }
+    ensures ended { IfErr result (IsEnd graph.now budget.units budget.learn unwinding.new) }
     ensures unchanged { unwinding.new ≡ unwinding.old }
 {
     match unwinding.highest_open(graph) {
@@ -149,7 +151,7 @@ fn try_pair(
     requires learn { 0 < budget.learn }
     requires ready { IsReady graph.now budget.units work.old.unwinding work.old.witnesses }
     ensures ready { IsReady graph.now budget.units work.new.unwinding work.new.witnesses }
-    ensures ended { IfErr result (IsEnd graph.now budget.units work.new.unwinding) }
+    ensures ended { IfErr result (IsEnd graph.now budget.units budget.learn work.new.unwinding) }
     ensures grows { length work.old.unwinding.journal ≤ length work.new.unwinding.journal }
     ensures covers { IfOk result (λ b. b ≡ true → length work.old.unwinding.journal < length work.new.unwinding.journal) }
 {
@@ -185,7 +187,7 @@ fn settle_all(
     requires learn { 0 < budget.learn }
     requires ready { IsReady graph.now budget.units work.old.unwinding work.old.witnesses }
     ensures ready { IsReady graph.now budget.units work.new.unwinding work.new.witnesses }
-    ensures ended { IfErr result (IsEnd graph.now budget.units work.new.unwinding) }
+    ensures ended { IfErr result (IsEnd graph.now budget.units budget.learn work.new.unwinding) }
     ensures grows { length work.old.unwinding.journal ≤ length work.new.unwinding.journal }
     ensures covers { IfOk result (λ b. b ≡ true → length work.old.unwinding.journal < length work.new.unwinding.journal) }
 {
@@ -211,7 +213,7 @@ fn refine_at(
     requires learn { 0 < budget.learn }
     requires more { length work.old.unwinding.journal < budget.units }
     ensures ready { IsReady graph.now budget.units work.new.unwinding work.new.witnesses }
-    ensures ended { IfErr result (IsEnd graph.now budget.units work.new.unwinding) }
+    ensures ended { IfErr result (IsEnd graph.now budget.units budget.learn work.new.unwinding) }
     ensures grows { OnOk result (length work.old.unwinding.journal < length work.new.unwinding.journal) }
 {
     match refine_leaf(alloc, graph, &mut work.unwinding, leaf, budget.learn)? {
@@ -231,7 +233,7 @@ fn advance(alloc: Global, graph: &Graph, work: &mut Work, budget: Budget) -> Res
     requires ready { IsReady graph.now budget.units work.old.unwinding work.old.witnesses }
     requires learn { 0 < budget.learn }
     ensures ready { IsReady graph.now budget.units work.new.unwinding work.new.witnesses }
-    ensures ended { IfErr result (IsEnd graph.now budget.units work.new.unwinding) }
+    ensures ended { IfErr result (IsEnd graph.now budget.units budget.learn work.new.unwinding) }
     ensures grows { OnOk result (length work.old.unwinding.journal < length work.new.unwinding.journal) }
 {
     let _entry = graph.entry();
@@ -248,7 +250,7 @@ fn turn(alloc: Global, graph: &Graph, work: &mut Work, budget: Budget) -> Result
     requires ready { IsReady graph.now budget.units work.old.unwinding work.old.witnesses }
     requires learn { 0 < budget.learn }
     ensures ready { IsReady graph.now budget.units work.new.unwinding work.new.witnesses }
-    ensures ended { IfErr result (IsEnd graph.now budget.units work.new.unwinding) }
+    ensures ended { IfErr result (IsEnd graph.now budget.units budget.learn work.new.unwinding) }
     ensures grows { OnOk result (length work.old.unwinding.journal < length work.new.unwinding.journal) }
 {
     let first = next_leaf(graph, &mut work.unwinding, budget)?;
@@ -263,7 +265,7 @@ fn run(alloc: Global, graph: &Graph, work: &mut Work, budget: Budget) -> End
     requires ready { IsReady graph.now budget.units work.old.unwinding work.old.witnesses }
     requires learn { 0 < budget.learn }
     ensures ready { IsReady graph.now budget.units work.new.unwinding work.new.witnesses }
-    ensures ended { IsEnd graph.now budget.units work.new.unwinding result }
+    ensures ended { IsEnd graph.now budget.units budget.learn work.new.unwinding result }
 {
     for _made in 0..budget.units {
         if let Err(end) = turn(alloc, graph, work, budget) {
@@ -277,13 +279,14 @@ fn run(alloc: Global, graph: &Graph, work: &mut Work, budget: Budget) -> End
 }
 
 /// Explores a graph from its entry, by at most so many units, each question to the solver learning at most so many clauses. Each unit is
-/// legal where it stands.
+/// legal where it stands. Values that are answered drive a run of the graph to an error node; a log or a count is of a question that
+/// the unwinding has.
 pub fn explore(alloc: Global, graph: &Graph, units: u64, learn: u64) -> Result<Explored, Memory>
     requires units { 0 < units }
     requires learn { 0 < learn }
     ensures cells { IfOk result (IsOverCells graph.now) }
     ensures legal { IfOk result (λ e. Legal graph.now (unwinding_of e)) }
-    ensures explored { IfOk result (IsExplored graph.now units) }
+    ensures explored { IfOk result (IsExplored graph.now units learn) }
 {
     let mut work = Work {
         unwinding: Unwinding::new(alloc, graph)?,

@@ -3,3 +3,6 @@ pub mod Knowing
 pub mod Stores
 pub mod Pairs
 pub mod Legality
+pub mod Drawing
+pub mod Driving
+pub mod Refusing

@@ -1,3 +1,5 @@
 pub mod Witnesses
 pub mod Decisions
 pub mod Refinements
+pub mod Drawn
+pub mod Refusals

@@ -1,5 +1,7 @@
-ghost use Rattle.std.specs.Prelude.{◌≡◌, ◌<◌, IfOk};
+ghost use Rattle.std.specs.Prelude.{◌≡◌, ◌<◌, MatchResult};
+ghost use Rattle.clause_learning.specs.declared.QueryFail.TheVariants.{Memory as NoMemory};
 ghost use Rattle.clause_learning.specs.Solve.{IsAnswer};
+ghost use Rattle.refine.specs.Refusals.{IsRefused, without_clauses};
 
 use cdcl_solver::{Answer, QueryFail, SolveFail, solve};
 use lv_base::Memory;
@@ -61,12 +63,16 @@ pub enum Settled {
 }
 
 /// What want of memory is for a question.
-pub fn no_memory(_: Memory) -> QueryFail {
+pub fn no_memory(_: Memory) -> QueryFail
+    ensures { result ≡ NoMemory }
+{
     QueryFail::Memory
 }
 
 /// What a failure to make clauses is for a question.
-pub fn no_clauses(fail: BlastFail) -> QueryFail {
+pub fn no_clauses(fail: BlastFail) -> QueryFail
+    ensures { result ≡ without_clauses fail }
+{
     match fail {
         BlastFail::Over(count) => QueryFail::Over(count),
         BlastFail::Memory => QueryFail::Memory,
@@ -76,7 +82,7 @@ pub fn no_clauses(fail: BlastFail) -> QueryFail {
 /// Asks the solver.
 pub fn answer_to(alloc: Global, clauses: &Clauses, learn: u64) -> Result<Answer, QueryFail>
     requires { 0 < learn }
-    ensures { IfOk result (IsAnswer clauses.now learn) }
+    ensures { MatchResult result (IsAnswer clauses.now learn) (IsRefused clauses.now learn) }
 {
     match solve(alloc, clauses, learn) {
         Ok(answer) => Ok(answer),

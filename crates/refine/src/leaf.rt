@@ -1,6 +1,6 @@
 //! An error leaf: its path has a run, or is strengthened.
 
-ghost use Rattle.std.specs.Prelude.{◌<◌, ◌≡◌, IfOk, OnErr, length, map, reverse};
+ghost use Rattle.std.specs.Prelude.{◌<◌, ◌≡◌, IfErr, IfOk, OnErr, length, map, reverse};
 ghost use Rattle.bv_term.specs.Laws.{Extends};
 ghost use Rattle.c_graph.specs.Shape.{widths_of};
 ghost use Rattle.path_query.specs.Facts.{IsQuery};
@@ -12,7 +12,7 @@ ghost use Rattle.path_formula.specs.Questions.{question_of};
 ghost use Rattle.cover_engine.specs.Unwindings.{path_of};
 ghost use Rattle.cover_engine.specs.Units.{Legal, edges_to};
 ghost use Rattle.chain_laws.specs.Laws.{AreLinks};
-ghost use Rattle.refine.specs.Refinements.{IsErrorLeaf, IsRefined, IsStrengthened, OnlyGrows, edges_of};
+ghost use Rattle.refine.specs.Refinements.{IsErrorLeaf, IsRefined, IsStrengthened, IsLeafRefused, OnlyGrows, edges_of};
 
 use crate::answers::{Refined, answer_to, no_clauses, no_memory};
 use crate::values::drawn_values;
@@ -97,7 +97,8 @@ fn strengthen(
 /// Asks for a run of an error leaf's path. Where there is none, one Refine unit strengthens the path by formulas that one
 /// refutation gives. The unit is legal where the unwinding was and the leaf is open and at an error.
 ///
-/// `Over` says that the path's clauses would have too many literals, `OverLog` that the refutation would have too many steps.
+/// Where the unwinding is legal, the values that are answered drive a run along the path to the leaf's node. `Over` says that the path's
+/// clauses have too many literals, `OverLog` that a new log over them has too many pairs.
 pub fn refine_leaf(
     alloc: Global,
     graph: &Graph,
@@ -112,7 +113,9 @@ pub fn refine_leaf(
     ensures refined { IfOk result (IsRefined graph.now unwinding.old unwinding.new v learn) }
     ensures legal { Legal graph.now unwinding.old → IsErrorLeaf graph.now unwinding.old v → Legal graph.now unwinding.new }
     ensures only { OnErr result (OnlyGrows unwinding.old unwinding.new) }
+    ensures refused { IfErr result (IsLeafRefused graph.now unwinding.old unwinding.new v learn) }
 {
+    let _entry = graph.entry();
     let path = match unwinding.path_to(alloc, v) {
         Ok(path) => path,
         Err(end) => return Err(no_memory(end)),

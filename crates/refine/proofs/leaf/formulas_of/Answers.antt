@@ -3,7 +3,6 @@ use Rattle.bv_term.specs.declared.term.TermId.{TermId}
 use Rattle.c_graph.specs.Shape.{widths_of}
 use Rattle.path_query.specs.declared.query.PathQuery.{PathQuery}
 use Rattle.path_query.specs.Facts.{IsQuery}
-use Rattle.path_formula.specs.Questions.{question_of}
 use Rattle.resolution_log.specs.Chains.{IsRefutation}
 use Rattle.reach_tree.specs.Trees.{IsLabel}
 use Rattle.term_copy.specs.Copies.{number_in}
