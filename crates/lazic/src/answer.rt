@@ -3,14 +3,14 @@ ghost use Rattle.lv_outside.specs.Counts.{Rose};
 ghost use Rattle.c_tree.specs.Tree.{Items};
 ghost use Rattle.c_typed.specs.Parts.{tree_of};
 ghost use Rattle.lazic.specs.Words.{request_of};
-ghost use Rattle.lazic.specs.Reading.{source_read, RunsAs};
+ghost use Rattle.source_reading.specs.Reading.{source_read, RunsAs};
 ghost use Rattle.lazic.specs.Answer.{outcome_of, source_outcome, tree_outcome, run_outcome, refused, IsCaused};
 ghost use Rattle.lazic.specs.Runs.{IsRunOf, IsRunOn};
 
 use crate::outcome::Outcome;
-use crate::reading::examined;
+use source_reading::examined;
 use crate::running::{replayed, told};
-use crate::values::Values;
+use verdicts::Values;
 use crate::words::{Wanted, request};
 use c_rules::Examined;
 use lv_base::{SourceFail, place_of};

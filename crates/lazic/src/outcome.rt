@@ -3,7 +3,7 @@ ghost use Rattle.std.specs.Fmt.{decimal};
 ghost use Rattle.lv_base.specs.Names.{error_name, fault_number, fault_name};
 ghost use Rattle.lazic.specs.Outcome.{status_of, text_of, place_text};
 
-use crate::values::Values;
+use verdicts::Values;
 use lv_base::{ErrorKind, Memory, Place, SourceFault};
 use std::alloc::Global;
 

@@ -5,7 +5,7 @@ ghost use Rattle.slot_code.specs.Machine.{ending_of};
 ghost use Rattle.lazic.specs.Running.{told_of};
 
 use crate::outcome::Outcome;
-use crate::values::Values;
+use verdicts::Values;
 use c_rules::Examined;
 use lv_base::{Memory, place_of};
 use run_replay::{Ending, Replay};

@@ -17,7 +17,7 @@ use Rattle.parse_machine.specs.Machine as ma
 use Rattle.c_rules.specs.Parts.{Parts}
 use Rattle.c_typed.specs.Parts as typed
 use Rattle.source_checks.specs.Refusals.{source_refusal}
-use Rattle.lazic.specs.Reading.{parsed_of, tokens_read, tree_read, unless, checked, source_read, RunsAs, IsReplay}
+use Rattle.source_reading.specs.Reading.{parsed_of, tokens_read, tree_read, unless, checked, source_read, RunsAs, IsReplay}
 
 -- a refusal, if it isn't want of memory, is what is read
 abbrev pub IsFail : {A : Type 0} → Result A SourceFail → SourceFail → Type 0

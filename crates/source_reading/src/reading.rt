@@ -3,7 +3,7 @@ ghost use Rattle.lv_base.specs.declared.kind.Model.{Model};
 ghost use Rattle.c_typed.specs.Parts as typed;
 ghost use Rattle.c_tree.specs.Denotes.{tree_of};
 ghost use Rattle.elaboration_laws.specs.Read.{IsRead};
-ghost use Rattle.lazic.specs.Reading.{tree_read, source_read, IsReplay};
+ghost use Rattle.source_reading.specs.Reading.{tree_read, source_read, IsReplay};
 
 use c_parser::parse;
 use c_rules::Examined;

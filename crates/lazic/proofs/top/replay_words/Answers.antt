@@ -1,18 +1,14 @@
 use Rattle.std.proofs.Common.{rules, inl, inr}
 use Rattle.lazic.specs.declared.outcome.Outcome.TheVariants.{NoMemory}
-use Rattle.lazic.proofs.MeaningLaws.{computed_is_meant, meant_is_computed, report_means}
+use Rattle.lazic.proofs.MeaningLaws.{report_means}
 use Rattle.lazic.proofs.ReachingLaws.{reaches_told}
-use Rattle.lazic.proofs.NumberLaws.{turns_read}
-use Rattle.lazic.proofs.top.run_words.Goals as goal
+use Rattle.lazic.proofs.top.replay_words.Goals as goal
 
 pub returns-clause-cut : goal.returns-clause-cut
 returns-clause-cut g c told fourteen = elim (c.print.ensures.cut told fourteen) [
   | inl grew ↦ (c.decide-outcome.result, c.decide-outcome.ensures.caused, grew)
   | inr grew ↦ (NoMemory, tt, grew)
 ]
-
-pub returns-clause-one_answer : goal.returns-clause-one_answer
-returns-clause-one_answer g c words file answer = (computed_is_meant words file answer, meant_is_computed words file answer)
 
 pub returns-clause-means : goal.returns-clause-means
 returns-clause-means g c told =
@@ -21,9 +17,6 @@ returns-clause-means g c told =
 pub returns-clause-reaches : goal.returns-clause-reaches
 returns-clause-reaches g c told =
     reaches_told _ _ _ _ _ c.decide-outcome.result c.print.result.status c.print.result.kept c.decide-outcome.ensures.caused told c.print.ensures.status c.print.ensures.fault
-
-pub returns-clause-turns : goal.returns-clause-turns
-returns-clause-turns g c = turns_read
 
 pub returns-clause-read_fault : goal.returns-clause-read_fault
 returns-clause-read_fault g c = search rules
