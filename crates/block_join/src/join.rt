@@ -1,9 +1,9 @@
-use crate::chains::joined;
 use crate::emission::{Draft, Plan};
 use crate::terms::Truths;
 use block_plan::{Blocks, Live, Units, Ways, begins, blocks_of, number_of, ways_at};
 use bv_term::{TermId, Terms, are_widths};
 use c_graph::{Cell, Edge, Graph, Node, NodeId, Operations, Origin, graph_from};
+use edge_chains::join_chains;
 use lv_base::Memory;
 use std::alloc::Global;
 
@@ -188,7 +188,7 @@ fn finish(alloc: Global, graph: &Graph, draft: Draft) -> Result<Graph, Memory> {
     } = draft;
     let cells = all_cells(alloc, graph, used)?;
     let last = copied(alloc, &truths.terms, widths_of(alloc, &cells)?)?;
-    let edges = joined(alloc, graph, &nodes, edges)?;
+    let edges = join_chains(alloc, &nodes, edges, graph.entry(), graph.loops())?;
     // nodes over terms that are not well formed count for nothing: without a node the parts make no graph
     let nodes = if truths.is_sound && last.is_sound {
         nodes

@@ -18,10 +18,10 @@
 //!
 //! But for the plan it takes time in proportion to the graph, times the ways out that wait at once in a block.
 //!
-//! No contract says so: what is proved is that the call returns, and that the answer is a graph.
+//! Last, chains of edges become one edge each: what is proved of them, [`edge_chains`] says. Of the blocks no contract says more than
+//! that the call returns, and that the answer is a graph.
 #![tactic(auto)]
 
-mod chains;
 mod emission;
 mod join;
 mod terms;

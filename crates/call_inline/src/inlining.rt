@@ -1,6 +1,16 @@
+ghost use Rattle.std.specs.Prelude.{◌≡◌, IfOk, IsTrue, Some, slice_get};
+ghost use Rattle.c_graph.specs.declared.graph.Node.TheVariants.{Error};
+ghost use Rattle.c_graph.specs.Parts.{error_flow};
+ghost use Rattle.call_inline.specs.Inlining.{Inlines};
+ghost use Rattle.call_inline.specs.Copying.{AllErrorsStand, ErrorsStand, StandsAt};
+
+use crate::copies::copies_of;
+use crate::edges::{edges_of_all, goal_at};
+use crate::numbers::{Copied, entry_of, main_of, nodes_of, number};
 use crate::sizes::sizes_of;
-use c_graph::{Edge, FnGraph, FnGraphs, Graph, LoopAt, Node, NodeId, Operations, graph_from};
-use lv_base::{Memory, SourceFail};
+use bv_term::Terms;
+use c_graph::{FnGraph, FnGraphs, Graph, LoopAt, Node, NodeId, graph_from};
+use lv_base::{ErrorKind, Memory, SourceFail};
 use std::alloc::Global;
 
 /// The most nodes of a graph with its calls inlined.
@@ -9,54 +19,65 @@ const MOST_NODES: u64 = 65_536;
 /// The limit on nodes.
 const NODES: u8 = 5;
 
-/// A copy of a function's graph: the number of its first node, and the node at which it goes on where it returns; `main` has none.
-#[derive(Clone, Copy)]
-struct Copied {
-    function: u32,
-    base: u32,
-    back: Option<NodeId>,
-}
-
-/// The graph while it is made.
-#[derive(Drop)]
-struct Draft {
-    nodes: Vec<Node>,
-    edges: Vec<Edge>,
-    copies: Vec<Copied>,
-}
-
 /// The graph of `main` in which each call is a copy of the called function's graph.
 ///
 /// Fails with `Over` for limit 5, with the number of nodes, where these are more than 65,536 (with the greatest number of 64 bits
 /// where functions call one another in a ring), else with `Memory`. It takes time in proportion to the graph that it makes.
-pub fn inline(alloc: Global, graphs: &FnGraphs) -> Result<Graph, SourceFail> {
+pub fn inline(alloc: Global, graphs: &FnGraphs) -> Result<Graph, SourceFail>
+    ensures { IfOk result (λ g. Inlines graphs.now g) }
+{
     let sizes = sizes_of(alloc, graphs.graphs())?;
     let size = size_of(&sizes, graphs.main());
     if size > MOST_NODES {
         return Err(SourceFail::Over(NODES, size));
     }
     let offsets = offsets_of(alloc, graphs.graphs(), &sizes)?;
-    let mut draft = Draft {
-        nodes: vec![in alloc; Node::End; size as usize]?,
-        edges: Vec::new(alloc),
-        copies: Vec::new(alloc),
-    };
-    let main = main_of(graphs);
-    draft.copies.push(main)?;
-    for number in 0..size as usize {
-        if number < draft.copies.len() {
-            let copied = draft.copies[number];
-            copy_graph(alloc, graphs, &offsets, copied, &mut draft)?;
-        }
-    }
-    let entry = entry_of(graphs, &offsets, main);
-    let loops = loops_of(alloc, graphs, &offsets)?;
-    let cells = graphs.cells().to_vec(alloc)?;
-    let terms = graphs.terms().copy()?;
-    let Draft { nodes, edges, .. } = draft;
-    Ok(graph_from(alloc, nodes, edges, cells, terms, entry, loops)?)
+    Ok(copy_all(alloc, graphs, &offsets, size as usize)?)
 }
 
+/// The graph of so many nodes, if the copies fit into it.
+fn copy_all(
+    alloc: Global,
+    graphs: &FnGraphs,
+    offsets: &[Vec<u32>],
+    size: usize,
+) -> Result<Graph, Memory>
+    ensures { IfOk result (λ g. Inlines graphs.now g) }
+{
+    let copies = copies_of(alloc, graphs, offsets, size)?;
+    let edges = edges_of_all(alloc, graphs, offsets, &copies)?;
+    let nodes = nodes_of_all(alloc, graphs, offsets, &copies, size)?;
+    if copies.len() > size || !all_errors_stand(graphs, offsets, &copies, &nodes) {
+        return error_graph(alloc);
+    }
+    let entry = number(offsets, main_of(graphs), entry_of(graphs, graphs.main()));
+    let loops = loops_of(alloc, graphs, offsets)?;
+    let cells = graphs.cells().to_vec(alloc)?;
+    let terms = graphs.terms().copy()?;
+    graph_from(alloc, nodes, edges, cells, terms, entry, loops)
+}
+
+/// The graph that is an error at its entry.
+fn error_graph(alloc: Global) -> Result<Graph, Memory>
+    ensures { IfOk result (λ g. g ≡ error_flow) }
+{
+    let mut nodes = Vec::new(alloc);
+    nodes.push(Node::Error(ErrorKind::Reach, 0))?;
+    let edges = Vec::new(alloc);
+    let cells = Vec::new(alloc);
+    let terms = Terms::new(alloc, Vec::new(alloc));
+    graph_from(
+        alloc,
+        nodes,
+        edges,
+        cells,
+        terms,
+        NodeId(0),
+        Vec::new(alloc),
+    )
+}
+
+// How many nodes a copy of a function has, with those of all that it calls.
 fn size_of(sizes: &[u64], function: u32) -> u64 {
     match sizes.get(function as usize) {
         None => 0,
@@ -87,100 +108,31 @@ fn offsets_in(alloc: Global, graph: &FnGraph, sizes: &[u64]) -> Result<Vec<u32>,
     Ok(offsets)
 }
 
-// The number of a node in a copy.
-fn number(offsets: &[Vec<u32>], copied: Copied, node: NodeId) -> NodeId {
-    let offset = match offsets.get(copied.function as usize) {
-        None => 0,
-        Some(offsets) => match offsets.get(node.0 as usize) {
-            None => 0,
-            Some(offset) => *offset,
-        },
-    };
-    NodeId(copied.base.saturating_add(offset))
-}
-
-// The copy of `main`, which is the first.
-fn main_of(graphs: &FnGraphs) -> Copied {
-    Copied {
-        function: graphs.main(),
-        base: 0,
-        back: None,
-    }
-}
-
-// The node at which a copy begins.
-fn entry_of(graphs: &FnGraphs, offsets: &[Vec<u32>], copied: Copied) -> NodeId {
-    match graphs.graphs().get(copied.function as usize) {
-        None => NodeId(copied.base),
-        Some(graph) => number(offsets, copied, graph.entry()),
-    }
-}
-
-// The nodes and edges of one copy; the copies in it are noted.
-fn copy_graph(
+// The nodes of all copies.
+fn nodes_of_all(
     alloc: Global,
     graphs: &FnGraphs,
     offsets: &[Vec<u32>],
-    copied: Copied,
-    draft: &mut Draft,
-) -> Result<(), Memory> {
-    let Some(graph) = graphs.graphs().get(copied.function as usize) else {
-        return Ok(());
-    };
-    let exit = graphs.exits().get(copied.function as usize).copied();
-    for node in 0..graph.nodes().len() {
-        let at = NodeId(node as u32);
-        let is_exit = exit == Some(at);
-        copy_node(
-            alloc,
-            graphs,
-            offsets,
-            copied,
-            at,
-            is_exit,
-            graph.nodes()[node],
-            draft,
-        )?;
+    copies: &[Copied],
+    size: usize,
+) -> Result<Vec<Node>, Memory> {
+    let mut nodes = vec![in alloc; Node::End; size]?;
+    for copied in copies {
+        set_nodes(graphs, offsets, *copied, &mut nodes);
     }
-    for edge in graph.edges() {
-        draft.edges.push(Edge {
-            from: number(offsets, copied, edge.from),
-            to: number(offsets, copied, edge.to),
-            ops: Operations::new(edge.ops.as_slice().to_vec(alloc)?),
-        })?;
-    }
-    Ok(())
+    Ok(nodes)
 }
 
-// One node of a copy: a call leads to the first node of its own copy, an exit back to where its call goes on.
-fn copy_node(
-    alloc: Global,
-    graphs: &FnGraphs,
-    offsets: &[Vec<u32>],
-    copied: Copied,
-    at: NodeId,
-    is_exit: bool,
-    node: Node,
-    draft: &mut Draft,
-) -> Result<(), Memory> {
-    let here = number(offsets, copied, at);
-    if let (Some(back), true) = (copied.back, is_exit) {
-        return lead(alloc, here, back, draft);
-    }
-    match node {
-        Node::Call(callee, next) => {
-            let inner = Copied {
-                function: callee,
-                base: here.0.saturating_add(1),
-                back: Some(number(offsets, copied, next)),
-            };
-            draft.copies.push(inner)?;
-            lead(alloc, here, entry_of(graphs, offsets, inner), draft)
-        }
-        node => {
-            set(&mut draft.nodes, here, node);
-            Ok(())
-        }
+// The nodes of one copy: one that leads on without doing anything is plain.
+fn set_nodes(graphs: &FnGraphs, offsets: &[Vec<u32>], copied: Copied, nodes: &mut Vec<Node>) {
+    let own = nodes_of(graphs, copied.function);
+    for at in 0..own.len() {
+        let here = number(offsets, copied, NodeId(at as u32));
+        let node = match goal_at(graphs, offsets, copied, at as u32, own[at]) {
+            None => own[at],
+            Some(_) => Node::Plain,
+        };
+        set(nodes, here, node);
     }
 }
 
@@ -190,15 +142,55 @@ fn set(nodes: &mut Vec<Node>, at: NodeId, node: Node) {
     }
 }
 
-// A plain node from which an edge leads on that does nothing.
-fn lead(alloc: Global, from: NodeId, to: NodeId, draft: &mut Draft) -> Result<(), Memory> {
-    set(&mut draft.nodes, from, Node::Plain);
-    draft.edges.push(Edge {
-        from,
-        to,
-        ops: Operations::new(Vec::new(alloc)),
-    })?;
-    Ok(())
+/// Whether the error nodes of all copies stand at their numbers.
+fn all_errors_stand(
+    graphs: &FnGraphs,
+    offsets: &[Vec<u32>],
+    copies: &[Copied],
+    nodes: &[Node],
+) -> bool
+    ensures { IsTrue result → AllErrorsStand graphs.now offsets.now nodes.now copies.now }
+{
+    for number in 0..copies.len() {
+        if !errors_stand(graphs, offsets, copies[number], nodes) {
+            return false;
+        }
+    }
+    true
+}
+
+/// Whether the error nodes of a copy stand at their numbers.
+fn errors_stand(graphs: &FnGraphs, offsets: &[Vec<u32>], copied: Copied, nodes: &[Node]) -> bool
+    ensures { IsTrue result → ErrorsStand graphs.now offsets.now nodes.now copied }
+{
+    let own = nodes_of(graphs, copied.function);
+    for at in 0..own.len() {
+        let here = number(offsets, copied, NodeId(at as u32));
+        if !stands(nodes, here, own[at]) {
+            return false;
+        }
+    }
+    true
+}
+
+/// Whether a node, if it is an error, stands at a number.
+fn stands(nodes: &[Node], at: NodeId, node: Node) -> bool
+    ensures { IsTrue result → StandsAt nodes.now at node }
+{
+    match node {
+        Node::Error(kind, offset) => is_error(nodes, at, kind, offset),
+        Node::Plain | Node::End | Node::Call(_, _) => true,
+    }
+}
+
+/// Whether this error stands at a number.
+fn is_error(nodes: &[Node], at: NodeId, kind: ErrorKind, offset: u32) -> bool
+    ensures { IsTrue result → slice_get nodes.now at.0 ≡ Some (Error kind offset) }
+{
+    match nodes.get(at.0 as usize) {
+        Some(Node::Error(its_kind, its_offset)) => *its_kind == kind && *its_offset == offset,
+        _ => false,
+    }
 }
 
 // The loops of `main`, by offset.

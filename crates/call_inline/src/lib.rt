@@ -11,10 +11,17 @@
 //! **Loops** are those of `main`, in the order of their offsets. Other end nodes than a function's exit, such as that of `abort`,
 //! stay end nodes in each copy.
 //!
-//! No contract says so: what is proved is that each call returns, and that the answer is a graph.
+//! What is proved is that the answer is an inlining (`specs/Inlining.antt`) of the functions' graphs: each edge stands in each copy, a
+//! call leads into a copy that goes on where the call does, and each error node is there in each copy. That no error node is set
+//! twice is tested when all copies are made; copies that fail the test, as copies that make no graph, give the graph that is an error
+//! at its entry. Which numbers nodes have, and that the limit on nodes is exact, no contract says.
 #![tactic(auto)]
 
+mod copies;
+mod edges;
 mod inlining;
+mod numbers;
 mod sizes;
 
 pub use inlining::inline;
+pub use numbers::Copied;

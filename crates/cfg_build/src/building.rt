@@ -1,14 +1,15 @@
 //! The graphs of functions, place by place.
 
-use crate::checks::{Check, Ground, checks_in};
 use crate::draft::Draft;
-use crate::layout::{Layout, elements_of, widths_of};
 use crate::looping::loops_in;
+use crate::steps::{add_moves, add_skip_equal, add_skip_zero, add_way, nodes_at};
 use bv_term::Terms;
 use c_graph::{FnGraph, FnGraphs, LoopAt, Node, NodeId, Operation, function_graphs_from};
 use c_rules::Examined;
 use c_terms::Words;
 use c_typed::{Object, Owner, Typed};
+use code_layout::{Layout, elements_of, widths_of};
+use code_moves::Ground;
 use lv_base::{Memory, SourceFail, width};
 use slot_code::Instruction;
 use slot_compiler::{Code, compiled, slots_in};
@@ -60,13 +61,12 @@ pub fn build(alloc: Global, examined: &Examined) -> Result<FnGraphs, SourceFail>
         numbers: &numbers,
         entries: &entries,
     };
-    let mut ground = Ground {
+    let ground = Ground {
         objects,
         model,
         layout: &layout,
-        words: &mut words,
     };
-    let (graphs, exits) = graphs_of(alloc, typed, &places, &ranges, main, &mut ground)?;
+    let (graphs, exits) = graphs_of(alloc, typed, &places, &ranges, main, &ground, &mut words)?;
     // graphs over terms that are not well formed count for nothing: without a graph the parts make none
     let graphs = if words.is_sound() {
         graphs
@@ -134,16 +134,6 @@ fn entries_of(alloc: Global, code: &Code) -> Result<Vec<Option<u32>>, Memory> {
     Ok(entries)
 }
 
-// How many nodes the place of an instruction has: its own; of two checks one between them; and one for the error of each.
-fn nodes_at(instruction: Instruction) -> u32 {
-    let checks = checks_in(instruction);
-    if checks == 0 {
-        1
-    } else {
-        checks.saturating_mul(2)
-    }
-}
-
 // The number of each place's node in its function's graph; of `main` number 0 is the node at which it begins.
 fn numbers_of(
     alloc: Global,
@@ -184,16 +174,17 @@ fn graphs_of(
     places: &Places<'_>,
     ranges: &[Range],
     main: u32,
-    ground: &mut Ground<'_>,
+    ground: &Ground<'_>,
+    words: &mut Words,
 ) -> Result<(Vec<FnGraph>, Vec<NodeId>), Memory> {
     let mut graphs = Vec::new(alloc);
     let mut exits = Vec::new(alloc);
     for range in ranges {
         let mut draft = Draft::new(alloc);
         if range.function == main {
-            add_opening(alloc, typed, ground, &mut draft)?;
+            add_opening(alloc, typed, ground, words, &mut draft)?;
         }
-        let exit = add_places(alloc, places, *range, ground, &mut draft)?;
+        let exit = add_places(alloc, places, *range, ground, words, &mut draft)?;
         if range.function == main {
             let loops = main_loops(alloc, typed, main)?;
             add_loops(places, *range, &loops, &mut draft)?;
@@ -217,7 +208,8 @@ fn main_loops(alloc: Global, typed: &Typed, main: u32) -> Result<Vec<u32>, Memor
 fn add_opening(
     alloc: Global,
     typed: &Typed,
-    ground: &mut Ground<'_>,
+    ground: &Ground<'_>,
+    words: &mut Words,
     draft: &mut Draft,
 ) -> Result<(), Memory> {
     let from = draft.node(Node::Plain)?;
@@ -226,7 +218,7 @@ fn add_opening(
         let Ok(number) = u32::try_from(number) else {
             return Err(Memory);
         };
-        open_object(number, object, ground, &mut ops)?;
+        open_object(number, object, ground, words, &mut ops)?;
     }
     let to = draft.next()?;
     draft.edge(from, to, ops)
@@ -235,14 +227,17 @@ fn add_opening(
 fn open_object(
     number: u32,
     object: &Object,
-    ground: &mut Ground<'_>,
+    ground: &Ground<'_>,
+    words: &mut Words,
     ops: &mut Vec<Operation>,
 ) -> Result<(), Memory> {
     let bits = width(object.kind, ground.model);
-    let first = ground.layout.first(number);
+    let Some(first) = ground.layout.first(number) else {
+        return Ok(());
+    };
     for element in 0..elements_of(object) {
         let value = first_value(object, element);
-        let value = ground.words.constant_of(bits, value)?;
+        let value = words.constant_of(bits, value)?;
         ops.push(Operation::Set(first.saturating_add(element), value))?;
     }
     Ok(())
@@ -275,12 +270,13 @@ fn add_places(
     alloc: Global,
     places: &Places<'_>,
     range: Range,
-    ground: &mut Ground<'_>,
+    ground: &Ground<'_>,
+    words: &mut Words,
     draft: &mut Draft,
 ) -> Result<NodeId, Memory> {
     let exit = exit_of(places, range, draft.next()?);
     for place in range.entry..range.end {
-        add_place(alloc, places, range, exit, place, ground, draft)?;
+        add_place(alloc, places, range, exit, place, ground, words, draft)?;
     }
     draft.node(Node::End)
 }
@@ -300,7 +296,8 @@ fn add_place(
     range: Range,
     exit: NodeId,
     place: usize,
-    ground: &mut Ground<'_>,
+    ground: &Ground<'_>,
+    words: &mut Words,
     draft: &mut Draft,
 ) -> Result<(), Memory> {
     let Some(instruction) = places.code.get(place).copied() else {
@@ -330,19 +327,13 @@ fn add_place(
         Instruction::Turn(_, goal) => add_way(draft, node_of(places, range, exit, goal)),
         Instruction::SkipZero(slot, skip) => {
             let to = node_of(places, range, exit, behind.saturating_add(skip as usize));
-            let value = ground.slot(slot)?;
-            let is_zero = ground.words.is_zero(value)?;
-            let is_true = ground.words.not(is_zero)?;
-            add_branch(ground, draft, is_true, next, to)
+            add_skip_zero(slot, next, to, ground, words, draft)
         }
         Instruction::SkipEqual(slot, value, skip) => {
             let to = node_of(places, range, exit, behind.saturating_add(skip as usize));
-            let held = ground.slot(slot)?;
-            let wanted = ground.words.constant(value)?;
-            let is_equal = ground.words.equal(held, wanted)?;
-            add_branch(ground, draft, is_equal, to, next)
+            add_skip_equal(slot, value, next, to, ground, words, draft)
         }
-        _ => add_moves(alloc, instruction, next, ground, draft),
+        _ => add_moves(alloc, instruction, next, ground, words, draft),
     }
 }
 
@@ -352,53 +343,6 @@ fn called(places: &Places<'_>, goal: usize) -> u32 {
         Some(Some(function)) => *function,
         _ => 0,
     }
-}
-
-// A node from which one edge leads on.
-fn add_way(draft: &mut Draft, to: NodeId) -> Result<(), Memory> {
-    let from = draft.node(Node::Plain)?;
-    draft.plain_edge(from, to)
-}
-
-// A node from which two edges lead on: where the term is 1, and where it is not.
-fn add_branch(
-    ground: &mut Ground<'_>,
-    draft: &mut Draft,
-    test: bv_term::TermId,
-    to: NodeId,
-    other: NodeId,
-) -> Result<(), Memory> {
-    let from = draft.node(Node::Plain)?;
-    draft.edge_if(from, to, Operation::Assume(test))?;
-    let not = ground.words.not(test)?;
-    draft.edge_if(from, other, Operation::Assume(not))
-}
-
-// The node of an instruction that goes on behind itself, with its checks.
-fn add_moves(
-    alloc: Global,
-    instruction: Instruction,
-    next: NodeId,
-    ground: &mut Ground<'_>,
-    draft: &mut Draft,
-) -> Result<(), Memory> {
-    let mut checks: Vec<Check> = Vec::new(alloc);
-    ground.checks(instruction, &mut checks)?;
-    let mut from = draft.node(Node::Plain)?;
-    let mut ops = Vec::new(alloc);
-    for (number, check) in checks.iter().enumerate() {
-        draft.error(from, Operation::Assume(check.when), check.kind, check.at)?;
-        let passed = Operation::Assume(ground.words.not(check.when)?);
-        if number + 1 < checks.len() {
-            let between = draft.node(Node::Plain)?;
-            draft.edge_if(from, between, passed)?;
-            from = between;
-        } else {
-            ops.push(passed)?;
-        }
-    }
-    ground.moves(instruction, &mut ops)?;
-    draft.edge(from, next, ops)
 }
 
 // The node at which each visit of each loop stands: the one to which the turns of its keyword go.

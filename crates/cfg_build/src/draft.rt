@@ -1,5 +1,9 @@
 //! The graph of one function while it is made: nodes in the order of their numbers, and the edges from each as soon as it stands.
 
+ghost use Rattle.std.specs.Prelude.{◌≡◌, ◌∷◌, [], IfOk};
+ghost use Rattle.c_graph.specs.declared.graph.Node.TheVariants as Node;
+ghost use Rattle.cfg_build.specs.Steps.{Adds, edge, node_id, next_of};
+
 use c_graph::{Edge, FnGraph, LoopAt, Node, NodeId, Operation, Operations};
 use lv_base::{ErrorKind, Memory};
 use std::alloc::Global;
@@ -34,14 +38,19 @@ impl Draft {
     }
 
     /// The number of the next node.
-    pub(crate) fn next(&self) -> Result<NodeId, Memory> {
+    pub(crate) fn next(&self) -> Result<NodeId, Memory>
+        ensures { IfOk result (λ n. n ≡ node_id (next_of self.now)) }
+    {
         match u32::try_from(self.nodes.len()) {
             Err(_) => Err(Memory),
             Ok(number) => Ok(NodeId(number)),
         }
     }
 
-    pub(crate) fn node(&mut self, node: Node) -> Result<NodeId, Memory> {
+    pub(crate) fn node(&mut self, node: Node) -> Result<NodeId, Memory>
+        ensures number { IfOk result (λ n. n ≡ node_id (next_of self.old)) }
+        ensures adds { IfOk result (λ n. Adds self.old self.new (node ∷ []) []) }
+    {
         let number = self.next()?;
         self.nodes.push(node)?;
         Ok(number)
@@ -52,7 +61,9 @@ impl Draft {
         from: NodeId,
         to: NodeId,
         ops: Vec<Operation>,
-    ) -> Result<(), Memory> {
+    ) -> Result<(), Memory>
+        ensures { IfOk result (λ u. Adds self.old self.new [] (edge from to ops.items ∷ [])) }
+    {
         self.edges.push(Edge {
             from,
             to,
@@ -62,9 +73,12 @@ impl Draft {
     }
 
     /// An edge that does nothing.
-    pub(crate) fn plain_edge(&mut self, from: NodeId, to: NodeId) -> Result<(), Memory> {
+    pub(crate) fn plain_edge(&mut self, from: NodeId, to: NodeId) -> Result<(), Memory>
+        ensures { IfOk result (λ u. Adds self.old self.new [] (edge from to [] ∷ [])) }
+    {
         let ops = Vec::new(self.alloc);
-        self.edge(from, to, ops)
+        self.edge(from, to, ops)?;
+        Ok(())
     }
 
     /// An edge that does this first.
@@ -73,10 +87,13 @@ impl Draft {
         from: NodeId,
         to: NodeId,
         first: Operation,
-    ) -> Result<(), Memory> {
+    ) -> Result<(), Memory>
+        ensures { IfOk result (λ u. Adds self.old self.new [] (edge from to (first ∷ []) ∷ [])) }
+    {
         let mut ops = Vec::new(self.alloc);
         ops.push(first)?;
-        self.edge(from, to, ops)
+        self.edge(from, to, ops)?;
+        Ok(())
     }
 
     /// The node of an error, to which an edge leads from a node where an operation goes on.
@@ -86,8 +103,11 @@ impl Draft {
         first: Operation,
         kind: ErrorKind,
         at: u32,
-    ) -> Result<(), Memory> {
+    ) -> Result<(), Memory>
+        ensures { IfOk result (λ u. Adds self.old self.new (Node.Error kind at ∷ []) (edge from (node_id (next_of self.old)) (first ∷ []) ∷ [])) }
+    {
         let error = self.node(Node::Error(kind, at))?;
-        self.edge_if(from, error, first)
+        self.edge_if(from, error, first)?;
+        Ok(())
     }
 }

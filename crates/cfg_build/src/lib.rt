@@ -1,11 +1,8 @@
 //! The graphs of a program's functions, made of its flat code, instruction by instruction: a node for each place, a node for each
 //! check that may fail, and the cells that instructions work on.
 //!
-//! **Cells.** First the elements of objects, in the order of the objects, each as wide as its kind (one bit for `_Bool`): so an
-//! object has one run of cells. Then a cell of 64 bits for each slot that some instruction reads, in the order of the slots. Then one
-//! for each width that is drawn into a slot, in the order in which the code first draws it, since a draw has the range of its cell;
-//! and one for an index that a `++` or `--` behind an element keeps. A slot's cell holds its value modulo two to the power of 64,
-//! an element's cell its value modulo two to the power of its width. The place to return to is in no cell.
+//! **Cells.** Elements of objects and slots lie among the cells as `code_layout` says; what an instruction does to them is said by
+//! `code_moves`.
 //!
 //! **Nodes.** The nodes of a function stand in the order of its places, and its exit, an end node, stands last. A place has one node;
 //! an instruction with one check has the node of its error behind its own; one with two checks (a divisor of zero, then an
@@ -25,11 +22,8 @@
 #![tactic(auto)]
 
 mod building;
-mod checks;
 mod draft;
-mod layout;
 mod looping;
-mod moves;
-mod reading;
+mod steps;
 
 pub use building::build;

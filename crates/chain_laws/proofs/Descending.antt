@@ -1,5 +1,5 @@
 -- Formulas along the path down to a vertex.
-use Rattle.std.proofs.Common.{◌≡◌, ℕ, ◌<◌, true, false, List, [], ◌∷◌, ◌++◌, length, map, reverse, Option, Some, None, slice_get, zero, suc, refl, sym, ap, ◌∙◌, subst, arith}
+use Rattle.std.proofs.Common.{◌≡◌, ℕ, ◌<◌, true, false, List, [], ◌∷◌, ◌++◌, drop, length, map, reverse, Option, Some, None, slice_get, zero, suc, refl, sym, ap, ◌∙◌, subst, arith}
 use Rattle.std.proofs.lemmas.Bool.{both_ways}
 use mathlib.Core.List.{reverse-cons}
 use Rattle.bv_term.specs.declared.term.TermId.{TermId}
@@ -15,13 +15,15 @@ use Rattle.term_copy.specs.Copies.{number_in}
 use Rattle.reach_tree.specs.declared.vertex.Vertex.{Vertex}
 use Rattle.reach_tree.specs.Trees.{vertex_at}
 use Rattle.cover_engine.specs.Unwindings.{Unwound, is_false_term, path_of, path_up}
-use Rattle.cover_engine.specs.Units.{EdgeImplies, Links, edge_in, edges_to}
+use Rattle.cover_engine.specs.Reads.{OnlyNames, needed_along}
+use Rattle.cover_engine.specs.Units.{EdgeImplies, Links, NameNeeded, edge_in, edges_to}
 use Rattle.cover_engine.proofs.Subtrees.{path_none, path_some}
 use Rattle.unwinding_laws.specs.Laws.{IsChild, IsTree}
 use Rattle.unwinding_laws.proofs.Rooting.{legal_tree}
 use Rattle.chain_laws.specs.Laws.{FormulasMakeLinks}
 use Rattle.chain_laws.proofs.Copying.{copied-bits, copied-false, copied-implies, copied-true, is-there, map-back, map-long}
 use Rattle.chain_laws.proofs.Linking.{formulas_are_linked}
+use Rattle.chain_laws.proofs.Naming.{formulas-name}
 
 -- each vertex came by an edge
 abbrev CameBy : List Vertex → List ℕ → Type 0
@@ -83,6 +85,20 @@ links-down g table vs x (y ∷ xs) (f ∷ h ∷ fs) c long each last =
       links-down g table vs y xs (h ∷ fs) c.1 (omega (arith, long)) (λ k d a b at one next. all (suc k) d a b at one next) last,
     )
 
+-- each formula names what the edges from its number on read
+abbrev NameRest : Flow → Table → List EdgeId → List TermId → Type 0
+NameRest g table es fs = (k : ℕ) (f : TermId) → slice_get fs k ≡ Some f → OnlyNames table f (needed_along g (drop k es))
+
+names-down : (g : Flow) (table : Table) (vs : List Vertex) (x : ℕ) (xs : List ℕ) (fs : List TermId) → CameBy vs xs
+    → NameRest g table (edges_to vs xs) fs → NameNeeded g table vs (x ∷ xs) fs
+names-down g table vs x xs [] c each = tt
+names-down g table vs x [] (f ∷ fs) c each = (each 0 f refl, tt)
+names-down g table vs x (y ∷ xs) (f ∷ fs) c each =
+    let e : EdgeId = c.0.0 in
+    let all : NameRest g table (e ∷ edges_to vs xs) (f ∷ fs) =
+    subst (λ (es : List EdgeId). NameRest g table es (f ∷ fs)) (edges-more vs y xs e c.0.1) each in
+    (each 0 f refl, names-down g table vs y xs fs c.1 (λ k d at. all (suc k) d at))
+
 -- a path without edges is not refuted
 some-edge : (g : Flow) (path : List EdgeId) (log : List Chain) → IsRefutation (question_of g path).clauses log → 0 < length path
 some-edge g [] log refuted =
@@ -90,7 +106,7 @@ some-edge g [] log refuted =
 some-edge g (e ∷ path) log refuted = omega arith
 
 pub formulas_make_links : FormulasMakeLinks
-formulas_make_links g u v path table to log fs flow legal there is query refuted are made long copies =
+formulas_make_links g u v path table to log fs flow legal there is query refuted are named made long copies =
     let t : IsTree g u = legal_tree g u legal in
     let vs : List Vertex = u.vertices in
     let down : List ℕ = reverse (path_of vs v) in
@@ -113,8 +129,13 @@ formulas_make_links g u v path table to log fs flow legal there is query refuted
     subst (λ (x : TermId). is_false_term u.terms x ≡ true) ea (copied-false table u.terms to long copies (length path) fs a are pos here) in
     let count : length (map number fs) ≡ suc (length d.rest) = map-long number fs ∙ are.count ∙ ap suc many in
     let links : Links g u.terms vs (0 ∷ d.rest) (map number fs) =
-    links-down g u.terms vs 0 d.rest (map number fs) d.came count (subst (λ (es : List EdgeId). Steps g u.terms es (map number fs)) edges each) last in (
-      copied-bits table u.terms to long copies (length path) fs are,
-      copied-true table u.terms to long copies (length path) fs are,
-      subst (λ (xs : List ℕ). Links g u.terms vs xs (map number fs)) (sym d.parts) links,
-    )
+    links-down g u.terms vs 0 d.rest (map number fs) d.came count (subst (λ (es : List EdgeId). Steps g u.terms es (map number fs)) edges each) last in
+    let rest : NameRest g u.terms path (map number fs) = formulas-name g path table u.terms to fs long copies are.count named in
+    let names : NameNeeded g u.terms vs (0 ∷ d.rest) (map number fs) =
+    names-down g u.terms vs 0 d.rest (map number fs) d.came (subst (λ (es : List EdgeId). NameRest g u.terms es (map number fs)) edges rest) in
+    record {
+      terms = copied-bits table u.terms to long copies (length path) fs are;
+      first = copied-true table u.terms to long copies (length path) fs are;
+      links = subst (λ (xs : List ℕ). Links g u.terms vs xs (map number fs)) (sym d.parts) links;
+      names = subst (λ (xs : List ℕ). NameNeeded g u.terms vs xs (map number fs)) (sym d.parts) names;
+    }

@@ -12,7 +12,8 @@ pub fn formulas_are_linked()
 {}
 
 /// Copied into the table of a legal unwinding, the formulas of the cuts of the path of a vertex are links along the path, from true at
-/// the root to false at the vertex, each one bit wide. So they strengthen the path, as far as what they imply is concerned.
+/// the root to false at the vertex, each one bit wide, and each names only cells that the rest of the path reads before it sets them. So
+/// they may strengthen the path.
 pub fn formulas_make_links()
     ensures { FormulasMakeLinks }
 {}

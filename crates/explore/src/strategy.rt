@@ -1,9 +1,10 @@
-ghost use Rattle.std.specs.Prelude.{◌<◌, ◌≡◌, IfOk, IsTrue, Some, length, slice_get, true};
-ghost use Rattle.c_graph.specs.declared.graph.Node.TheVariants.{Plain};
+ghost use Rattle.std.specs.Prelude.{◌<◌, ◌≤◌, ◌≡◌, IfErr, IfOk, OnOk, length, slice_get, true};
 ghost use Rattle.c_graph.specs.Shape.{widths_of};
 ghost use Rattle.reach_tree.specs.Trees.{vertex_at};
 ghost use Rattle.cover_engine.specs.Unwindings.{is_open_leaf};
-ghost use Rattle.explore.specs.Ends.{IsOverCells, IsReady};
+ghost use Rattle.cover_engine.specs.Units.{Legal};
+ghost use Rattle.refine.specs.Refinements.{IsErrorLeaf};
+ghost use Rattle.explore.specs.Ends.{IsEnd, IsExplored, IsOverCells, IsReady, is_plain, is_plain_at, unwinding_of};
 
 use crate::beside::Beside;
 use c_graph::{Graph, Node};
@@ -34,7 +35,7 @@ pub enum Explored {
 
 /// Why no further unit is made.
 #[derive(Drop)]
-enum End {
+pub enum End {
     Complete,
     Feasible(Values),
     Units,
@@ -45,12 +46,20 @@ enum End {
 }
 
 impl From<Memory> for End {
+    ghost use Rattle.explore.specs.Ends.{IsOther};
+
+    ghost from_gives = { λ _ e. IsOther e };
+
     fn from(_: Memory) -> End {
         End::Memory
     }
 }
 
 impl From<QueryFail> for End {
+    ghost use Rattle.explore.specs.Ends.{IsOther};
+
+    ghost from_gives = { λ _ e. IsOther e };
+
     fn from(fail: QueryFail) -> End {
         match fail {
             QueryFail::Over(count) => End::Over(count),
@@ -62,9 +71,9 @@ impl From<QueryFail> for End {
 
 /// What an exploration may spend.
 #[derive(Clone, Copy)]
-struct Budget {
-    units: u64,
-    learn: u64,
+pub struct Budget {
+    pub units: u64,
+    pub learn: u64,
 }
 
 /// An exploration on its way: the unwinding, and what helps to settle its pairs.
@@ -78,6 +87,8 @@ pub struct Work {
 // The open leaf of highest number, unless the unwinding is complete or its units are spent.
 fn next_leaf(graph: &Graph, unwinding: &mut Unwinding, budget: Budget) -> Result<VertexId, End>
     ensures leaf { IfOk result (λ v. (v.0 < length unwinding.new.vertices) × (is_open_leaf graph.now unwinding.new v ≡ true)) }
+    ensures more { IfOk result (λ _. length unwinding.new.journal < budget.units) }
+    ensures ended { IfErr result (IsEnd graph.now budget.units unwinding.new) }
     ensures unchanged { unwinding.new ≡ unwinding.old }
 {
     match unwinding.highest_open(graph) {
@@ -94,14 +105,10 @@ fn next_leaf(graph: &Graph, unwinding: &mut Unwinding, budget: Budget) -> Result
 
 // Whether edges lead on from the vertex's node.
 fn is_plain(graph: &Graph, unwinding: &Unwinding, v: VertexId) -> bool
-    ensures { IsTrue result → slice_get graph.now.nodes (vertex_at unwinding.now.vertices v.0).node.0 ≡ Some Plain }
+    requires { v.0 < length unwinding.now.vertices }
+    ensures { result ≡ is_plain_at graph.now unwinding.now v }
 {
-    let vertices = unwinding.vertices();
-    let number = v.0 as usize;
-    if number >= vertices.len() {
-        return false;
-    }
-    let node = vertices[number].node.0 as usize;
+    let node = unwinding.vertices()[v.0 as usize].node.0 as usize;
     let nodes = graph.nodes();
     if node >= nodes.len() {
         return false;
@@ -140,8 +147,11 @@ fn try_pair(
     budget: Budget,
 ) -> Result<bool, End>
     requires learn { 0 < budget.learn }
-    requires ready { IsReady graph.now work.old.unwinding work.old.witnesses }
-    ensures ready { IsReady graph.now work.new.unwinding work.new.witnesses }
+    requires ready { IsReady graph.now budget.units work.old.unwinding work.old.witnesses }
+    ensures ready { IsReady graph.now budget.units work.new.unwinding work.new.witnesses }
+    ensures ended { IfErr result (IsEnd graph.now budget.units work.new.unwinding) }
+    ensures grows { length work.old.unwinding.journal ≤ length work.new.unwinding.journal }
+    ensures covers { IfOk result (λ b. b ≡ true → length work.old.unwinding.journal < length work.new.unwinding.journal) }
 {
     let count = work.unwinding.vertices().len();
     if v.0 as usize >= count || w.0 as usize >= count || !work.unwinding.may_settle(v, w) {
@@ -173,8 +183,11 @@ fn settle_all(
     budget: Budget,
 ) -> Result<bool, End>
     requires learn { 0 < budget.learn }
-    requires ready { IsReady graph.now work.old.unwinding work.old.witnesses }
-    ensures ready { IsReady graph.now work.new.unwinding work.new.witnesses }
+    requires ready { IsReady graph.now budget.units work.old.unwinding work.old.witnesses }
+    ensures ready { IsReady graph.now budget.units work.new.unwinding work.new.witnesses }
+    ensures ended { IfErr result (IsEnd graph.now budget.units work.new.unwinding) }
+    ensures grows { length work.old.unwinding.journal ≤ length work.new.unwinding.journal }
+    ensures covers { IfOk result (λ b. b ≡ true → length work.old.unwinding.journal < length work.new.unwinding.journal) }
 {
     for w in below_of(alloc, work, v)? {
         if try_pair(alloc, graph, work, v, w, budget)? {
@@ -193,9 +206,13 @@ fn refine_at(
     budget: Budget,
 ) -> Result<(), End>
     requires leaf { leaf.0 < length work.old.unwinding.vertices }
-    requires ready { IsReady graph.now work.old.unwinding work.old.witnesses }
+    requires error { IsErrorLeaf graph.now work.old.unwinding leaf }
+    requires ready { IsReady graph.now budget.units work.old.unwinding work.old.witnesses }
     requires learn { 0 < budget.learn }
-    ensures ready { IsReady graph.now work.new.unwinding work.new.witnesses }
+    requires more { length work.old.unwinding.journal < budget.units }
+    ensures ready { IsReady graph.now budget.units work.new.unwinding work.new.witnesses }
+    ensures ended { IfErr result (IsEnd graph.now budget.units work.new.unwinding) }
+    ensures grows { OnOk result (length work.old.unwinding.journal < length work.new.unwinding.journal) }
 {
     match refine_leaf(alloc, graph, &mut work.unwinding, leaf, budget.learn)? {
         Refined::Strengthened(_) => {}
@@ -209,31 +226,46 @@ fn refine_at(
     Ok(())
 }
 
+// Expands the highest open leaf, or refines it at an error.
+fn advance(alloc: Global, graph: &Graph, work: &mut Work, budget: Budget) -> Result<(), End>
+    requires ready { IsReady graph.now budget.units work.old.unwinding work.old.witnesses }
+    requires learn { 0 < budget.learn }
+    ensures ready { IsReady graph.now budget.units work.new.unwinding work.new.witnesses }
+    ensures ended { IfErr result (IsEnd graph.now budget.units work.new.unwinding) }
+    ensures grows { OnOk result (length work.old.unwinding.journal < length work.new.unwinding.journal) }
+{
+    let _entry = graph.entry();
+    let leaf = next_leaf(graph, &mut work.unwinding, budget)?;
+    if is_plain(graph, &work.unwinding, leaf) {
+        work.unwinding.expanded(alloc, graph, leaf)?;
+        return Ok(());
+    }
+    refine_at(alloc, graph, work, leaf, budget)
+}
+
 // One turn: the highest open leaf is covered, expanded or refined. Settling its pairs without covering it leaves it the highest.
 fn turn(alloc: Global, graph: &Graph, work: &mut Work, budget: Budget) -> Result<(), End>
-    requires ready { IsReady graph.now work.old.unwinding work.old.witnesses }
+    requires ready { IsReady graph.now budget.units work.old.unwinding work.old.witnesses }
     requires learn { 0 < budget.learn }
-    ensures ready { IsReady graph.now work.new.unwinding work.new.witnesses }
+    ensures ready { IsReady graph.now budget.units work.new.unwinding work.new.witnesses }
+    ensures ended { IfErr result (IsEnd graph.now budget.units work.new.unwinding) }
+    ensures grows { OnOk result (length work.old.unwinding.journal < length work.new.unwinding.journal) }
 {
     let first = next_leaf(graph, &mut work.unwinding, budget)?;
     if is_plain(graph, &work.unwinding, first) && settle_all(alloc, graph, work, first, budget)? {
         return Ok(());
     }
-    let leaf = next_leaf(graph, &mut work.unwinding, budget)?;
-    if !is_plain(graph, &work.unwinding, leaf) {
-        return refine_at(alloc, graph, work, leaf, budget);
-    }
-    work.unwinding.expanded(alloc, graph, leaf)?;
-    Ok(())
+    advance(alloc, graph, work, budget)
 }
 
 // Makes turns until there is an end. Each makes a unit, so there are no more turns than units.
 fn run(alloc: Global, graph: &Graph, work: &mut Work, budget: Budget) -> End
-    requires ready { IsReady graph.now work.old.unwinding work.old.witnesses }
+    requires ready { IsReady graph.now budget.units work.old.unwinding work.old.witnesses }
     requires learn { 0 < budget.learn }
-    ensures ready { IsReady graph.now work.new.unwinding work.new.witnesses }
+    ensures ready { IsReady graph.now budget.units work.new.unwinding work.new.witnesses }
+    ensures ended { IsEnd graph.now budget.units work.new.unwinding result }
 {
-    for _ in 0..budget.units {
+    for _made in 0..budget.units {
         if let Err(end) = turn(alloc, graph, work, budget) {
             return end;
         }
@@ -244,11 +276,14 @@ fn run(alloc: Global, graph: &Graph, work: &mut Work, budget: Budget) -> End
     }
 }
 
-/// Explores a graph from its entry, by at most so many units, each question to the solver learning at most so many clauses.
+/// Explores a graph from its entry, by at most so many units, each question to the solver learning at most so many clauses. Each unit is
+/// legal where it stands.
 pub fn explore(alloc: Global, graph: &Graph, units: u64, learn: u64) -> Result<Explored, Memory>
     requires units { 0 < units }
     requires learn { 0 < learn }
     ensures cells { IfOk result (IsOverCells graph.now) }
+    ensures legal { IfOk result (λ e. Legal graph.now (unwinding_of e)) }
+    ensures explored { IfOk result (IsExplored graph.now units) }
 {
     let mut work = Work {
         unwinding: Unwinding::new(alloc, graph)?,

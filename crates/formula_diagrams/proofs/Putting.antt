@@ -17,7 +17,7 @@ use Rattle.formula_diagrams.specs.declared.writing.Side.{Side}
 use Rattle.formula_diagrams.specs.declared.writing.Side.TheVariants.{Never, Always, Written}
 use Rattle.formula_diagrams.specs.Shape.{IsBitIn}
 use Rattle.formula_diagrams.specs.Truths.{choice, is_set}
-use Rattle.formula_diagrams.specs.Writings.{IsOneBit, IsTruth, IsSide, SideTells}
+use Rattle.formula_diagrams.specs.Writings.{IsPlain, IsPlain.is_constant, IsPlain.is_cell, IsPlain.is_bit, IsPlain.is_not, IsPlain.is_and, IsPlain.is_or, IsOneBit, IsTruth, IsSide, SideTells}
 
 -- a term of a table, over the widths and values of the terms before it
 record Over (cw store allw allv ws vs : List ℕ) (t : Term) (k : ℕ) : Type 0 where
@@ -100,10 +100,27 @@ put-extends (Ok x) a b t p q = elim p [
 ]
 put-extends (Err x) a b t p q = subst (λ (c : Table). Extends a c) (sym q) (extends-none a)
 
+get-left : (xs ys : List Term) (k : ℕ) (t : Term) → slice_get xs k ≡ Some t → slice_get (xs ++ ys) k ≡ Some t
+get-left [] ys k t s = absurd cc
+get-left (x ∷ xs) ys zero t s = s
+get-left (x ∷ xs) ys (suc k) t s = get-left xs ys k t s
+
+get-stays : (a b : Table) (k : ℕ) (t : Term) → Extends a b → slice_get a.terms k ≡ Some t → slice_get b.terms k ≡ Some t
+get-stays a b k t g s = subst (λ (ts : List Term). slice_get ts k ≡ Some t) (sym g.1.1) (get-left a.terms g.1.0 k t s)
+
+pub plain-stays : (a b : Table) (P : ℕ → Type 0) (t : TermId) → Extends a b → IsPlain a P t → IsPlain b P t
+plain-stays a b P t g (is_constant w v s) = is_constant w v (get-stays a b t.0 (Constant w v) g s)
+plain-stays a b P t g (is_cell c n s) = is_cell c n (get-stays a b t.0 (Cell c) g s)
+plain-stays a b P t g (is_bit k i p s) = is_bit k i (plain-stays a b P i g p) (get-stays a b t.0 (Bit k i) g s)
+plain-stays a b P t g (is_not i p s) = is_not i (plain-stays a b P i g p) (get-stays a b t.0 (Not i) g s)
+plain-stays a b P t g (is_and i j p q s) = is_and i j (plain-stays a b P i g p) (plain-stays a b P j g q) (get-stays a b t.0 (And i j) g s)
+plain-stays a b P t g (is_or i j p q s) = is_or i j (plain-stays a b P i g p) (plain-stays a b P j g q) (get-stays a b t.0 (Or i j) g s)
+
 pub bit-stays : (a b : Table) (t : TermId) → Extends a b → IsOneBit a t → IsOneBit b t
 bit-stays a b t g h = record {
   there = omega (arith, h.there, ap length g.1.1, length-append a.terms g.1.0);
   width = widths_stay a b t g h.there ∙ h.width;
+  plain = plain-stays a b (λ c. Unit {0}) t g h.plain;
 }
 
 pub truth-stays : (a b : Table) (t : TermId) (f : List ℕ → Bool) → Extends a b → IsTruth a t f → IsTruth b t f
@@ -148,17 +165,29 @@ fits-bit a b id x h g is s =
 pub bit-not : (b : Table) (t id : TermId) → IsTable b → slice_get b.terms id.0 ≡ Some (Not t) → IsOneBit b t → IsOneBit b id
 bit-not b t id is s h =
     let o = (over b [] id.0 (Not t) is s).1.1 in
-    record { there = there-below b.terms id.0 (Not t) s; width = o.width ∙ o.same t.0 (omega (arith, o.fits, o.many)) ∙ h.width }
+    record {
+      there = there-below b.terms id.0 (Not t) s;
+      width = o.width ∙ o.same t.0 (omega (arith, o.fits, o.many)) ∙ h.width;
+      plain = is_not t h.plain s;
+    }
 
-pub bit-and : (b : Table) (t u id : TermId) → IsTable b → slice_get b.terms id.0 ≡ Some (And t u) → IsOneBit b t → IsOneBit b id
-bit-and b t u id is s h =
+pub bit-and : (b : Table) (t u id : TermId) → IsTable b → slice_get b.terms id.0 ≡ Some (And t u) → IsOneBit b t → IsOneBit b u → IsOneBit b id
+bit-and b t u id is s h i =
     let o = (over b [] id.0 (And t u) is s).1.1 in
-    record { there = there-below b.terms id.0 (And t u) s; width = o.width ∙ o.same t.0 (omega (arith, o.fits.0, o.many)) ∙ h.width }
+    record {
+      there = there-below b.terms id.0 (And t u) s;
+      width = o.width ∙ o.same t.0 (omega (arith, o.fits.0, o.many)) ∙ h.width;
+      plain = is_and t u h.plain i.plain s;
+    }
 
-pub bit-or : (b : Table) (t u id : TermId) → IsTable b → slice_get b.terms id.0 ≡ Some (Or t u) → IsOneBit b t → IsOneBit b id
-bit-or b t u id is s h =
+pub bit-or : (b : Table) (t u id : TermId) → IsTable b → slice_get b.terms id.0 ≡ Some (Or t u) → IsOneBit b t → IsOneBit b u → IsOneBit b id
+bit-or b t u id is s h i =
     let o = (over b [] id.0 (Or t u) is s).1.1 in
-    record { there = there-below b.terms id.0 (Or t u) s; width = o.width ∙ o.same t.0 (omega (arith, o.fits.0, o.many)) ∙ h.width }
+    record {
+      there = there-below b.terms id.0 (Or t u) s;
+      width = o.width ∙ o.same t.0 (omega (arith, o.fits.0, o.many)) ∙ h.width;
+      plain = is_or t u h.plain i.plain s;
+    }
 
 -- what was put
 not_truth : (x : Bool) → complement_in 1 (truth x) ≡ truth (not x)
@@ -172,7 +201,7 @@ put-not a b t id f is g s h =
     let lt0 : t.0 < id.0 = omega (arith, o0.fits, o0.many) in
     let w0 : slice_index (widths b) id.0 ≡ 1 = o0.width ∙ o0.same t.0 lt0 ∙ k.bit.width in
     record {
-      bit = record { there = there-below b.terms id.0 (Not t) s; width = w0 };
+      bit = record { there = there-below b.terms id.0 (Not t) s; width = w0; plain = is_not t k.bit.plain s };
       told = λ store.
           let o = (over b store id.0 (Not t) is s).1.1 in
           let us = (over b store id.0 (Not t) is s).0 in
@@ -202,7 +231,11 @@ put-and a b t u id f g is x s h i =
     let o0 = (over b [] id.0 (And t u) is s).1.1 in
     let lt0 : t.0 < id.0 = omega (arith, o0.fits.0, o0.many) in
     record {
-      bit = record { there = there-below b.terms id.0 (And t u) s; width = o0.width ∙ o0.same t.0 lt0 ∙ k.bit.width };
+      bit = record {
+        there = there-below b.terms id.0 (And t u) s;
+        width = o0.width ∙ o0.same t.0 lt0 ∙ k.bit.width;
+        plain = is_and t u k.bit.plain l.bit.plain s;
+      };
       told = λ store.
           let o = (over b store id.0 (And t u) is s).1.1 in
           let xs = (over b store id.0 (And t u) is s).1.0 in
@@ -218,7 +251,11 @@ put-or a b t u id f g is x s h i =
     let o0 = (over b [] id.0 (Or t u) is s).1.1 in
     let lt0 : t.0 < id.0 = omega (arith, o0.fits.0, o0.many) in
     record {
-      bit = record { there = there-below b.terms id.0 (Or t u) s; width = o0.width ∙ o0.same t.0 lt0 ∙ k.bit.width };
+      bit = record {
+        there = there-below b.terms id.0 (Or t u) s;
+        width = o0.width ∙ o0.same t.0 lt0 ∙ k.bit.width;
+        plain = is_or t u k.bit.plain l.bit.plain s;
+      };
       told = λ store.
           let o = (over b store id.0 (Or t u) is s).1.1 in
           let xs = (over b store id.0 (Or t u) is s).1.0 in
@@ -241,6 +278,7 @@ put-bit a b c x cell id isb sb isc g sc =
       bit = record {
         there = there-below c.terms id.0 (Bit x.bit cell) sc;
         width = (over c [] id.0 (Bit x.bit cell) isc sc).1.1.width;
+        plain = is_bit x.bit cell (is_cell x.cell tt (get-stays b c cell.0 (Cell x.cell) g sb)) sc;
       };
       told = λ store.
           let ob = (over b store cell.0 (Cell x.cell) isb sb).1.1 in
@@ -257,7 +295,11 @@ fits-end a n lt = ((omega arith, omega arith), omega (arith, lt))
 
 pub put-end : (b : Table) (id : TermId) (n : ℕ) (f : List ℕ → Bool) → IsTable b → slice_get b.terms id.0 ≡ Some (Constant 1 n) → ((store : List ℕ) → n ≡ truth (f store)) → IsTruth b id f
 put-end b id n f is s e = record {
-  bit = record { there = there-below b.terms id.0 (Constant 1 n) s; width = (over b [] id.0 (Constant 1 n) is s).1.1.width };
+  bit = record {
+    there = there-below b.terms id.0 (Constant 1 n) s;
+    width = (over b [] id.0 (Constant 1 n) is s).1.1.width;
+    plain = is_constant 1 n s;
+  };
   told = λ store. (over b store id.0 (Constant 1 n) is s).1.1.value ∙ e store;
 }
 
@@ -272,20 +314,20 @@ pub not-result : {E : Type 0} (r : Result TermId E) (a b : Table) (t : TermId) �
 not-result (Ok id) a b t is g s f h = put-not a b t id f is g s h
 not-result (Err e) a b t is g s f h = tt
 
-pub and-bits : {E : Type 0} (r : Result TermId E) (a b : Table) (t u : TermId) → IsTable b → Extends a b → IfOk r (λ id. slice_get b.terms id.0 ≡ Some (And t u)) → IsOneBit a t
+pub and-bits : {E : Type 0} (r : Result TermId E) (a b : Table) (t u : TermId) → IsTable b → Extends a b → IfOk r (λ id. slice_get b.terms id.0 ≡ Some (And t u)) → IsOneBit a t → IsOneBit a u
     → IfOk r (λ id. IsOneBit b id)
-and-bits (Ok id) a b t u is g s h = bit-and b t u id is s (bit-stays a b t g h)
-and-bits (Err e) a b t u is g s h = tt
+and-bits (Ok id) a b t u is g s h i = bit-and b t u id is s (bit-stays a b t g h) (bit-stays a b u g i)
+and-bits (Err e) a b t u is g s h i = tt
 
 pub and-result : {E : Type 0} (r : Result TermId E) (a b : Table) (t u : TermId) → IsTable b → Extends a b → IfOk r (λ id. slice_get b.terms id.0 ≡ Some (And t u))
     → (f g : List ℕ → Bool) → IsTruth a t f → IsTruth a u g → IfOk r (λ id. IsTruth b id (λ store. f store && g store))
 and-result (Ok id) a b t u is x s f g h i = put-and a b t u id f g is x s h i
 and-result (Err e) a b t u is x s f g h i = tt
 
-pub or-bits : {E : Type 0} (r : Result TermId E) (a b : Table) (t u : TermId) → IsTable b → Extends a b → IfOk r (λ id. slice_get b.terms id.0 ≡ Some (Or t u)) → IsOneBit a t
+pub or-bits : {E : Type 0} (r : Result TermId E) (a b : Table) (t u : TermId) → IsTable b → Extends a b → IfOk r (λ id. slice_get b.terms id.0 ≡ Some (Or t u)) → IsOneBit a t → IsOneBit a u
     → IfOk r (λ id. IsOneBit b id)
-or-bits (Ok id) a b t u is g s h = bit-or b t u id is s (bit-stays a b t g h)
-or-bits (Err e) a b t u is g s h = tt
+or-bits (Ok id) a b t u is g s h i = bit-or b t u id is s (bit-stays a b t g h) (bit-stays a b u g i)
+or-bits (Err e) a b t u is g s h i = tt
 
 pub or-result : {E : Type 0} (r : Result TermId E) (a b : Table) (t u : TermId) → IsTable b → Extends a b → IfOk r (λ id. slice_get b.terms id.0 ≡ Some (Or t u))
     → (f g : List ℕ → Bool) → IsTruth a t f → IsTruth a u g → IfOk r (λ id. IsTruth b id (λ store. f store || g store))

@@ -1,6 +1,7 @@
 -- Formulas as terms of a table.
 use Rattle.std.specs.Prelude.{ℕ, ◌+◌, ◌-◌, ◌<◌, ◌≤◌, ◌≡◌, Bool, true, false, List, length, slice_index, slice_index_or, slice_get, slice_set, Some, ◌==◌, nat_lt, if◌then◌else◌}
 use Rattle.bv_term.specs.declared.term.TermId.{TermId}
+use Rattle.bv_term.specs.declared.term.Term.TheVariants.{Constant, Cell, And, Or, Not, Bit}
 use Rattle.bv_term.specs.Numbers.{truth}
 use Rattle.bv_term.specs.WellFormed.{Table, IsTable, widths}
 use Rattle.bv_term.specs.Values.{value}
@@ -11,10 +12,23 @@ use Rattle.formula_diagrams.specs.declared.writing.Side.TheVariants.{Never, Alwa
 use Rattle.formula_diagrams.specs.Shape.{Arena}
 use Rattle.formula_diagrams.specs.Truths.{holds}
 
--- the term is there, and one bit wide
+-- the term is made of constants and of bits of these cells by `~`, `&` and `o`
+pub data IsPlain (table : Table) (named : ℕ → Type 0) : TermId → Type 0 where
+  is_constant : {t : TermId} (w v : ℕ) → slice_get table.terms t.0 ≡ Some (Constant w v) → IsPlain table named t
+  is_cell : {t : TermId} (c : ℕ) → named c → slice_get table.terms t.0 ≡ Some (Cell c) → IsPlain table named t
+  is_bit : {t : TermId} (k : ℕ) (i : TermId) → IsPlain table named i → slice_get table.terms t.0 ≡ Some (Bit k i) → IsPlain table named t
+  is_not : {t : TermId} (i : TermId) → IsPlain table named i → slice_get table.terms t.0 ≡ Some (Not i) → IsPlain table named t
+  is_and : {t : TermId} (i j : TermId) → IsPlain table named i → IsPlain table named j → slice_get table.terms t.0 ≡ Some (And i j) → IsPlain table named t
+  is_or : {t : TermId} (i j : TermId) → IsPlain table named i → IsPlain table named j → slice_get table.terms t.0 ≡ Some (Or i j) → IsPlain table named t
+
+abbrev pub AnyCell : ℕ → Type 0
+AnyCell c = Unit {0}
+
+-- the term is there, one bit wide, and made of constants and of bits of cells by `~`, `&` and `o`
 pub record IsOneBit (table : Table) (t : TermId) : Type 0 where
   pub there : t.0 < length table.terms
   pub width : slice_index (widths table) t.0 ≡ 1
+  pub plain : IsPlain table AnyCell t
 
 -- the term is one bit, and its value in each store is this truth
 pub record IsTruth (table : Table) (t : TermId) (f : List ℕ → Bool) : Type 0 where

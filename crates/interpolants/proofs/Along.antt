@@ -139,7 +139,7 @@ last_is_meant table cells (suc n) q log fs t is query refuted are pos g =
     last-fails table cells n q log t is query refuted (are.last t pos g)
 
 -- stores that give the cells of a cut the same values
-same-said : (bundles : List Bundle) (one other : List ℕ) → SameOn bundles one other → (k : ℕ) (p : Placed) → slice_get (bits_of bundles) k ≡ Some p
+pub same-said : (bundles : List Bundle) (one other : List ℕ) → SameOn bundles one other → (k : ℕ) (p : Placed) → slice_get (bits_of bundles) k ≡ Some p
     → said one p ≡ said other p
 unfolding is_set
 same-said bundles one other same k p h =

@@ -12,3 +12,4 @@ pub mod Along
 pub mod Walking
 pub mod Ending
 pub mod Truths
+pub mod KeptCells

@@ -9,7 +9,7 @@ use Rattle.bv_term.specs.WellFormed.{Table}
 use Rattle.bv_term.specs.Laws.{Extends}
 use Rattle.c_graph.specs.Shape.{HasWidth}
 use Rattle.formula_diagrams.specs.Writings.{IsOneBit}
-use Rattle.formula_diagrams.proofs.Putting.{bit-stays}
+use Rattle.bv_term.proofs.Staying.{widths_stay}
 use Rattle.interpolants.specs.Cuts.{Adds, AreFormulas, IsEnd}
 
 get-left : {A : Type 0} (xs ys : List A) (k : ℕ) (a : A) → slice_get xs k ≡ Some a → slice_get (xs ++ ys) k ≡ Some a
@@ -25,7 +25,7 @@ pub has-one : (a : Table) (t : TermId) → IsOneBit a t → HasWidth a t 1
 has-one a t h = (h.there, h.width)
 
 pub width-stays : (a b : Table) (t : TermId) → Extends a b → HasWidth a t 1 → HasWidth b t 1
-width-stays a b t g h = let one : IsOneBit a t = record { there = h.0; width = h.1 } in has-one b t (bit-stays a b t g one)
+width-stays a b t g h = (omega (arith, h.0, ap length g.1.1, length-append a.terms g.1.0), widths_stay a b t g h.0 ∙ h.1)
 
 pub end-stays : (a b : Table) (n : ℕ) (t : TermId) → Extends a b → IsEnd a n t → IsEnd b n t
 end-stays a b n t g h =

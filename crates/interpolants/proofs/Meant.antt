@@ -108,7 +108,7 @@ added-there b n (x ∷ []) new (suc k) t one h pos g =
 abbrev pub AreMade : Table → PathQuery → List Chain → ℕ → List TermId → Type 0
 AreMade table q log n fs = (k : ℕ) (t : TermId) → 0 < k → k < n → slice_get fs k ≡ Some t → IsFormulaAt table q log k t
 
-added-long : (b : Table) (n : ℕ) (old new : List TermId) → length old ≡ 1 → Adds b n old new → length new ≡ suc n
+pub added-long : (b : Table) (n : ℕ) (old new : List TermId) → length old ≡ 1 → Adds b n old new → length new ≡ suc n
 added-long b n old new one h =
     let e = ap length h.parts in
     omega (arith, e, length-append old h.more, h.count, one)

@@ -10,3 +10,4 @@ pub mod Walks
 pub mod Knowing
 pub mod CutMeanings
 pub mod Laws
+pub mod NamedCells

@@ -3,7 +3,8 @@
 ghost use Rattle.std.specs.Prelude.{◌≡◌, ◌+◌, ◌<◌, ◌-◌, ℕ, List, length, suc, All, IfOk, OnOk, Some, slice_get, slice_index_or};
 ghost use Rattle.bv_term.specs.Laws.{Extends};
 ghost use Rattle.c_graph.specs.Shape.{widths_of};
-ghost use Rattle.formula_diagrams.specs.Writings.{IsOneBit};
+ghost use Rattle.formula_diagrams.specs.Writings.{IsOneBit, IsPlain};
+ghost use Rattle.path_query.specs.declared.query.Bundle.{Bundle};
 ghost use Rattle.path_query.specs.Facts.{IsBundle, IsQuery};
 ghost use Rattle.resolution_log.specs.Chains.{IsRefutation};
 ghost use Rattle.interpolants.specs.declared.items.Placed.{Placed};
@@ -11,11 +12,14 @@ ghost use Rattle.interpolants.specs.CutMeanings.{AreCutFormulas, IsCutFormula, I
 ghost use Rattle.interpolants.specs.Cuts.{Adds, AreCutBits, AreFormulas};
 ghost use Rattle.interpolants.specs.Knowing.{IsKnown};
 ghost use Rattle.interpolants.specs.Keeping.{term_truth};
-ghost use Rattle.interpolants.specs.Placings.{SameBits};
+ghost use Rattle.interpolants.specs.NamedCells.{AreKeptCells, AreNamed, IsNamedAt};
+ghost use Rattle.interpolants.specs.Placings.{SameBits, bits_of};
 ghost use Rattle.interpolants.specs.Sources.{AreEnds};
 ghost use Rattle.interpolants.specs.Walks.{AreCovered, IsCut, IsCutTruth};
+ghost use Rattle.term_masks.specs.Masks.{IsKept};
 
 use crate::cone::Cone;
+use crate::mask::kept_of;
 use crate::occurrences::Ends;
 use crate::placing::place_bits;
 use crate::plain::put_end;
@@ -28,6 +32,8 @@ use lv_base::Memory;
 use path_query::{Bundle, PathQuery};
 use resolution_log::Log;
 use std::alloc::Global;
+use term_copy::number_in;
+use term_masks::masked;
 
 /// A formula whose diagram would have more nodes is made of plain terms.
 const MOST_NODES: u32 = 4_000;
@@ -102,6 +108,30 @@ fn put_formula(
     }
 }
 
+// The formula of a cut, made in a table of its own, and put into another with 0 in place of all cells but those that are kept. It depends on
+// the cells of the cut alone, so where they are kept it is the same formula.
+fn put_kept(
+    alloc: Global,
+    cut: &Cut,
+    kept: &[bool],
+    memo: &mut Memo,
+    terms: &mut Terms,
+) -> Result<TermId, Memory>
+    requires bits { AreCutBits terms.old.cells cut.now.bits.now }
+    requires exact { IsCut cut.now }
+    ensures extends { Extends terms.old terms.new }
+    ensures bit { IfOk result (IsOneBit terms.new) }
+    ensures long { length memo.new ≡ length memo.old }
+    ensures names { IfOk result (IsPlain terms.new (IsKept kept.now)) }
+    ensures meaning { (bundles : List Bundle) → AreEnds cut.now.clauses.now cut.now.ends.now → SameBits (bits_of bundles) cut.now.bits.now.bits.items → AreKeptCells kept.now bundles → length memo.old ≡ length cut.now.clauses.now + length cut.now.log.now → 0 < length cut.now.log.now → IfOk result (IsCutFormula terms.new cut.now.clauses.now cut.now.log.now cut.now.edge (bits_of bundles)) }
+{
+    let cells = Vec::from_slice(alloc, terms.cells())?;
+    let mut own = Terms::new(alloc, cells);
+    let formula = put_formula(alloc, cut, memo, &mut own)?;
+    let to = masked(alloc, &own, kept, terms)?;
+    Ok(number_in(&to, formula))
+}
+
 // The cells of a cut.
 fn bundles_at(query: &PathQuery, number: usize) -> &[Bundle]
     requires { number < length query.now.cuts }
@@ -139,12 +169,14 @@ fn put_at(
     ensures extends { Extends terms.old terms.new }
     ensures bit { IfOk result (IsOneBit terms.new) }
     ensures long { length memo.new ≡ length memo.old }
+    ensures names { IfOk result (IsNamedAt terms.new query.now number) }
     ensures meaning { IfOk result (IsFormulaAt terms.new query.now log.now number) }
 {
     let _count = terms.count();
     let bundles = bundles_at(query, number);
     let edge = edge_at(query, number);
     let bits = place_bits(alloc, bundles)?;
+    let kept = kept_of(alloc, bundles, terms.cells().len())?;
     let cut = Cut {
         clauses: &query.clauses,
         log,
@@ -153,7 +185,7 @@ fn put_at(
         bits: &bits,
         edge,
     };
-    put_formula(alloc, &cut, memo, terms)
+    put_kept(alloc, &cut, &kept, memo, terms)
 }
 
 // Adds the formulas of the cuts that are neither the first nor the last.
@@ -168,8 +200,10 @@ fn put_inner(
     requires cuts { length query.now.cuts ≡ suc (length query.now.starts) }
     requires bundles { All (All (IsBundle terms.old.cells)) query.now.cuts }
     requires first { length formulas.old.items ≡ 1 }
+    requires named { AreNamed terms.old query.now formulas.old.items }
     ensures extends { Extends terms.old terms.new }
     ensures adds { OnOk result (Adds terms.new (length query.now.starts - 1) formulas.old.items formulas.new.items) }
+    ensures names { OnOk result (AreNamed terms.new query.now formulas.new.items) }
     ensures meaning { OnOk result (AreCutFormulas terms.new query.now log.now formulas.new.items) }
 {
     let known = known_of(alloc, query, log)?;
@@ -191,7 +225,8 @@ fn put_inner(
 ///
 /// At each cut it takes time in proportion to the pairs of the log from which the last result comes, but for what joining takes:
 /// formulas are decision diagrams, and so have one number where they are equal, or plain terms where a diagram has more than some
-/// thousand nodes. After a failure further terms may stand in the table.
+/// thousand nodes. Each names the cells of its cut alone, in constants and bits of cells under `~`, `&` and `o`. After a failure further
+/// terms may stand in the table.
 pub fn chain(
     alloc: Global,
     graph: &Graph,
@@ -205,6 +240,7 @@ pub fn chain(
     requires cells { terms.old.cells ≡ widths_of graph.now.cells }
     ensures extends { Extends terms.old terms.new }
     ensures formulas { IfOk result (λ r. AreFormulas terms.new (length path.now) r.items) }
+    ensures names { IfOk result (λ r. AreNamed terms.new query.now r.items) }
     ensures meaning { IfOk result (λ r. AreCutFormulas terms.new query.now log.now r.items) }
 {
     let _ = graph.entry();

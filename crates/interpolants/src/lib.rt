@@ -7,6 +7,7 @@ mod formulas;
 mod items;
 mod joining;
 pub mod laws;
+mod mask;
 mod occurrences;
 mod placing;
 mod plain;

@@ -232,6 +232,17 @@ fn maps_and_obligations() {
 }
 
 #[test]
+fn calls_as_copies() {
+    inline_laws::inlined_runs_follow();
+    inline_laws::inlined_map_means_safe();
+}
+
+#[test]
+fn chains_of_edges() {
+    edge_chain_laws::chains_keep_errors();
+}
+
+#[test]
 fn fresh_literals() {
     blast_laws::fresh_take_any();
     blast_laws::fresh_stay();
@@ -242,6 +253,11 @@ fn fresh_literals() {
 fn pairs() {
     pair_query::laws::pair_exact();
     pair_query::laws::pair_read();
+}
+
+#[test]
+fn layouts_of_code() {
+    code_layout::laws::layouts_lie();
 }
 
 #[test]

@@ -12,7 +12,7 @@ ghost use Rattle.path_formula.specs.Questions.{question_of};
 ghost use Rattle.cover_engine.specs.Unwindings.{path_of};
 ghost use Rattle.cover_engine.specs.Units.{Legal, edges_to};
 ghost use Rattle.chain_laws.specs.Laws.{AreLinks};
-ghost use Rattle.refine.specs.Refinements.{IsRefined, IsStrengthened, OnlyGrows, edges_of};
+ghost use Rattle.refine.specs.Refinements.{IsErrorLeaf, IsRefined, IsStrengthened, OnlyGrows, edges_of};
 
 use crate::answers::{Refined, answer_to, no_clauses, no_memory};
 use crate::values::drawn_values;
@@ -86,14 +86,16 @@ fn strengthen(
     requires path { path.now ≡ edges_of unwinding.old v }
     ensures extends { Extends unwinding.old.terms unwinding.new.terms }
     ensures strengthened { IfOk result (λ _. IsStrengthened graph.now unwinding.old unwinding.new v) }
+    ensures legal { Legal graph.now unwinding.old → IsErrorLeaf graph.now unwinding.old v → Legal graph.now unwinding.new }
     ensures only { OnErr result (OnlyGrows unwinding.old unwinding.new) }
 {
+    let _vertices = unwinding.vertices();
     let formulas = formulas_of(alloc, graph, unwinding, path, query, log)?;
     unwinding.refined(alloc, graph, v, formulas)
 }
 
 /// Asks for a run of an error leaf's path. Where there is none, one Refine unit strengthens the path by formulas that one
-/// refutation gives.
+/// refutation gives. The unit is legal where the unwinding was and the leaf is open and at an error.
 ///
 /// `Over` says that the path's clauses would have too many literals, `OverLog` that the refutation would have too many steps.
 pub fn refine_leaf(
@@ -108,6 +110,7 @@ pub fn refine_leaf(
     requires learn { 0 < learn }
     ensures extends { Extends unwinding.old.terms unwinding.new.terms }
     ensures refined { IfOk result (IsRefined graph.now unwinding.old unwinding.new v learn) }
+    ensures legal { Legal graph.now unwinding.old → IsErrorLeaf graph.now unwinding.old v → Legal graph.now unwinding.new }
     ensures only { OnErr result (OnlyGrows unwinding.old unwinding.new) }
 {
     let path = match unwinding.path_to(alloc, v) {

@@ -6,7 +6,7 @@ pub put_term-requires : goal.put_term-requires
 put_term-requires c = fits-and _ _ _ c.requires.left c.requires.right
 
 pub returns-clause-bit : goal.returns-clause-bit
-returns-clause-bit c = and-bits _ _ _ _ _ c.put_term.ensures.table c.put_term.ensures.extends c.put_term.ensures.named c.requires.left
+returns-clause-bit c = and-bits _ _ _ _ _ c.put_term.ensures.table c.put_term.ensures.extends c.put_term.ensures.named c.requires.left c.requires.right
 
 pub returns-clause-truth : goal.returns-clause-truth
 returns-clause-truth c = λ f g h i. and-result _ _ _ _ _ c.put_term.ensures.table c.put_term.ensures.extends c.put_term.ensures.named f g h i

@@ -2,6 +2,7 @@ use Rattle.std.proofs.Common.{◌≡◌, ◌≢◌, ◌+◌, ◌-◌, List, [], 
 use Rattle.std.proofs.lemmas.Bool.{both_ways, eq-eqb, eqb-true}
 use Rattle.bv_term.specs.declared.term.TermId.{TermId}
 use Rattle.formula_diagrams.proofs.Putting.{extends-twice}
+use Rattle.interpolants.proofs.KeptCells.{named-end, named-first, named-push}
 use Rattle.interpolants.proofs.Listing.{formulas-one, formulas-more}
 use Rattle.interpolants.proofs.Meant.{meant-more}
 use Rattle.interpolants.proofs.formulas.chain.Goals as goal
@@ -33,3 +34,13 @@ returns-clause-meaning c =
     let one = ap length (c.in_ok-push.ensures.items ∙ ap (λ (ts : List TermId). ts ++ c.in_ok-first.first ∷ []) c.new-formulas.ensures.items) in
     meant-more c.put_inner.new.terms c.put_end-2.new.terms c.args.query.now c.args.log.now _ _ _ _ c.in_ok-last.last c.put_end-2.ensures.extends one
     c.in_ok-put_inner.ensures.adds refl c.in_ok-put_inner.ensures.meaning c.in_ok-push-2.ensures.items
+
+pub put_inner-requires-clause-named : goal.put_inner-requires-clause-named
+put_inner-requires-clause-named c =
+    let e = c.in_ok-push.ensures.items ∙ ap (λ (ts : List TermId). ts ++ c.in_ok-first.first ∷ []) c.new-formulas.ensures.items in
+    named-first c.put_end.new.terms c.args.query.now c.in_ok-first.first _ e c.in_ok-first.ensures.value
+
+pub returns-clause-names : goal.returns-clause-names
+returns-clause-names c =
+    named-push c.put_inner.new.terms c.put_end-2.new.terms c.args.query.now _ _ _ c.in_ok-last.last c.put_end-2.ensures.extends c.in_ok-put_inner.ensures.names refl
+    (named-end c.put_end-2.new.terms c.args.query.now _ 0 c.in_ok-last.last c.in_ok-last.ensures.value) c.in_ok-push-2.ensures.items

@@ -2,7 +2,7 @@ use Rattle.formula_diagrams.proofs.Putting.{or-bits, or-result}
 use Rattle.interpolants.proofs.plain.put_either.Goals as goal
 
 pub returns-in-Open-clause-bit : goal.returns-in-Open-clause-bit
-returns-in-Open-clause-bit c = or-bits _ _ _ _ _ c.put_term.ensures.table c.put_term.ensures.extends c.put_term.ensures.named c.requires.left
+returns-in-Open-clause-bit c = or-bits _ _ _ _ _ c.put_term.ensures.table c.put_term.ensures.extends c.put_term.ensures.named c.requires.left c.requires.right
 
 pub returns-in-Open-clause-truth : goal.returns-in-Open-clause-truth
 returns-in-Open-clause-truth c =

@@ -8,6 +8,7 @@ use Rattle.resolution_log.specs.Chains.{IsRefutation}
 use Rattle.reach_tree.specs.Trees.{IsLabel}
 use Rattle.term_copy.specs.Copies.{number_in}
 use Rattle.interpolants.specs.CutMeanings.{AreCutFormulas}
+use Rattle.interpolants.specs.NamedCells.{AreNamed}
 use Rattle.cover_engine.specs.Unwindings.{Unwound}
 use Rattle.unwinding_laws.proofs.Tables.{legal_later}
 use Rattle.chain_laws.specs.Laws.{AreLinks}
@@ -41,6 +42,7 @@ returns-clause-links c =
     (subst (λ (q : PathQuery). IsQuery (widths_of g.cells) (length path) q) c.requires.question c.requires.query)
     (subst (λ (q : PathQuery). IsRefutation q.clauses log) c.requires.question c.requires.refuted)
     c.in_ok-formulas.ensures.formulas
+    (subst (λ (q : PathQuery). AreNamed c.chain.new.terms q fs) c.requires.question c.in_ok-formulas.ensures.names)
     (subst (λ (q : PathQuery). AreCutFormulas c.chain.new.terms q log fs) c.requires.question c.in_ok-formulas.ensures.meaning)
     c.in_ok-to.ensures.count c.in_ok-to.ensures.copies in
     subst (λ (u : Unwound). AreLinks g u v c.new.result) (sym c.take_terms.ensures.others)

@@ -1,0 +1,13 @@
+use Rattle.std.proofs.Common.{[], ℕ, List}
+use Rattle.c_terms.proofs.Putting.{grows-twice, later}
+use Rattle.code_moves.proofs.Standing.{stand-later}
+use Rattle.code_moves.proofs.Doing.{deeds-later, filled}
+use Rattle.code_moves.proofs.ground.Ground.binary.Goals as goal
+
+pub returns : goal.returns
+returns c = λ ds h d.
+    let z = λ (s : List ℕ). c.in_ok-left.ensures s h in
+    let n = λ (s : List ℕ). c.in_ok-right.ensures s (stand-later _ _ _ (z []).grows h) in
+    let m = λ (s : List ℕ). c.in_ok-value.ensures s _ _ (later _ _ s _ _ _ (n []).grows (z s).shows) (n s).shows in
+    let g = grows-twice _ _ _ (grows-twice _ _ _ (z []).grows (n []).grows) (m []).grows in
+    filled _ _ _ _ _ g (c.fill.ensures _ ds 64 _ (deeds-later _ _ _ ds g d) (λ s. (m s).shows))

@@ -1,0 +1,5 @@
+use Rattle.edge_chains.specs.Links.{AreJoined}
+use Rattle.edge_chains.proofs.chains.followed_all.Given as goal
+
+abbrev pub invariant-loop-number : goal.invariant-loop-number
+invariant-loop-number l = AreJoined l.inner l.edges l.number l.found.items
