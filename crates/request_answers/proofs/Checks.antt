@@ -1,9 +1,9 @@
 -- Answers to checks.
-use Rattle.std.proofs.Common.{inl, inr, ◌⊎◌, ◌≡◌, ◌≤◌, ◌<◌, subst, refl, ℕ, List, length, arith}
+use Rattle.std.proofs.Common.{inl, inr, ◌≡◌, ◌≤◌, subst, ℕ, List, arith}
 use Rattle.lv_outside.specs.Counts.{Rose}
 use Rattle.lv_base.specs.declared.kind.Model.{Model}
 use Rattle.verdicts.specs.declared.verdict.Verdict.{Verdict}
-use Rattle.verdicts.specs.declared.verdict.Verdict.TheVariants.{Accepted, Over, ReadFault, NoMemory}
+use Rattle.verdicts.specs.declared.verdict.Verdict.TheVariants.{Accepted}
 use Rattle.c_typed.specs.Tree.{Program}
 use Rattle.c_graph.specs.Shape.{Flow, IsFlow}
 use Rattle.source_reading.specs.Reading.{IsReplay}

@@ -1,6 +1,6 @@
 -- What is stored of an answer.
 use Rattle.std.specs.Prelude.{ℕ, ◌≡◌, ◌≢◌, List, Option, Some, None}
-use Rattle.request_words.specs.Asked.{Asked, Check, Verify}
+use Rattle.request_words.specs.Asked.{Asked, Verify}
 use Rattle.verdicts.specs.declared.verdict.Verdict.{Verdict}
 use Rattle.verdicts.specs.declared.verdict.Verdict.TheVariants.{Safe, Unsafe}
 

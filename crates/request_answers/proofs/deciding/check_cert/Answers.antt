@@ -1,5 +1,6 @@
-use Rattle.std.proofs.Common.{◌∙◌}
+use Rattle.std.proofs.Common.{◌∙◌, refl}
 use Rattle.c_typed.specs.Parts.{tree_of}
+use Rattle.request_answers.specs.Answers.IsCheckAnswer.{long_cert}
 use Rattle.request_answers.proofs.Checks.{check_judged}
 use Rattle.request_answers.proofs.Judgements.{judgement_no_fault}
 use Rattle.request_answers.proofs.deciding.check_cert.Goals as goal
@@ -11,3 +12,7 @@ returns-in-Ok-Bytes-clause-answer g c t =
 
 pub returns-in-Ok-Bytes-clause-read_fault : goal.returns-in-Ok-Bytes-clause-read_fault
 returns-in-Ok-Bytes-clause-read_fault g c = λ e. absurd (judgement_no_fault _ _ _ _ c.judge.result c.judge.ensures e)
+
+pub returns-in-Ok-Longer-clause-answer : goal.returns-in-Ok-Longer-clause-answer
+returns-in-Ok-Longer-clause-answer g c t =
+    long_cert (tree_of c.args.parts.now.examined.typed) c.requires.replay (rw c.in-Ok-Longer.field-0-is at (c.in-Ok-Longer.ensures.bytes t)) refl
