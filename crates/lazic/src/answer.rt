@@ -8,15 +8,15 @@ ghost use Rattle.lazic.specs.Answer.{outcome_of, source_outcome, tree_outcome, r
 ghost use Rattle.lazic.specs.Runs.{IsRunOf, IsRunOn};
 
 use crate::outcome::Outcome;
-use source_reading::examined;
 use crate::running::{replayed, told};
-use verdicts::Values;
 use crate::words::{Wanted, request};
 use c_rules::Examined;
 use lv_base::{SourceFail, place_of};
 use lv_outside::{FileFail, Folder, Got};
+use source_reading::examined;
 use std::alloc::Global;
 use stored_text::{MOST_BYTES, StoredFail, read_run};
+use verdicts::Values;
 
 const MOST_SOURCE: usize = 1_048_576;
 

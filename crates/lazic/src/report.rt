@@ -5,10 +5,10 @@ ghost use Rattle.lazic.specs.Outcome.{status_of, text_of};
 ghost use Rattle.lazic.specs.Report.{kept_of};
 
 use crate::outcome::{Outcome, line, status};
-use verdicts::Values;
 use lv_base::Text;
 use lv_outside::Sink;
 use std::alloc::Global;
+use verdicts::Values;
 
 /// What an answer keeps: the text of a certificate that makes a source safe, the values of a run that reached an error, or a limit's
 /// number and the count that passed it.

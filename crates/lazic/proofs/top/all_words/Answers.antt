@@ -1,3 +1,4 @@
+use Rattle.std.proofs.Common.{arith}
 use Rattle.lazic.proofs.MeaningLaws.{computed_is_meant, meant_is_computed}
 use Rattle.lazic.proofs.WordLaws.{requests_differ}
 use Rattle.lazic.proofs.top.all_words.Goals as goal
