@@ -9,6 +9,7 @@ use table_rows::{Fields, Flaw, list_of, text_of};
 #[derive(Drop)]
 pub enum Wanted {
     Nothing,
+    Cert,
     Values(Vec<i128>),
     Limit(u64, u64),
 }
@@ -18,6 +19,7 @@ impl Wanted {
     pub fn is(&self, kept: &Kept) -> bool {
         match (self, kept) {
             (Wanted::Nothing, Kept::Nothing) => true,
+            (Wanted::Cert, Kept::Safe(_)) => true,
             (Wanted::Values(wanted), Kept::Unsafe(values)) => wanted.as_slice()
                 == values.as_slice(),
             (Wanted::Limit(number, count), Kept::Limited(limit, passed)) => {
@@ -55,6 +57,9 @@ pub struct Row {
 fn kept_of(alloc: Global, column: &str) -> Result<Wanted, Flaw> {
     if column == "-" {
         return Ok(Wanted::Nothing);
+    }
+    if column == "cert" {
+        return Ok(Wanted::Cert);
     }
     if column == "values" {
         return Ok(Wanted::Values(Vec::new(alloc)));

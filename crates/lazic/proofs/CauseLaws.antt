@@ -13,7 +13,7 @@ use Rattle.slot_code.specs.Machine.{ending_of}
 use Rattle.stored_text.specs.declared.StoredFail.{StoredFail}
 use Rattle.stored_text.specs.declared.StoredFail.TheVariants as stored
 use Rattle.stored_text.specs.Reading.{read_run_of, read_behind, head_fault, head_line}
-use Rattle.lazic.specs.Reading.{source_read, RunsAs}
+use Rattle.source_reading.specs.Reading.{source_read, RunsAs}
 use Rattle.lazic.specs.Running.{said_of, told_of}
 use Rattle.lazic.specs.Answer.{run_refused, values_outcome, run_outcome, refused, tree_outcome, IsCaused}
 use Rattle.lazic.specs.Runs.{IsRunOn, IsRunOf}

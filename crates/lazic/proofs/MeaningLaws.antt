@@ -24,7 +24,7 @@ use Rattle.stored_text.specs.declared.StoredFail.{StoredFail}
 use Rattle.stored_text.specs.Reading.{read_run_of}
 use Rattle.stored_text.proofs.Whole.{run_text_read}
 use Rattle.lazic.specs.Words.{Wanted, request_of}
-use Rattle.lazic.specs.Reading.{parsed_of, tokens_read, unless, checked, source_read}
+use Rattle.source_reading.specs.Reading.{parsed_of, tokens_read, unless, checked, source_read}
 use Rattle.lazic.specs.Answer.{values_outcome, tree_outcome, source_outcome, wanted_outcome, outcome_of, IsCaused}
 use Rattle.lazic.specs.Meaning.{HasTokens, HasTree, IsTreeOf, IsAccepted, IsUnread, IsAnswer, Means}
 use Rattle.lazic.specs.Meaning.IsUnread.{stopped, too_high}

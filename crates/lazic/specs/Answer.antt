@@ -9,7 +9,7 @@ use Rattle.c_meaning.specs.Program as program
 use Rattle.stored_text.specs.declared.StoredFail.{StoredFail}
 use Rattle.stored_text.specs.declared.StoredFail.TheVariants as stored
 use Rattle.stored_text.specs.Reading.{read_run_of}
-use Rattle.lazic.specs.Reading.{source_read}
+use Rattle.source_reading.specs.Reading.{source_read}
 use Rattle.lazic.specs.Running.{said_of}
 use Rattle.lazic.specs.Words.{Wanted, request_of}
 use Rattle.lazic.specs.declared.outcome.Outcome.{Outcome}

@@ -3,8 +3,8 @@ pub mod Given
 pub mod Meaning
 pub mod Outcome
 pub mod Reaching
-pub mod Reading
 pub mod Report
 pub mod Running
 pub mod Runs
+pub mod Told
 pub mod Words

@@ -5,7 +5,7 @@ use Rattle.c_tree.specs.Tree.{Items}
 use Rattle.c_meaning.specs.Program.{run}
 use Rattle.c_typed.specs.Tree.{Program}
 use Rattle.lazic.specs.Answer.{run_outcome}
-use Rattle.lazic.specs.Reading.{RunsAs}
+use Rattle.source_reading.specs.Reading.{RunsAs}
 use Rattle.lazic.specs.Running.{said_of}
 use Rattle.lazic.specs.declared.outcome.Outcome.{Outcome}
 use Rattle.lazic.specs.declared.outcome.Outcome.TheVariants.{NoMemory}

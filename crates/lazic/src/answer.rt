@@ -3,20 +3,20 @@ ghost use Rattle.lv_outside.specs.Counts.{Rose};
 ghost use Rattle.c_tree.specs.Tree.{Items};
 ghost use Rattle.c_typed.specs.Parts.{tree_of};
 ghost use Rattle.lazic.specs.Words.{request_of};
-ghost use Rattle.lazic.specs.Reading.{source_read, RunsAs};
+ghost use Rattle.source_reading.specs.Reading.{source_read, RunsAs};
 ghost use Rattle.lazic.specs.Answer.{outcome_of, source_outcome, tree_outcome, run_outcome, refused, IsCaused};
 ghost use Rattle.lazic.specs.Runs.{IsRunOf, IsRunOn};
 
 use crate::outcome::Outcome;
-use crate::reading::examined;
 use crate::running::{replayed, told};
-use crate::values::Values;
 use crate::words::{Wanted, request};
 use c_rules::Examined;
 use lv_base::{SourceFail, place_of};
 use lv_outside::{FileFail, Folder, Got};
+use source_reading::examined;
 use std::alloc::Global;
 use stored_text::{MOST_BYTES, StoredFail, read_run};
+use verdicts::Values;
 
 const MOST_SOURCE: usize = 1_048_576;
 

@@ -1,15 +1,15 @@
-//! What `lazic replay SOURCE RUN` answers: the answer to some words over some files, and its line.
+//! What `lazic` answers to its words: to `verify SOURCE` whether inputs make a program reach an error, to `check SOURCE CERT` whether a
+//! certificate shows that none do, and to `replay SOURCE RUN` what the program does with given inputs.
 #![tactic(auto)]
 
 mod answer;
 mod outcome;
-mod reading;
 mod report;
+mod requests;
 mod running;
 mod top;
-mod values;
 mod words;
 
 pub use report::{Kept, Report};
 pub use top::run_words;
-pub use values::Values;
+pub use verdicts::Values;

@@ -3,9 +3,9 @@ ghost use Rattle.std.specs.Fmt.{decimal};
 ghost use Rattle.lv_base.specs.Names.{error_name, fault_number, fault_name};
 ghost use Rattle.lazic.specs.Outcome.{status_of, text_of, place_text};
 
-use crate::values::Values;
 use lv_base::{ErrorKind, Memory, Place, SourceFault};
 use std::alloc::Global;
+use verdicts::Values;
 
 /// What the program answers to its words, with all that its line and its report say.
 #[derive(Drop)]

@@ -5,14 +5,17 @@ ghost use Rattle.lazic.specs.Outcome.{status_of, text_of};
 ghost use Rattle.lazic.specs.Report.{kept_of};
 
 use crate::outcome::{Outcome, line, status};
-use crate::values::Values;
+use lv_base::Text;
 use lv_outside::Sink;
 use std::alloc::Global;
+use verdicts::Values;
 
-/// What an answer keeps: the values of a run that reached an error, or a limit's number and the count that passed it.
+/// What an answer keeps: the text of a certificate that makes a source safe, the values of a run that reached an error, or a limit's
+/// number and the count that passed it.
 #[derive(Drop)]
 pub enum Kept {
     Nothing,
+    Safe(Text),
     Unsafe(Values),
     Limited(u8, u64),
 }

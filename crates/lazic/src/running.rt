@@ -5,11 +5,11 @@ ghost use Rattle.slot_code.specs.Machine.{ending_of};
 ghost use Rattle.lazic.specs.Running.{told_of};
 
 use crate::outcome::Outcome;
-use crate::values::Values;
 use c_rules::Examined;
 use lv_base::{Memory, place_of};
 use run_replay::{Ending, Replay};
 use std::alloc::Global;
+use verdicts::Values;
 
 /// How the program ends on these values, with so many turns.
 pub fn replayed(

@@ -1,4 +1,5 @@
-ghost use Rattle.std.specs.Prelude.{◌≡◌, ◌≢◌, ◌⊎◌, ◌++◌, ℕ, List, map, pos, ◌≤ℤ◌, IsNone};
+ghost use Rattle.std.specs.Prelude.{◌≡◌, ◌≢◌, ◌⊎◌, ◌++◌, ℕ, List, map, pos, ◌≤ℤ◌, IsNone, Some};
+ghost use Rattle.request_words.specs.Asked.{Asked, asked_of};
 ghost use Rattle.lazic.specs.Words.{request_of, TurnsAreRead};
 ghost use Rattle.lv_outside.specs.Counts.{Rose};
 ghost use Rattle.lv_outside.specs.Bytes.{GrewByFront};
@@ -7,11 +8,14 @@ ghost use Rattle.lazic.specs.Outcome.{status_of, text_of};
 ghost use Rattle.lazic.specs.Answer.{outcome_of, IsCaused};
 ghost use Rattle.lazic.specs.Meaning.{OneAnswer};
 ghost use Rattle.lazic.specs.Reaching.{ReachesAreTold};
+ghost use Rattle.lazic.specs.Told.{RequestsDiffer, ToldOf};
 ghost use Rattle.lazic.specs.Report.{MeansReport, kept_of, told_text, IsFree};
 
 use crate::answer::decide;
 use crate::report::{Kept, Report, print};
+use crate::requests::answer_asked;
 use lv_outside::{Folder, Gate, Sink};
+use request_words::{numbers_are_read, request};
 use std::alloc::Global;
 
 /// Answers the words, over these files, and prints one line.
@@ -27,10 +31,63 @@ pub fn run_words<F: Folder, S: Sink, G: Gate>(
     requires from { pos 0 ≤ℤ moment }
     requires to { moment ≤ℤ pos 253370764799 }
 
-    // Some words over some files have exactly one answer, by what is written in them. Each answer but a fault of the
-    // outside and want of memory is that one.
+    // Some words over some files have exactly one answer, by what is written in them, where they ask for no check and no
+    // verification. Each answer but a fault of the outside and want of memory is that one.
     ensures one_answer { OneAnswer }
     ensures turns { TurnsAreRead }
+    ensures differ { RequestsDiffer }
+    ensures means { IsNone (asked_of (map (λ w. w.now) words.now)) → F.tells folder.old → IsFree result.status ⊎ MeansReport (map (λ w. w.now) words.now) (F.file folder.old) result.status result.kept }
+    ensures status { IsNone (asked_of (map (λ w. w.now) words.now)) → F.tells folder.old → IsFree result.status ⊎ (result.status ≡ status_of (outcome_of (map (λ w. w.now) words.now) (F.file folder.old))) }
+    ensures kept { IsNone (asked_of (map (λ w. w.now) words.now)) → F.tells folder.old → IsFree result.status ⊎ (result.kept ≡ kept_of (outcome_of (map (λ w. w.now) words.now) (F.file folder.old))) }
+    ensures free { IsNone (asked_of (map (λ w. w.now) words.now)) → IsFree result.status → result.kept ≡ Kept.Nothing }
+
+    // A run that reaches an error is told, with its values.
+    ensures reaches { IsNone (asked_of (map (λ w. w.now) words.now)) → F.tells folder.old → ReachesAreTold (map (λ w. w.now) words.now) (F.file folder.old) (Rose (F.read_faults folder.old) (F.read_faults folder.new)) (Rose (S.faults out.old) (S.faults out.new)) result.status result.kept }
+
+    // A fault of the outside is answered only where its count rose in this call.
+    ensures read_fault { IsNone (asked_of (map (λ w. w.now) words.now)) → result.status ≡ 13 → Rose (F.read_faults folder.old) (F.read_faults folder.new) }
+    ensures print_fault { IsNone (asked_of (map (λ w. w.now) words.now)) → result.status ≡ 14 → Rose (S.faults out.old) (S.faults out.new) }
+
+    // The text grows by the line of the answer.
+    ensures printed { IsNone (asked_of (map (λ w. w.now) words.now)) → F.tells folder.old → S.tells out.new → result.status ≢ 14 → S.text out.new ≡ S.text out.old ++ told_text result.status (outcome_of (map (λ w. w.now) words.now) (F.file folder.old)) }
+
+    // Where the put fails, a first part of the line of some answer that has its cause was appended.
+    ensures cut { IsNone (asked_of (map (λ w. w.now) words.now)) → S.tells out.new → result.status ≡ 14 → (answer : Outcome) × IsCaused (Rose (F.read_faults folder.old) (F.read_faults folder.new)) (F.tells folder.old) (outcome_of (map (λ w. w.now) words.now) (F.file folder.old)) answer × GrewByFront (S.text out.old) (S.text out.new) (text_of answer) }
+
+    // USAGE comes where the words ask for nothing, and only there; printing may fail there too.
+    ensures usage { IsNone (asked_of (map (λ w. w.now) words.now)) → result.status ≡ 10 → IsNone (request_of (map (λ w. w.now) words.now)) }
+    ensures only_usage { IsNone (asked_of (map (λ w. w.now) words.now)) → IsNone (request_of (map (λ w. w.now) words.now)) → (result.status ≡ 10) ⊎ ((result.status ≡ 14) ⊎ (result.status ≡ 15)) }
+
+    ensures files { IsNone (asked_of (map (λ w. w.now) words.now)) → (n : List ℕ) → F.file folder.new n ≡ F.file folder.old n }
+
+    // What is asked of a certificate or a source has a verdict: the files are as it says, and the text grows by its line.
+    ensures told { (asked : Asked) → asked_of (map (λ w. w.now) words.now) ≡ Some asked → ToldOf (F.tells folder.old) (S.tells out.new) (Rose (F.read_faults folder.old) (F.read_faults folder.new)) (Rose (F.write_faults folder.old) (F.write_faults folder.new)) (Rose (S.faults out.old) (S.faults out.new)) (F.file folder.old) (F.file folder.new) (S.text out.old) (S.text out.new) result.status result.kept asked }
+{
+    all_words();
+    match request(words) {
+        Some(asked) => answer_asked(alloc, asked, folder, out),
+        None => replay_words(alloc, words, folder, out),
+    }
+}
+
+// What holds of all words.
+fn all_words()
+    ensures one_answer { OneAnswer }
+    ensures turns { TurnsAreRead }
+    ensures differ { RequestsDiffer }
+{
+    numbers_are_read();
+}
+
+// Answers words that ask for no check and no verification.
+fn replay_words<F: Folder, S: Sink>(
+    alloc: Global,
+    words: &[&str],
+    folder: &mut F,
+    out: &mut S,
+) -> Report
+    // Some words over some files have exactly one answer, by what is written in them. Each answer but a fault of the
+    // outside and want of memory is that one.
     ensures means { F.tells folder.old → IsFree result.status ⊎ MeansReport (map (λ w. w.now) words.now) (F.file folder.old) result.status result.kept }
     ensures status { F.tells folder.old → IsFree result.status ⊎ (result.status ≡ status_of (outcome_of (map (λ w. w.now) words.now) (F.file folder.old))) }
     ensures kept { F.tells folder.old → IsFree result.status ⊎ (result.kept ≡ kept_of (outcome_of (map (λ w. w.now) words.now) (F.file folder.old))) }

@@ -1,0 +1,52 @@
+-- What is told of a check or of a verification.
+use Rattle.std.specs.Prelude.{ℕ, ◌≡◌, ◌≢◌, ◌⊎◌, ◌++◌, ◌==◌, ◌||◌, List, if◌then◌else◌, Some, None}
+use Rattle.lv_outside.specs.Bytes.{GrewByFront}
+use Rattle.request_words.specs.Asked.{Asked, asked_of}
+use Rattle.verdicts.specs.Lines.{status_of, text_of}
+use Rattle.verdicts.specs.declared.verdict.Verdict.{Verdict}
+use Rattle.verdicts.specs.declared.verdict.Verdict.TheVariants as verdict
+use Rattle.request_answers.specs.Answers.{IsAnswer}
+use Rattle.request_answers.specs.Stored.{IsOther, IsStored, file_for}
+use Rattle.lazic.specs.Words.{Wanted, request_of}
+use Rattle.lazic.specs.declared.report.Kept.{Kept}
+use Rattle.lazic.specs.declared.report.Kept.TheVariants.{Nothing, Safe, Unsafe, Limited}
+
+-- what is kept of a verdict
+abbrev pub kept_in : Verdict → Kept
+kept_in (verdict.Safe text) = Safe text
+kept_in (verdict.Unsafe kind place values text) = Unsafe values
+kept_in (verdict.Over number count) = Limited number count
+kept_in (verdict.OutOfUnits units) = Nothing
+kept_in (verdict.OutOfLearn learn) = Nothing
+kept_in verdict.Unreplayed = Nothing
+kept_in (verdict.Unproved number) = Nothing
+kept_in verdict.Accepted = Nothing
+kept_in (verdict.Rejected rejection) = Nothing
+kept_in (verdict.Faulty fault place) = Nothing
+kept_in verdict.ReadFault = Nothing
+kept_in verdict.NoMemory = Nothing
+
+-- nothing is kept where a write or a put failed or memory ran out
+abbrev pub kept_when : ℕ → Verdict → Kept
+kept_when status v = if (status == 14) || (status == 15) then Nothing else kept_in v
+
+-- The status, what is kept, the text and the files go with this verdict on what is asked.
+pub record IsTold (files_told text_told read_rose write_rose put_rose : Type 0) (asked : Asked) (before after : List ℕ → List ℕ) (text_before text_after : List ℕ) (status : ℕ) (kept : Kept) (v : Verdict) : Type 0 where
+  pub answer : files_told → IsAnswer read_rose asked before v
+  pub told : (status ≡ 14) ⊎ ((status ≡ 15) ⊎ (status ≡ status_of v))
+  pub keeps : kept ≡ kept_when status v
+  pub read_fault : v ≡ verdict.ReadFault → read_rose
+  pub fault : status ≡ 14 → write_rose ⊎ put_rose
+  pub printed : text_told → status ≢ 14 → text_after ≡ text_before ++ (if status == 15 then text_of verdict.NoMemory else text_of v)
+  pub cut : text_told → status ≡ 14 → (text_after ≡ text_before) ⊎ (GrewByFront text_before text_after (text_of v) ⊎ GrewByFront text_before text_after (text_of verdict.NoMemory))
+  pub stored : files_told → status ≢ 14 → status ≢ 15 → IsStored after (file_for asked v)
+  pub others : (n : List ℕ) → IsOther (file_for asked v) n → after n ≡ before n
+
+-- so it is of some verdict
+abbrev pub ToldOf : (files_told text_told read_rose write_rose put_rose : Type 0) → (before after : List ℕ → List ℕ) → (text_before text_after : List ℕ) → (status : ℕ) → (kept : Kept) → Asked → Type 0
+ToldOf files_told text_told read_rose write_rose put_rose before after text_before text_after status kept asked =
+    (v : Verdict) × IsTold files_told text_told read_rose write_rose put_rose asked before after text_before text_after status kept v
+
+-- words that ask for a replay ask for no check and no verification
+abbrev pub RequestsDiffer : Type 0
+RequestsDiffer = (words : List (List ℕ)) (wanted : Wanted) → request_of words ≡ Some wanted → asked_of words ≡ None

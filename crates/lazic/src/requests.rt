@@ -1,0 +1,49 @@
+//! Requests for checks and verifications.
+ghost use Rattle.std.specs.Prelude.{◌≡◌};
+ghost use Rattle.lv_outside.specs.Counts.{Rose};
+ghost use Rattle.request_words.specs.Views.{asked_by};
+ghost use Rattle.lazic.specs.Told.{ToldOf, kept_in, kept_when};
+
+use crate::report::{Kept, Report};
+use lv_outside::{Folder, Sink};
+use request_answers::{Told, answer};
+use request_words::Asked;
+use std::alloc::Global;
+use verdicts::Verdict;
+
+/// Answers what is asked, over these files, and prints one line.
+pub(crate) fn answer_asked<F: Folder, S: Sink>(
+    alloc: Global,
+    asked: Asked<'_>,
+    folder: &mut F,
+    out: &mut S,
+) -> Report
+    ensures { ToldOf (F.tells folder.old) (S.tells out.new) (Rose (F.read_faults folder.old) (F.read_faults folder.new)) (Rose (F.write_faults folder.old) (F.write_faults folder.new)) (Rose (S.faults out.old) (S.faults out.new)) (F.file folder.old) (F.file folder.new) (S.text out.old) (S.text out.new) result.status result.kept (asked_by asked.entry) }
+{
+    let told = answer(alloc, asked, folder, out);
+    reported(told)
+}
+
+fn reported(told: Told) -> Report
+    ensures status { result.status ≡ told.status }
+    ensures kept { result.kept ≡ kept_when told.status told.verdict }
+{
+    let Told { status, verdict } = told;
+    let kept = if status == 14 || status == 15 {
+        Kept::Nothing
+    } else {
+        keep(verdict)
+    };
+    Report { status, kept }
+}
+
+fn keep(verdict: Verdict) -> Kept
+    ensures { result ≡ kept_in verdict }
+{
+    match verdict {
+        Verdict::Safe(text) => Kept::Safe(text),
+        Verdict::Unsafe(_, _, values, _) => Kept::Unsafe(values),
+        Verdict::Over(number, count) => Kept::Limited(number, count),
+        _ => Kept::Nothing,
+    }
+}

@@ -1,0 +1,46 @@
+-- Answers to checks.
+use Rattle.std.proofs.Common.{inl, inr, ◌≡◌, ◌≤◌, subst, ℕ, List, arith}
+use Rattle.lv_outside.specs.Counts.{Rose}
+use Rattle.lv_base.specs.declared.kind.Model.{Model}
+use Rattle.verdicts.specs.declared.verdict.Verdict.{Verdict}
+use Rattle.verdicts.specs.declared.verdict.Verdict.TheVariants.{Accepted}
+use Rattle.c_typed.specs.Tree.{Program}
+use Rattle.c_graph.specs.Shape.{Flow, IsFlow}
+use Rattle.source_reading.specs.Reading.{IsReplay}
+use Rattle.cert_verdicts.specs.Judged.{IsJudged}
+use Rattle.request_answers.specs.Answers.{IsCheckAnswer}
+use Rattle.request_answers.specs.Answers.IsCheckAnswer.{too_long, refused, long_cert, judged, read_failed, no_memory}
+use Rattle.request_answers.specs.Laws.{AcceptedIsCertified}
+use Rattle.request_answers.proofs.Refusals.{refusal_is}
+use Rattle.request_answers.proofs.Judgements.{judged_accepted}
+
+pub rose_more : (old mid new : ℕ) → old ≤ mid → Rose mid new → Rose old new
+rose_more old mid new less (inl rose) = inl (omega arith)
+rose_more old mid new less (inr most) = inr most
+
+-- under a greater count of faults
+check_more : (rose more : Type 0) → (rose → more) → (model : Model) (source file : List ℕ) (v : Verdict) → IsCheckAnswer rose model source file v → IsCheckAnswer more model source file v
+check_more rose more f model source file v (too_long h is) = too_long h is
+check_more rose more f model source file v (refused h) = refused h
+check_more rose more f model source file v (long_cert p h k is) = long_cert p h k is
+check_more rose more f model source file v (judged p g h flow j) = judged p g h flow j
+check_more rose more f model source file v (read_failed h is) = read_failed (f h) is
+check_more rose more f model source file v (no_memory is) = no_memory is
+
+-- of a source and a certificate that are those of the files, behind a read
+pub check_behind : (old mid new : ℕ) → old ≤ mid → (model : Model) (source bytes file given : List ℕ) (v : Verdict) → bytes ≡ source → given ≡ file → IsCheckAnswer (Rose mid new) model bytes given v → IsCheckAnswer (Rose old new) model source file v
+check_behind old mid new less model source bytes file given v e f h =
+    subst (λ (x : List ℕ). IsCheckAnswer (Rose old new) model x file v) e
+    (subst (λ (x : List ℕ). IsCheckAnswer (Rose old new) model bytes x v) f
+    (check_more (Rose mid new) (Rose old new) (rose_more old mid new less) model bytes given v h))
+
+pub check_judged : (rose : Type 0) (p : Program) (g : Flow) (model : Model) (source bytes file : List ℕ) (v : Verdict) → IsReplay model source p → IsFlow g → bytes ≡ file → IsJudged g source model bytes v → IsCheckAnswer rose model source file v
+check_judged rose p g model source bytes file v replay flow e j = judged p g replay flow (subst (λ (x : List ℕ). IsJudged g source model x v) e j)
+
+pub accepted_certified : AcceptedIsCertified
+accepted_certified before behind model source bytes (too_long h is) = absurd (cc)
+accepted_certified before behind model source bytes (refused r) = absurd (refusal_is model source Accepted r)
+accepted_certified before behind model source bytes (long_cert p h k is) = absurd (cc)
+accepted_certified before behind model source bytes (judged p g replay flow j) = (replay.tree, replay.read, (g, flow, judged_accepted g source model bytes j))
+accepted_certified before behind model source bytes (read_failed h is) = absurd (cc)
+accepted_certified before behind model source bytes (no_memory is) = absurd (cc)

@@ -1,0 +1,4 @@
+pub mod Checks
+pub mod Judgements
+pub mod Refusals
+pub mod Verifications

@@ -1,0 +1,37 @@
+-- Answers to verifications.
+use Rattle.std.proofs.Common.{◌≡◌, ◌∙◌, sym, subst, ℕ, List}
+use Rattle.lv_base.specs.declared.kind.Model.{Model}
+use Rattle.verdicts.specs.declared.verdict.Verdict.{Verdict}
+use Rattle.verdicts.specs.declared.verdict.Verdict.TheVariants.{Safe, Unsafe}
+use Rattle.request_answers.specs.Answers.{IsVerifyAnswer}
+use Rattle.request_answers.specs.Answers.IsVerifyAnswer.{too_long, refused, verified, read_failed, no_memory}
+use Rattle.request_answers.specs.Laws.{SafeIsProved, UnsafeReaches}
+use Rattle.request_answers.proofs.Refusals.{refusal_is}
+
+-- without a read fault, under any count of faults
+verify_more : (more : Type 0) (model : Model) (units learn : ℕ) (source : List ℕ) (v : Verdict) → IsVerifyAnswer ⊥ model units learn source v → IsVerifyAnswer more model units learn source v
+verify_more more model units learn source v (too_long h is) = too_long h is
+verify_more more model units learn source v (refused h) = refused h
+verify_more more model units learn source v (verified p g replay flow is) = verified p g replay flow is
+verify_more more model units learn source v (read_failed h is) = absurd h
+verify_more more model units learn source v (no_memory is) = no_memory is
+
+-- of a source that is that of the file
+pub verify_behind : (more : Type 0) (model : Model) (units learn : ℕ) (source bytes : List ℕ) (v : Verdict) → bytes ≡ source → IsVerifyAnswer ⊥ model units learn bytes v → IsVerifyAnswer more model units learn source v
+verify_behind more model units learn source bytes v e h = subst (λ (x : List ℕ). IsVerifyAnswer more model units learn x v) e (verify_more more model units learn bytes v h)
+
+pub safe_proved : SafeIsProved
+safe_proved before behind model units learn source text (too_long h is) = absurd (cc)
+safe_proved before behind model units learn source text (refused r) = absurd (refusal_is model source (Safe text) r)
+safe_proved before behind model units learn source text (verified p g replay flow is) = (replay.tree, replay.read, (g, flow, is))
+safe_proved before behind model units learn source text (read_failed h is) = absurd (cc)
+safe_proved before behind model units learn source text (no_memory is) = absurd (cc)
+
+pub unsafe_reached : UnsafeReaches
+unsafe_reached before behind model units learn source kind place values text (too_long h is) = absurd (cc)
+unsafe_reached before behind model units learn source kind place values text (refused r) = absurd (refusal_is model source (Unsafe kind place values text) r)
+unsafe_reached before behind model units learn source kind place values text (verified p g replay flow is) =
+    let meets = is.0 in
+    (replay.tree, replay.read, (meets.at, meets.is_at, record { turns = meets.turns; ends = sym (replay.runs meets.turns values) ∙ meets.ends }))
+unsafe_reached before behind model units learn source kind place values text (read_failed h is) = absurd (cc)
+unsafe_reached before behind model units learn source kind place values text (no_memory is) = absurd (cc)

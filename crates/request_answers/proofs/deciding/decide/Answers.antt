@@ -1,0 +1,7 @@
+use Rattle.request_answers.proofs.deciding.decide.Goals as goal
+
+pub returns-in-Check-clause-answer : goal.returns-in-Check-clause-answer
+returns-in-Check-clause-answer g c t = rw c.in-Check.is (c.decide_check.ensures.answer t)
+
+pub returns-in-Verify-clause-answer : goal.returns-in-Verify-clause-answer
+returns-in-Verify-clause-answer g c t = rw c.in-Verify.is (c.decide_verify.ensures.answer t)

@@ -1,0 +1,55 @@
+-- The answers to requests for checks and verifications, by the files.
+use Rattle.std.specs.Prelude.{ℕ, ◌≡◌, ◌<◌, List, length, Ok, Err}
+use Rattle.lv_base.specs.Place.{place_at}
+use Rattle.lv_base.specs.declared.kind.Model.{Model}
+use Rattle.lv_base.specs.declared.fail.SourceFail.{SourceFail}
+use Rattle.lv_base.specs.declared.fail.SourceFail.TheVariants as fail
+use Rattle.c_tree.specs.Tree.{Items}
+use Rattle.c_typed.specs.Tree.{Program}
+use Rattle.c_graph.specs.Shape.{Flow, IsFlow}
+use Rattle.source_reading.specs.Reading.{source_read, IsReplay}
+use Rattle.request_words.specs.Asked.{Asked, Check, Verify}
+use Rattle.verdicts.specs.declared.verdict.Verdict.{Verdict}
+use Rattle.verdicts.specs.declared.verdict.Verdict.TheVariants.{Faulty, Over, ReadFault, NoMemory}
+use Rattle.cert_verdicts.specs.Judged.{IsJudged}
+use Rattle.source_verdicts.specs.Verified.{IsVerified}
+
+-- why a source is refused
+abbrev pub refused_for : List ℕ → SourceFail → Verdict
+refused_for source (fail.Fault fault at) = Faulty fault (place_at source at)
+refused_for source (fail.Over number count) = Over number count
+refused_for source fail.Memory = NoMemory
+
+-- why no graph is made
+abbrev pub limit_for : SourceFail → Verdict
+limit_for (fail.Over number count) = Over number count
+limit_for (fail.Fault fault at) = NoMemory
+limit_for fail.Memory = NoMemory
+
+-- A source of at most 1,048,576 bytes is refused: for what is read of it, or for a limit of its graph.
+pub data IsRefused (model : Model) (source : List ℕ) (v : Verdict) : Type 0 where
+  unread : (e : SourceFail) → source_read model source ≡ Err e → v ≡ refused_for source e → IsRefused model source v
+  over : (tree : Items) (e : SourceFail) → source_read model source ≡ Ok tree → v ≡ limit_for e → IsRefused model source v
+  no_memory : v ≡ NoMemory → IsRefused model source v
+
+-- The answer to the check of a certificate's bytes against a source. The graph is the one that was made of the typed tree.
+pub data IsCheckAnswer (rose : Type 0) (model : Model) (source cert : List ℕ) (v : Verdict) : Type 0 where
+  too_long : 1048576 < length source → v ≡ Over 1 1048577 → IsCheckAnswer rose model source cert v
+  refused : IsRefused model source v → IsCheckAnswer rose model source cert v
+  long_cert : (p : Program) → IsReplay model source p → 67108864 < length cert → v ≡ Over 8 67108865 → IsCheckAnswer rose model source cert v
+  judged : (p : Program) (g : Flow) → IsReplay model source p → IsFlow g → IsJudged g source model cert v → IsCheckAnswer rose model source cert v
+  read_failed : rose → v ≡ ReadFault → IsCheckAnswer rose model source cert v
+  no_memory : v ≡ NoMemory → IsCheckAnswer rose model source cert v
+
+-- The answer to the verification of a source.
+pub data IsVerifyAnswer (rose : Type 0) (model : Model) (units learn : ℕ) (source : List ℕ) (v : Verdict) : Type 0 where
+  too_long : 1048576 < length source → v ≡ Over 1 1048577 → IsVerifyAnswer rose model units learn source v
+  refused : IsRefused model source v → IsVerifyAnswer rose model units learn source v
+  verified : (p : Program) (g : Flow) → IsReplay model source p → IsFlow g → IsVerified p g source model units learn v → IsVerifyAnswer rose model units learn source v
+  read_failed : rose → v ≡ ReadFault → IsVerifyAnswer rose model units learn source v
+  no_memory : v ≡ NoMemory → IsVerifyAnswer rose model units learn source v
+
+-- the answer to what is asked, where the files are these
+abbrev pub IsAnswer : Type 0 → Asked → (List ℕ → List ℕ) → Verdict → Type 0
+IsAnswer rose (Check c) file v = IsCheckAnswer rose c.model (file c.source) (file c.cert) v
+IsAnswer rose (Verify w) file v = IsVerifyAnswer rose w.model w.units w.learn (file w.source) v

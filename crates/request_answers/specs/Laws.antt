@@ -1,0 +1,41 @@
+-- What the answers mean.
+use Rattle.std.specs.Prelude.{ℕ, ℤ, ◌≡◌, List, Ok}
+use Rattle.lv_outside.specs.Counts.{Rose}
+use Rattle.lv_base.specs.Place.{place_at}
+use Rattle.lv_base.specs.declared.kind.Model.{Model}
+use Rattle.lv_base.specs.declared.fault.ErrorKind.{ErrorKind}
+use Rattle.lv_base.specs.declared.place.Place.{Place}
+use Rattle.c_tree.specs.Tree.{Items}
+use Rattle.c_meaning.specs.Program.{Reaches}
+use Rattle.c_graph.specs.Shape.{Flow, IsFlow}
+use Rattle.cert_text.specs.declared.Cert.{Cert}
+use Rattle.cert_text.specs.Content.{content_of}
+use Rattle.cert_text.specs.Reading.{read_cert_of}
+use Rattle.cert_verdicts.specs.Judged.{IsCertificate}
+use Rattle.source_verdicts.specs.Verified.{IsProved}
+use Rattle.source_reading.specs.Reading.{source_read}
+use Rattle.verdicts.specs.declared.verdict.Verdict.TheVariants.{Safe, Unsafe, Accepted}
+use Rattle.request_answers.specs.Answers.{IsCheckAnswer, IsVerifyAnswer}
+
+-- A certificate is accepted only where its bytes are read to one of the source under the model, which is accepted on the graph
+-- that was made of the source's tree: no run of that graph meets an error.
+abbrev pub AcceptedIsCertified : Type 0
+AcceptedIsCertified =
+    (before behind : ℕ) (model : Model) (source bytes : List ℕ) → IsCheckAnswer (Rose before behind) model source bytes Accepted
+    → (tree : Items) × (source_read model source ≡ Ok tree)
+    × ((g : Flow) × IsFlow g × ((c : Cert) × (read_cert_of bytes ≡ Ok (content_of c)) × IsCertificate g source model c))
+
+-- A source is called safe only with the text of a certificate that is accepted on the graph that was made of its tree: no run of
+-- that graph meets an error.
+abbrev pub SafeIsProved : Type 0
+SafeIsProved =
+    (before behind : ℕ) (model : Model) (units learn : ℕ) (source text : List ℕ) → IsVerifyAnswer (Rose before behind) model units learn source (Safe text)
+    → (tree : Items) × (source_read model source ≡ Ok tree) × ((g : Flow) × IsFlow g × IsProved g source model text)
+
+-- A source is called unsafe only with values that reach the error at its place in it.
+abbrev pub UnsafeReaches : Type 0
+UnsafeReaches =
+    (before behind : ℕ) (model : Model) (units learn : ℕ) (source : List ℕ) (kind : ErrorKind) (place : Place) (values : List ℤ) (text : List ℕ)
+    → IsVerifyAnswer (Rose before behind) model units learn source (Unsafe kind place values text)
+    → (tree : Items) × (source_read model source ≡ Ok tree)
+    × ((at : ℕ) × (place ≡ place_at source at) × Reaches tree model values kind at)

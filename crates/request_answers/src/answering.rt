@@ -1,0 +1,55 @@
+ghost use Rattle.std.specs.Prelude.{◌≡◌, ◌≢◌, ◌⊎◌, ◌++◌, ◌==◌, ℕ, List, if◌then◌else◌};
+ghost use Rattle.lv_outside.specs.Bytes.{GrewByFront};
+ghost use Rattle.lv_outside.specs.Counts.{Rose};
+ghost use Rattle.request_words.specs.Views.{asked_by};
+ghost use Rattle.verdicts.specs.Lines.{status_of, text_of};
+ghost use Rattle.request_answers.specs.Answers.{IsAnswer};
+ghost use Rattle.request_answers.specs.Stored.{IsOther, IsStored, file_for};
+
+use crate::deciding::decide;
+use crate::printing::{no_memory, print};
+use crate::storing::store;
+use lv_outside::{FileFail, Folder, Sink};
+use request_words::Asked;
+use std::alloc::Global;
+use verdicts::Verdict;
+
+/// An answer, and the status with which it was told.
+#[derive(Drop)]
+pub struct Told {
+    pub status: u8,
+    pub verdict: Verdict,
+}
+
+/// Answers what is asked, over these files: what is to be stored of the answer is written, and then its line is printed.
+pub fn answer<F: Folder, S: Sink>(
+    alloc: Global,
+    asked: Asked<'_>,
+    folder: &mut F,
+    out: &mut S,
+) -> Told
+    ensures answer { F.tells folder.old → IsAnswer (Rose (F.read_faults folder.old) (F.read_faults folder.new)) (asked_by asked.entry) (F.file folder.old) result.verdict }
+    ensures read_fault { result.verdict ≡ Verdict.ReadFault → Rose (F.read_faults folder.old) (F.read_faults folder.new) }
+    ensures status { (result.status ≡ 14) ⊎ ((result.status ≡ 15) ⊎ (result.status ≡ status_of result.verdict)) }
+    ensures fault { result.status ≡ 14 → Rose (F.write_faults folder.old) (F.write_faults folder.new) ⊎ Rose (S.faults out.old) (S.faults out.new) }
+    ensures printed { S.tells out.new → result.status ≢ 14 → S.text out.new ≡ S.text out.old ++ (if result.status == 15 then text_of Verdict.NoMemory else text_of result.verdict) }
+    ensures cut { S.tells out.new → result.status ≡ 14 → (S.text out.new ≡ S.text out.old) ⊎ (GrewByFront (S.text out.old) (S.text out.new) (text_of result.verdict) ⊎ GrewByFront (S.text out.old) (S.text out.new) (text_of Verdict.NoMemory)) }
+    ensures stored { F.tells folder.old → result.status ≢ 14 → result.status ≢ 15 → IsStored (F.file folder.new) (file_for (asked_by asked.entry) result.verdict) }
+    ensures others { (n : List ℕ) → IsOther (file_for (asked_by asked.entry) result.verdict) n → F.file folder.new n ≡ F.file folder.old n }
+{
+    let verdict = decide(alloc, folder, asked);
+    match store(alloc, folder, asked, &verdict) {
+        Ok(()) => {
+            let status = print(alloc, &verdict, out);
+            Told { status, verdict }
+        }
+        Err(FileFail::Failed) => Told {
+            status: 14,
+            verdict,
+        },
+        Err(FileFail::Memory) => {
+            let status = no_memory(out);
+            Told { status, verdict }
+        }
+    }
+}

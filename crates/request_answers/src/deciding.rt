@@ -1,0 +1,142 @@
+ghost use Rattle.std.specs.Prelude.{◌≡◌, ◌≤◌, ◌<◌, ◌^◌, ℕ, List, length};
+ghost use Rattle.lv_outside.specs.Counts.{Rose};
+ghost use Rattle.c_typed.specs.Parts.{tree_of};
+ghost use Rattle.source_reading.specs.Reading.{IsReplay};
+ghost use Rattle.request_words.specs.Views.{asked_by};
+ghost use Rattle.request_answers.specs.Answers.{IsAnswer, IsCheckAnswer, IsVerifyAnswer};
+
+use crate::loading::{Loaded, load_source};
+use c_graph::Graph;
+use cert_text::MOST_BYTES;
+use cert_verdicts::judge;
+use lv_base::Model;
+use lv_outside::{FileFail, Folder, Got};
+use request_words::{Asked, Checking, Verifying};
+use source_verdicts::{Budget, verify};
+use std::alloc::Global;
+use verdicts::Verdict;
+
+const MOST_SOURCE: usize = 1_048_576;
+
+/// The answer to what is asked.
+pub(crate) fn decide<F: Folder>(alloc: Global, folder: &mut F, asked: Asked<'_>) -> Verdict
+    ensures answer { F.tells folder.old → IsAnswer (Rose (F.read_faults folder.old) (F.read_faults folder.new)) (asked_by asked.entry) (F.file folder.old) result }
+    ensures read_fault { result ≡ Verdict.ReadFault → Rose (F.read_faults folder.old) (F.read_faults folder.new) }
+    ensures tells { F.tells folder.old → F.tells folder.new }
+    ensures files { (n : List ℕ) → F.file folder.new n ≡ F.file folder.old n }
+    ensures later { F.read_faults folder.old ≤ F.read_faults folder.new }
+    ensures writes { F.write_faults folder.new ≡ F.write_faults folder.old }
+{
+    match asked {
+        Asked::Check(checking) => decide_check(alloc, folder, checking),
+        Asked::Verify(verifying) => decide_verify(alloc, folder, verifying),
+    }
+}
+
+fn decide_check<F: Folder>(alloc: Global, folder: &mut F, checking: Checking<'_>) -> Verdict
+    ensures answer { F.tells folder.old → IsCheckAnswer (Rose (F.read_faults folder.old) (F.read_faults folder.new)) checking.entry.model (F.file folder.old checking.entry.source.now) (F.file folder.old checking.entry.cert.now) result }
+    ensures read_fault { result ≡ Verdict.ReadFault → Rose (F.read_faults folder.old) (F.read_faults folder.new) }
+    ensures tells { F.tells folder.old → F.tells folder.new }
+    ensures files { (n : List ℕ) → F.file folder.new n ≡ F.file folder.old n }
+    ensures later { F.read_faults folder.old ≤ F.read_faults folder.new }
+    ensures writes { F.write_faults folder.new ≡ F.write_faults folder.old }
+{
+    match folder.read(alloc, checking.source, MOST_SOURCE) {
+        Ok(Got::Bytes(bytes)) => check_source(alloc, folder, &bytes, checking),
+        Ok(Got::Longer) => Verdict::Over(1, 1_048_577),
+        Err(FileFail::Failed) => Verdict::ReadFault,
+        Err(FileFail::Memory) => Verdict::NoMemory,
+    }
+}
+
+fn check_source<F: Folder>(
+    alloc: Global,
+    folder: &mut F,
+    source: &[u8],
+    checking: Checking<'_>,
+) -> Verdict
+    requires small { length source.now ≤ 2 ^ 20 }
+    ensures answer { F.tells folder.old → IsCheckAnswer (Rose (F.read_faults folder.old) (F.read_faults folder.new)) checking.entry.model source.now (F.file folder.old checking.entry.cert.now) result }
+    ensures read_fault { result ≡ Verdict.ReadFault → Rose (F.read_faults folder.old) (F.read_faults folder.new) }
+    ensures tells { F.tells folder.old → F.tells folder.new }
+    ensures files { (n : List ℕ) → F.file folder.new n ≡ F.file folder.old n }
+    ensures later { F.read_faults folder.old ≤ F.read_faults folder.new }
+    ensures writes { F.write_faults folder.new ≡ F.write_faults folder.old }
+{
+    match load_source(alloc, source, checking.model) {
+        Ok(parts) => check_cert(alloc, folder, source, &parts, checking),
+        Err(verdict) => verdict,
+    }
+}
+
+fn check_cert<F: Folder>(
+    alloc: Global,
+    folder: &mut F,
+    source: &[u8],
+    parts: &Loaded,
+    checking: Checking<'_>,
+) -> Verdict
+    requires replay { IsReplay checking.model source.now (tree_of parts.now.examined.typed) }
+    ensures answer { F.tells folder.old → IsCheckAnswer (Rose (F.read_faults folder.old) (F.read_faults folder.new)) checking.entry.model source.now (F.file folder.old checking.entry.cert.now) result }
+    ensures read_fault { result ≡ Verdict.ReadFault → Rose (F.read_faults folder.old) (F.read_faults folder.new) }
+    ensures tells { F.tells folder.old → F.tells folder.new }
+    ensures files { (n : List ℕ) → F.file folder.new n ≡ F.file folder.old n }
+    ensures later { F.read_faults folder.old ≤ F.read_faults folder.new }
+    ensures writes { F.write_faults folder.new ≡ F.write_faults folder.old }
+{
+    let _entry = parts.graph.entry();
+    match folder.read(alloc, checking.cert, MOST_BYTES) {
+        Ok(Got::Bytes(bytes)) => judge(alloc, &parts.graph, source, checking.model, &bytes),
+        Ok(Got::Longer) => Verdict::Over(8, 67_108_865),
+        Err(FileFail::Failed) => Verdict::ReadFault,
+        Err(FileFail::Memory) => Verdict::NoMemory,
+    }
+}
+
+fn decide_verify<F: Folder>(alloc: Global, folder: &mut F, verifying: Verifying<'_>) -> Verdict
+    ensures answer { F.tells folder.old → IsVerifyAnswer (Rose (F.read_faults folder.old) (F.read_faults folder.new)) verifying.entry.model verifying.entry.units verifying.entry.learn (F.file folder.old verifying.entry.source.now) result }
+    ensures read_fault { result ≡ Verdict.ReadFault → Rose (F.read_faults folder.old) (F.read_faults folder.new) }
+    ensures tells { F.tells folder.old → F.tells folder.new }
+    ensures files { (n : List ℕ) → F.file folder.new n ≡ F.file folder.old n }
+    ensures later { F.read_faults folder.old ≤ F.read_faults folder.new }
+    ensures writes { F.write_faults folder.new ≡ F.write_faults folder.old }
+{
+    match folder.read(alloc, verifying.source, MOST_SOURCE) {
+        Ok(Got::Bytes(bytes)) => verify_source(alloc, &bytes, verifying),
+        Ok(Got::Longer) => Verdict::Over(1, 1_048_577),
+        Err(FileFail::Failed) => Verdict::ReadFault,
+        Err(FileFail::Memory) => Verdict::NoMemory,
+    }
+}
+
+fn verify_source(alloc: Global, source: &[u8], verifying: Verifying<'_>) -> Verdict
+    requires small { length source.now ≤ 2 ^ 20 }
+    ensures answer { IsVerifyAnswer ⊥ verifying.entry.model verifying.entry.units verifying.entry.learn source.now result }
+    ensures no_fault { result ≡ Verdict.ReadFault → ⊥ }
+{
+    match load_source(alloc, source, verifying.model) {
+        Ok(parts) => verify_loaded(alloc, source, &parts, verifying),
+        Err(verdict) => verdict,
+    }
+}
+
+fn verify_loaded(alloc: Global, source: &[u8], parts: &Loaded, verifying: Verifying<'_>) -> Verdict
+    requires small { length source.now ≤ 2 ^ 20 }
+    requires replay { IsReplay verifying.model source.now (tree_of parts.now.examined.typed) }
+    ensures answer { IsVerifyAnswer ⊥ verifying.entry.model verifying.entry.units verifying.entry.learn source.now result }
+    ensures no_fault { result ≡ Verdict.ReadFault → ⊥ }
+{
+    let _entry = parts.graph.entry();
+    let budget = Budget {
+        units: verifying.units,
+        learn: verifying.learn,
+    };
+    verify(
+        alloc,
+        &parts.examined,
+        &parts.graph,
+        source,
+        verifying.model,
+        budget,
+    )
+}

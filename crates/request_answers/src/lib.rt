@@ -1,0 +1,13 @@
+//! The answers to requests for the check of a certificate and for the verification of a source: files are read and written, and the
+//! line of the answer is printed.
+#![tactic(auto)]
+
+mod answering;
+mod deciding;
+mod laws;
+mod loading;
+mod printing;
+mod storing;
+
+pub use answering::{Told, answer};
+pub use laws::{accepted_is_certified, safe_is_proved, unsafe_reaches};

@@ -1,0 +1,51 @@
+-- What the layers below answer of a source is what is read of it.
+use Rattle.std.proofs.Common.{inl, inr, ◌⊎◌, ◌≡◌, ℕ, List, refl, ◌∙◌, ap}
+use Rattle.std.specs.Prelude.{Some, None, Result, Ok, Err, IfOk, IfErr, MatchResult}
+use Rattle.lv_base.specs.declared.kind.Model.{Model}
+use Rattle.lv_base.specs.declared.fail.SourceFail.{SourceFail}
+use Rattle.lv_base.specs.declared.fail.SourceFail.TheVariants as source
+use Rattle.lv_base.specs.declared.fault.SourceFault.TheVariants as fault
+use Rattle.c_lexer.specs.declared.token.Token.{Token}
+use Rattle.c_tokens.specs.Divisions.{Fits}
+use Rattle.c_tokens.proofs.Whole.{is_lexed_of}
+use Rattle.c_tree.specs.declared.tree.Unit.{Unit as Tree}
+use Rattle.c_tree.specs.Denotes.{tree_of}
+use Rattle.c_tree.specs.Symbols.{signs_of}
+use Rattle.c_tree.specs.Tree.{Items}
+use Rattle.c_parser.specs.StateView.{Answers}
+use Rattle.parse_machine.specs.Machine as ma
+use Rattle.c_rules.specs.Parts.{Parts}
+use Rattle.c_typed.specs.Parts as typed
+use Rattle.source_checks.specs.Refusals.{source_refusal}
+use Rattle.source_reading.specs.Reading.{parsed_of, tokens_read, tree_read, unless, checked, source_read, RunsAs, IsReplay}
+
+-- a refusal, if it isn't want of memory, is what is read
+abbrev pub IsFail : {A : Type 0} → Result A SourceFail → SourceFail → Type 0
+IsFail read fail = (fail ≡ source.Memory) ⊎ (read ≡ Err fail)
+
+pub fails_read : (bytes : List ℕ) (fail : SourceFail) → (fail ≡ source.Memory) ⊎ Fits bytes (Err fail) → IsFail (tree_read bytes) fail
+fails_read bytes fail (inl e) = inl e
+fails_read bytes fail (inr fits) = inr (ap tokens_read ((is_lexed_of bytes (Err fail)).1 fits))
+
+-- ---- trees
+
+same_limit : (n count : ℕ) → n ≡ 3 → count ≡ 201 → source.Over 3 201 ≡ source.Over n count
+same_limit n count e f = cc
+
+parser_read : (bytes : List ℕ) (m : ma.Result) (r : Result Tree SourceFail) → tree_read bytes ≡ parsed_of m → Answers r m → MatchResult r (λ unit. tree_read bytes ≡ Ok (tree_of unit)) (λ fail. IsFail (tree_read bytes) fail)
+parser_read bytes m (Ok unit) is h = is ∙ ap parsed_of h
+parser_read bytes m (Err (source.Fault fault.Syntax at)) is h = inr (is ∙ ap parsed_of h)
+parser_read bytes m (Err (source.Fault fault.Unsupported at)) is h = inr (is ∙ ap parsed_of h)
+parser_read bytes m (Err (source.Fault _ at)) is h = absurd h
+parser_read bytes m (Err (source.Over n count)) is h = inr (is ∙ ap parsed_of h.0 ∙ ap (λ (f : SourceFail). Err f) (same_limit n count h.1 h.2))
+parser_read bytes m (Err source.Memory) is h = inl refl
+
+pub answers_read : (bytes : List ℕ) (tokens : List Token) (r : Result Tree SourceFail) → Fits bytes (Ok tokens) → Answers r (ma.parse_of (signs_of tokens)) → MatchResult r (λ unit. tree_read bytes ≡ Ok (tree_of unit)) (λ fail. IsFail (tree_read bytes) fail)
+answers_read bytes tokens r fits h = parser_read bytes (ma.parse_of (signs_of tokens)) r (ap tokens_read ((is_lexed_of bytes (Ok tokens)).1 fits)) h
+
+-- ---- sources
+
+pub accepted_read : (model : Model) (bytes : List ℕ) (tree : Items) (r : Result Parts SourceFail) → tree_read bytes ≡ Ok tree → IfOk r (λ _. source_refusal tree model ≡ None) → IfOk r (λ e. RunsAs (typed.tree_of e.typed) tree model) → IfErr r (λ fail. (fail ≡ source.Memory) ⊎ (source_refusal tree model ≡ Some fail)) → MatchResult r (λ e. IsReplay model bytes (typed.tree_of e.typed)) (λ fail. IsFail (source_read model bytes) fail)
+accepted_read model bytes tree (Ok e) is free runs refused = record { tree = tree; read = ap (checked model) is ∙ ap (λ o. unless o tree) free; runs = runs }
+accepted_read model bytes tree (Err fail) is free runs (inl e) = inl e
+accepted_read model bytes tree (Err fail) is free runs (inr e) = inr (ap (checked model) is ∙ ap (λ o. unless o tree) e)
