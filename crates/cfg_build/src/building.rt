@@ -1,17 +1,24 @@
 //! The graphs of functions, place by place.
 
+ghost use Rattle.std.specs.Prelude.{◌≡◌, ◌==◌, ◌⊎◌, [], length, true, false, slice_get, IfOk, IfSome};
+ghost use Rattle.c_terms.specs.Shown.{Grows};
+ghost use Rattle.code_moves.specs.Setting.{setting_of, Stands};
+ghost use Rattle.cfg_build.specs.Follows.{plan_of};
+ghost use Rattle.cfg_build.specs.Graphs as of;
+
 use crate::draft::Draft;
 use crate::looping::loops_in;
+use crate::opening::add_opening;
 use crate::placing::{Places, Range, Whole, add_places, node_of};
 use crate::steps::nodes_at;
 use bv_term::Terms;
-use c_graph::{FnGraph, FnGraphs, LoopAt, Node, NodeId, Operation, function_graphs_from};
+use c_graph::{FnGraph, FnGraphs, LoopAt, NodeId, function_graphs_from};
 use c_rules::Examined;
 use c_terms::Words;
-use c_typed::{Object, Owner, Typed};
-use code_layout::{Layout, elements_of, widths_of};
+use c_typed::Typed;
+use code_layout::{Layout, widths_of};
 use code_moves::Ground;
-use lv_base::{Memory, Model, SourceFail, width};
+use lv_base::{Memory, SourceFail};
 use slot_code::Instruction;
 use slot_compiler::{Code, compiled, slots_in};
 use slot_values::Link;
@@ -159,7 +166,9 @@ struct Graphs {
 }
 
 impl Graphs {
-    fn new(alloc: Global) -> Graphs {
+    fn new(alloc: Global) -> Graphs
+        ensures { (result.graphs.items ≡ []) × (result.exits.items ≡ []) }
+    {
         Graphs {
             graphs: Vec::new(alloc),
             exits: Vec::new(alloc),
@@ -175,10 +184,15 @@ fn graphs_of(
     main: u32,
     ground: &Ground<'_>,
     words: &mut Words,
-) -> Result<Graphs, Memory> {
+) -> Result<Graphs, Memory>
+    ensures { Stands (setting_of ground.now) words.old → IfOk result (λ r. (r.graphs.items ≡ []) ⊎ (Grows words.old words.new
+        × of.FirstGraphs whole.now.code.now whole.now.numbers.now whole.now.ranges.now main (setting_of ground.now) words.new.terms (length whole.now.ranges.now) r.graphs.items r.exits.items)) }
+{
     let mut all = Graphs::new(alloc);
     for number in 0..whole.ranges.len() {
-        let range = whole.ranges[number];
+        let Some(range) = range_at(whole.ranges, number) else {
+            return Ok(Graphs::new(alloc));
+        };
         let places = places_of(whole, range, NodeId(u32::from(range.function == main)));
         let Some(graph) = graph_of(alloc, typed, &places, main, ground, words)? else {
             return Ok(Graphs::new(alloc));
@@ -189,6 +203,12 @@ fn graphs_of(
     Ok(all)
 }
 
+fn range_at(ranges: &[Range], number: usize) -> Option<Range>
+    ensures { result ≡ slice_get ranges.now number }
+{
+    ranges.get(number).copied()
+}
+
 fn graph_of(
     alloc: Global,
     typed: &Typed,
@@ -196,7 +216,10 @@ fn graph_of(
     main: u32,
     ground: &Ground<'_>,
     words: &mut Words,
-) -> Result<Option<FnGraph>, Memory> {
+) -> Result<Option<FnGraph>, Memory>
+    ensures { Stands (setting_of ground.now) words.old → IfOk result (λ o. IfSome o (λ r. Grows words.old words.new
+        × of.GraphFollows (places.now.range.function == main) (plan_of places.now) (setting_of ground.now) words.new.terms r)) }
+{
     if places.range.function == main {
         main_graph(alloc, typed, places, main, ground, words)
     } else {
@@ -210,7 +233,10 @@ fn own_graph(
     places: &Places<'_>,
     ground: &Ground<'_>,
     words: &mut Words,
-) -> Result<Option<FnGraph>, Memory> {
+) -> Result<Option<FnGraph>, Memory>
+    ensures { Stands (setting_of ground.now) words.old → IfOk result (λ o. IfSome o (λ r. Grows words.old words.new
+        × of.GraphFollows false (plan_of places.now) (setting_of ground.now) words.new.terms r)) }
+{
     let mut draft = Draft::new(alloc);
     if !add_places(alloc, places, ground, words, &mut draft)? {
         return Ok(None);
@@ -225,14 +251,17 @@ fn main_graph(
     main: u32,
     ground: &Ground<'_>,
     words: &mut Words,
-) -> Result<Option<FnGraph>, Memory> {
+) -> Result<Option<FnGraph>, Memory>
+    ensures { Stands (setting_of ground.now) words.old → IfOk result (λ o. IfSome o (λ r. Grows words.old words.new
+        × of.GraphFollows true (plan_of places.now) (setting_of ground.now) words.new.terms r)) }
+{
     let mut draft = Draft::new(alloc);
     add_opening(alloc, ground, words, &mut draft)?;
     if !add_places(alloc, places, ground, words, &mut draft)? {
         return Ok(None);
     }
-    let loops = main_loops(alloc, typed, main)?;
-    let loops = loops_at(alloc, places, &loops)?;
+    let offsets = main_loops(alloc, typed, main)?;
+    let loops = loops_at(alloc, places, &offsets)?;
     Ok(Some(draft.into_graph(loops)))
 }
 
@@ -245,81 +274,11 @@ fn main_loops(alloc: Global, typed: &Typed, main: u32) -> Result<Vec<u32>, Memor
     Ok(found)
 }
 
-// The node at which `main` begins, with an edge that gives each element its first value.
-fn add_opening(
-    alloc: Global,
-    ground: &Ground<'_>,
-    words: &mut Words,
-    draft: &mut Draft,
-) -> Result<(), Memory> {
-    let from = draft.node(Node::Plain)?;
-    let ops = opening(alloc, ground, words)?;
-    let to = draft.next()?;
-    draft.edge(from, to, ops)?;
-    Ok(())
-}
-
-// Operations that give each element its first value.
-fn opening(
-    alloc: Global,
-    ground: &Ground<'_>,
-    words: &mut Words,
-) -> Result<Vec<Operation>, Memory> {
-    let mut ops = Vec::new(alloc);
-    for number in 0..ground.objects.len() {
-        open_object(number, &ground.objects[number], ground, words, &mut ops)?;
-    }
-    Ok(ops)
-}
-
-fn open_object(
-    number: usize,
-    object: &Object,
-    ground: &Ground<'_>,
-    words: &mut Words,
-    ops: &mut Vec<Operation>,
-) -> Result<(), Memory> {
-    let Ok(number) = u32::try_from(number) else {
-        return Err(Memory);
-    };
-    match ground.layout.first(number) {
-        None => Ok(()),
-        Some(first) => open_elements(first, object, ground.model, words, ops),
-    }
-}
-
-// Each element of an object, whose first cell is known, gets its first value.
-fn open_elements(
-    first: u32,
-    object: &Object,
-    model: Model,
-    words: &mut Words,
-    ops: &mut Vec<Operation>,
-) -> Result<(), Memory> {
-    let bits = width(object.kind, model);
-    for element in 0..elements_of(object) {
-        let value = words.constant_of(bits, first_value(object, element))?;
-        let Some(cell) = first.checked_add(element) else {
-            return Err(Memory);
-        };
-        ops.push(Operation::Set(cell, value))?;
-    }
-    Ok(())
-}
-
-// The value that an element of an object has before `main`.
-fn first_value(object: &Object, element: u32) -> i128 {
-    if object.owner != Owner::Static {
-        return 0;
-    }
-    match object.first.get(element as usize) {
-        None => 0,
-        Some(value) => *value,
-    }
-}
-
 // The places of a function, the first of which has this node.
-fn places_of<'a>(whole: &Whole<'a>, range: Range, first: NodeId) -> Places<'a> {
+fn places_of<'a>(whole: &Whole<'a>, range: Range, first: NodeId) -> Places<'a>
+    ensures whole { result.whole ≡ whole.now }
+    ensures range { result.range ≡ range }
+{
     Places {
         whole: *whole,
         range,

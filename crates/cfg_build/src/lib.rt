@@ -18,12 +18,16 @@
 //! **Loops.** `main`'s graph lists its `while` and `for` loops in the order of their offsets, each with the node to which its turns
 //! go: there the store of each visit stands.
 //!
-//! No contract says so: what is proved is that the call returns, and that the answer is the graphs of a program.
+//! **Contracts.** `specs/Steps` and `specs/Follows` say what stands for each instruction at its place, by the meaning of terms in every
+//! store, and `specs/Graphs` what the graph of each function is; numbers of nodes and the functions that are called are guessed, and
+//! tested where they are used. So the graphs of all functions follow the code between the ends that `ranges_of` gives them, or there
+//! are none. Not said are those ends, `main`'s number and the nodes of its loops, nor that `build` answers these graphs.
 #![tactic(auto)]
 
 mod building;
 mod draft;
 mod looping;
+mod opening;
 mod placing;
 mod steps;
 

@@ -1,0 +1,114 @@
+-- Graphs that follow code, in a table that grew.
+use Rattle.std.proofs.Common.{◌≡◌, ℕ, zero, suc, ◌==◌, Bool, true, false, List, [], ◌∷◌, ◌++◌, length, refl, sym, ap, ◌∙◌, subst, arith, ◌<◌, ◌≤◌, Option, None, Some, slice_get, get_or}
+use Rattle.std.specs.Prelude.{IfSome}
+use Rattle.std.proofs.lemmas.Option.{slice_get_read}
+use Rattle.c_typed.specs.declared.tree.Object.{Object}
+use Rattle.c_graph.specs.declared.graph.LoopAt.{LoopAt}
+use Rattle.c_graph.specs.declared.graph.NodeId.{NodeId}
+use Rattle.c_graph.specs.declared.graph.Node.{Node}
+use Rattle.c_graph.specs.declared.graph.Edge.{Edge}
+use Rattle.c_graph.specs.Functions.{FnFlow}
+use Rattle.slot_code.specs.declared.flat.Instruction.{Instruction}
+use Rattle.c_terms.specs.declared.words.Words.{Words}
+use Rattle.c_terms.specs.Shown.{Grows}
+use Rattle.c_terms.proofs.Putting.{grows-twice}
+use Rattle.code_moves.specs.Setting.{Setting}
+use Rattle.code_moves.proofs.Doing.{deeds-later}
+use Rattle.cfg_build.specs.declared.draft.Draft.{Draft}
+use Rattle.cfg_build.specs.declared.placing.Range.{Range}
+use Rattle.cfg_build.specs.declared.placing.Whole.{Whole}
+use Rattle.cfg_build.specs.declared.placing.Places.{Places}
+use Rattle.cfg_build.specs.Steps.{Built, IsEmpty, node_id}
+use Rattle.cfg_build.specs.Follows.{Plan, plan_of, Joined, FirstFollow, Exit, PlacesFollow}
+use Rattle.cfg_build.specs.Graphs.{Opening, IsGraph, GraphFollows, GraphBehind, FirstGraphs}
+use Rattle.cfg_build.proofs.Following.{joined-by, first-later, built-by, built-twice}
+
+-- the graph of a draft that was empty
+pub graph-of : (d e : Draft) (F : ℕ → List Node → List Edge → Type 0) (graph : FnFlow) (loops : List LoopAt) → IsEmpty d → Built d e F
+    → graph ≡ record { nodes = e.nodes.items; edges = e.edges.items; entry = node_id 0; loops = loops } → IsGraph F graph
+graph-of d e F graph loops h k q =
+    let ns : k.nodes ≡ e.nodes.items = sym (k.adds.nodes_are ∙ ap (λ (xs : List Node). xs ++ k.nodes) h.0) in
+    let es : k.edges ≡ e.edges.items = sym (k.adds.edges_are ∙ ap (λ (xs : List Edge). xs ++ k.edges) h.1) in
+    subst (λ (r : FnFlow). IsGraph F r) (sym q)
+    (refl, subst (λ (xs : List Edge). F 0 e.nodes.items xs) es (subst (λ (xs : List Node). F 0 xs k.edges) ns (subst (λ (n : ℕ). F n k.nodes k.edges) (ap length h.0) k.form)))
+
+-- ---- In a table that grew
+
+pub places-later : (a b : Words) (p : Plan) (s : Setting) (n : ℕ) (ns : List Node) (es : List Edge) → Grows a b → PlacesFollow p s a.terms n ns es → PlacesFollow p s b.terms n ns es
+places-later a b p s n ns es g h = joined-by _ (Exit p) _ (Exit p) n ns es (λ m xs fs z. first-later a b p s _ m xs fs g z) (λ m xs fs z. z) h
+
+pub opening-later : (a b : Words) (s : Setting) (n : ℕ) (ns : List Node) (es : List Edge) → Grows a b → Opening s a.terms n ns es → Opening s b.terms n ns es
+opening-later a b s n ns es g h = record { ops = h.ops; does = deeds-later a b h.ops _ g h.does; nodes_are = h.nodes_are; edges_are = h.edges_are }
+
+graph-later : (a b : Words) (o : Bool) (p : Plan) (s : Setting) (graph : FnFlow) → Grows a b → GraphFollows o p s a.terms graph → GraphFollows o p s b.terms graph
+graph-later a b true p s graph g h =
+    (h.0, joined-by _ _ _ _ 0 graph.nodes graph.edges (λ m xs fs z. opening-later a b s m xs fs g z) (λ m xs fs z. places-later a b p s m xs fs g z) h.1)
+graph-later a b false p s graph g h = (h.0, places-later a b p s 0 graph.nodes graph.edges g h.1)
+
+graphs-later : (a b : Words) (code : List Instruction) (numbers : List ℕ) (ranges : List Range) (main : ℕ) (s : Setting) (k : ℕ) (gs : List FnFlow) (xs : List NodeId) → Grows a b
+    → FirstGraphs code numbers ranges main s a.terms k gs xs → FirstGraphs code numbers ranges main s b.terms k gs xs
+graphs-later a b code numbers ranges main s zero gs xs g h = h
+graphs-later a b code numbers ranges main s (suc k) gs xs g h = record {
+  graphs_before = h.graphs_before;
+  exits_before = h.exits_before;
+  range = h.range;
+  graph = h.graph;
+  exit = h.exit;
+  before = graphs-later a b code numbers ranges main s k h.graphs_before h.exits_before g h.before;
+  there = h.there;
+  follows = graph-later a b _ _ s h.graph g h.follows;
+  graphs_are = h.graphs_are;
+  exits_are = h.exits_are;
+}
+
+-- ---- The opening, and the places behind it
+
+pub main-built : (a b c : Words) (x y z : Draft) (p : Plan) (s : Setting) → Grows a b × Built x y (Opening s b.terms) → Grows b c × Built y z (PlacesFollow p s c.terms)
+    → Grows a c × Built x z (Joined (Opening s c.terms) (PlacesFollow p s c.terms))
+main-built a b c x y z p s h k =
+    (grows-twice a b c h.0 k.0, built-twice x y z (Opening s c.terms) (PlacesFollow p s c.terms) (built-by x y (Opening s b.terms) (Opening s c.terms) (λ n ns es w. opening-later b c s n ns es k.0 w) h.1) k.1)
+
+-- ---- One graph more
+
+pub graph-more : (a b c : Words) (code : List Instruction) (numbers : List ℕ) (ranges : List Range) (main : ℕ) (s : Setting) (k m : ℕ) (gs all : List FnFlow) (xs ends : List NodeId) (range : Range) (p : Plan) (graph : FnFlow)
+    → Grows a b × FirstGraphs code numbers ranges main s b.terms k gs xs → Grows b c × GraphFollows (p.range.function == main) p s c.terms graph → slice_get ranges k ≡ Some range
+    → p ≡ record { code = code; numbers = numbers; ranges = ranges; range = range; exit = p.exit } → all ≡ gs ++ graph ∷ [] → ends ≡ xs ++ p.exit ∷ [] → suc k ≡ m
+    → Grows a c × FirstGraphs code numbers ranges main s c.terms m all ends
+graph-more a b c code numbers ranges main s k m gs all xs ends range p graph h g t q e f o = (
+  grows-twice a b c h.0 g.0,
+  subst (λ (j : ℕ). FirstGraphs code numbers ranges main s c.terms j all ends) o
+      (record {
+        graphs_before = gs;
+        exits_before = xs;
+        range = range;
+        graph = graph;
+        exit = p.exit;
+        before = graphs-later b c code numbers ranges main s k gs xs g.0 h.1;
+        there = t;
+        follows = subst (λ (z : Plan). GraphFollows (z.range.function == main) z s c.terms graph) q g.1;
+        graphs_are = e;
+        exits_are = f;
+      }),
+)
+
+-- ---- Look-ups
+
+pub none-there : (xs : List Object) (i : ℕ) → length xs ≤ i → None ≡ slice_get xs i
+none-there [] i h = refl
+none-there (x ∷ xs) zero h = absurd (omega (arith, h))
+none-there (x ∷ xs) (suc i) h = none-there xs i (omega (arith, h))
+
+pub some-there : (xs : List Object) (i : ℕ) (x : Object) → i < length xs → x ≡ get_or xs i x → Some x ≡ slice_get xs i
+some-there xs i x h e = sym (slice_get_read xs (length xs) i x refl h e)
+
+pub some-of : (o : Option FnFlow) (x : FnFlow) (P : FnFlow → Type 0) → o ≡ Some x → IfSome o P → P x
+some-of o x P e h = subst (λ (z : Option FnFlow). IfSome z P) e h
+
+pub plan-is : (ps : Places) (w : Whole) (r : Range) → ps.whole ≡ w → ps.range ≡ r
+    → plan_of ps ≡ record { code = w.code.now; numbers = w.numbers.now; ranges = w.ranges.now; range = r; exit = ps.exit }
+plan-is ps w r e f =
+    let g : plan_of ps ≡ record { code = w.code.now; numbers = w.numbers.now; ranges = w.ranges.now; range = ps.range; exit = ps.exit } =
+    ap (λ (z : Whole). record { code = z.code.now; numbers = z.numbers.now; ranges = z.ranges.now; range = ps.range; exit = ps.exit }) e in
+    let h : ◌≡◌ {A = Plan} (record { code = w.code.now; numbers = w.numbers.now; ranges = w.ranges.now; range = ps.range; exit = ps.exit }) (record { code = w.code.now; numbers = w.numbers.now; ranges = w.ranges.now; range = r; exit = ps.exit }) =
+    ap (λ (z : Range). record { code = w.code.now; numbers = w.numbers.now; ranges = w.ranges.now; range = z; exit = ps.exit }) f in
+    g ∙ h

@@ -1,0 +1,10 @@
+use Rattle.std.proofs.Common.{◌++◌, List}
+use Rattle.code_moves.specs.Deeds.{Deed, AreDeeds, Does}
+use Rattle.cfg_build.specs.Graphs.{first_sets}
+use Rattle.cfg_build.proofs.opening.open_elements.Given as goal
+
+-- the elements so far
+abbrev pub invariant-loop-element : goal.invariant-loop-element
+invariant-loop-element l =
+    (deeds : List Deed) → AreDeeds l.initial.words.terms l.initial.ops.items deeds
+    → Does l.initial.words l.words l.ops.items (deeds ++ first_sets l.first l.bits l.object l.element)

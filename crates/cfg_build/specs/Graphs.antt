@@ -1,0 +1,89 @@
+-- The graphs of a program's functions that follow its flat code.
+use Rattle.std.specs.Prelude.{ℕ, zero, suc, ◌+◌, ◌==◌, ◌≡◌, Bool, true, false, List, [], ◌∷◌, ◌++◌, length, Option, None, Some, ℤ, pos, slice_get}
+use Rattle.lv_base.specs.Integers.{residue, width_of}
+use Rattle.bv_term.specs.WellFormed.{Table}
+use Rattle.c_typed.specs.declared.tree.Object.{Object}
+use Rattle.c_typed.specs.declared.tree.Owner.{Owner}
+use Rattle.c_typed.specs.declared.tree.Owner.TheVariants.{Static, Local}
+use Rattle.c_graph.specs.declared.graph.NodeId.{NodeId}
+use Rattle.c_graph.specs.declared.graph.Node.{Node}
+use Rattle.c_graph.specs.declared.graph.Node.TheVariants.{Plain}
+use Rattle.c_graph.specs.declared.graph.Operation.{Operation}
+use Rattle.c_graph.specs.declared.graph.Edge.{Edge}
+use Rattle.c_graph.specs.Functions.{FnFlow}
+use Rattle.slot_code.specs.declared.flat.Instruction.{Instruction}
+use Rattle.code_layout.specs.Layout.{elements_of}
+use Rattle.code_moves.specs.Setting.{Setting}
+use Rattle.code_moves.specs.Deeds.{Deed, Sets, AreDeeds}
+use Rattle.cfg_build.specs.declared.placing.Range.{Range}
+use Rattle.cfg_build.specs.Steps.{node_id, edge}
+use Rattle.cfg_build.specs.Follows.{Plan, Joined, PlacesFollow}
+
+-- ---- The first values of objects
+
+abbrev pub value_in : Option ℤ → ℤ
+value_in None = pos 0
+value_in (Some v) = v
+
+-- the value that an element has before `main`: that of a static object is its initial one, where it has one
+abbrev pub first_in : Owner → List ℤ → ℕ → ℤ
+first_in Static values element = value_in (slice_get values element)
+first_in (Local f) values element = pos 0
+
+abbrev pub first_value : Object → ℕ → ℤ
+first_value o element = first_in o.owner o.first.items element
+
+-- the first so many elements of an object, which lie in cells of this width, get their values
+abbrev pub first_sets : (cell width : ℕ) → Object → ℕ → List Deed
+first_sets cell width o zero = []
+first_sets cell width o (suc n) = first_sets cell width o n ++ Sets (cell + n) (λ store. residue width (first_value o n)) ∷ []
+
+abbrev pub object_opens : Setting → Option ℕ → Option Object → List Deed
+object_opens g None o = []
+object_opens g (Some cell) None = []
+object_opens g (Some cell) (Some o) = first_sets cell (width_of o.kind g.model) o (elements_of o)
+
+-- of the first so many objects
+abbrev pub opens : Setting → ℕ → List Deed
+opens g zero = []
+opens g (suc k) = opens g k ++ object_opens g (slice_get g.lay.firsts k) (slice_get g.objects k)
+
+-- the node at which `main` begins, with an edge that gives each element its first value
+pub record Opening (g : Setting) (table : Table) (n : ℕ) (nodes : List Node) (edges : List Edge) : Type 0 where
+  pub ops : List Operation
+  pub does : AreDeeds table ops (opens g (length g.objects))
+  pub nodes_are : nodes ≡ Plain ∷ []
+  pub edges_are : edges ≡ edge (node_id n) (node_id (n + 1)) ops ∷ []
+
+-- ---- The graph of a function
+
+-- nodes and edges of a form from number 0 on
+abbrev pub IsGraph : (ℕ → List Node → List Edge → Type 0) → FnFlow → Type 0
+IsGraph Form graph = (graph.entry ≡ node_id 0) × Form 0 graph.nodes graph.edges
+
+-- in the graph of `main` the opening stands first
+abbrev pub GraphFollows : Bool → Plan → Setting → Table → FnFlow → Type 0
+GraphFollows true p g table graph = IsGraph (Joined (Opening g table) (PlacesFollow p g table)) graph
+GraphFollows false p g table graph = IsGraph (PlacesFollow p g table) graph
+
+-- ---- The graphs of a program's functions
+
+-- one graph more, that of the function of this number
+pub record GraphBehind (code : List Instruction) (numbers : List ℕ) (ranges : List Range) (main : ℕ) (g : Setting) (table : Table) (Before : List FnFlow → List NodeId → Type 0) (k : ℕ)
+    (graphs : List FnFlow) (exits : List NodeId) : Type 0 where
+  pub graphs_before : List FnFlow
+  pub exits_before : List NodeId
+  pub range : Range
+  pub graph : FnFlow
+  pub exit : NodeId
+  pub before : Before graphs_before exits_before
+  pub there : slice_get ranges k ≡ Some range
+  pub follows : GraphFollows (range.function == main) (record { code = code; numbers = numbers; ranges = ranges; range = range; exit = exit }) g table graph
+  pub graphs_are : graphs ≡ graphs_before ++ graph ∷ []
+  pub exits_are : exits ≡ exits_before ++ exit ∷ []
+
+module _ (code : List Instruction) (numbers : List ℕ) (ranges : List Range) (main : ℕ) (g : Setting) (table : Table) where
+  -- the graphs of the first so many functions, and the nodes at which they return
+  abbrev pub FirstGraphs : ℕ → List FnFlow → List NodeId → Type 0
+  FirstGraphs zero graphs exits = (graphs ≡ []) × (exits ≡ [])
+  FirstGraphs (suc k) graphs exits = GraphBehind code numbers ranges main g table (FirstGraphs k) k graphs exits
