@@ -8,42 +8,44 @@ use Rattle.pair_query.specs.Laws.{pair_of}
 use Rattle.reach_tree.specs.declared.vertex.VertexId.{VertexId}
 use Rattle.reach_tree.specs.Trees.{vertex_at}
 use Rattle.cover_engine.specs.Unwindings.{Unwound, is_complete, may_settle}
+use Rattle.cover_engine.specs.Steering.{IsHighestOpen}
 use Rattle.refine.specs.Refinements.{IsDriven, IsErrorLeaf, IsLeafRefused, edges_of, question_at}
 use Rattle.refine.specs.Refusals.{IsPairRefused}
 use Rattle.explore.specs.Ends.{IsAsked, IsEnd, IsFeasible, end_of}
 use Rattle.explore.proofs.Leaves.{open_incomplete}
 
 -- values that drive an open leaf's path to its error
-pub leaf_driven : (g : Flow) (u : Unwound) (v : VertexId) (values : List ℤ) → v.0 < length u.vertices → IsErrorLeaf g u v → IsDriven g u v values → IsFeasible g u values
-leaf_driven g u v values there error driven =
+pub leaf_driven : (g : Flow) (u : Unwound) (v : VertexId) (values : List ℤ) → v.0 < length u.vertices → IsHighestOpen g u v → IsErrorLeaf g u v → IsDriven g u v values → IsFeasible g u values
+leaf_driven g u v values there highest error driven =
     let (store, after, whole, run) = driven in
     let (kind, (at, is)) = error.node in
     record {
       leaf = v;
       there = there;
+      highest = highest;
       error = error;
       driven = driven;
       reached = ((vertex_at u.vertices v.0).node, (after, (kind, (at, (edges_of u v, store, whole, run), is))));
     }
 
 -- a question of a leaf's path
-pub path_asked : (g : Flow) (units : ℕ) (u : Unwound) (v : VertexId) (Why : List (List Lit) → Type 0) → v.0 < length u.vertices → IsErrorLeaf g u v
+pub path_asked : (g : Flow) (units : ℕ) (u : Unwound) (v : VertexId) (Why : List (List Lit) → Type 0) → v.0 < length u.vertices → IsHighestOpen g u v → IsErrorLeaf g u v
     → length u.journal < units → Why (question_at g u v).clauses → IsAsked g units u Why
-path_asked g units u v Why there error more why = record {
+path_asked g units u v Why there highest error more why = record {
   incomplete = open_incomplete g u (length u.vertices) v there error.leaf;
   more = more;
   clauses = (question_at g u v).clauses;
-  asked = inl (record { leaf = v; there = there; error = error; are = refl });
+  asked = inl (record { leaf = v; there = there; highest = highest; error = error; are = refl });
   why = why;
 }
 
-pub leaf_ends : (g : Flow) (units learn : ℕ) (old new : Unwound) (v : VertexId) (e : QueryFail) → v.0 < length old.vertices → IsErrorLeaf g old v
+pub leaf_ends : (g : Flow) (units learn : ℕ) (old new : Unwound) (v : VertexId) (e : QueryFail) → v.0 < length old.vertices → IsHighestOpen g old v → IsErrorLeaf g old v
     → length old.journal < units → IsLeafRefused g old new v learn e → IsEnd g units learn new (end_of e)
-leaf_ends g units learn old new v (Over n) there error more (same, why) =
-    subst (λ (u : Unwound). IsEnd g units learn u (end_of (Over n))) (sym same) (path_asked g units old v (λ clauses. 67108864 < n) there error more why.0)
-leaf_ends g units learn old new v (OverLog log) there error more (same, why) =
-    subst (λ (u : Unwound). IsEnd g units learn u (end_of (OverLog log))) (sym same) (path_asked g units old v _ there error more why)
-leaf_ends g units learn old new v Memory there error more h = tt
+leaf_ends g units learn old new v (Over n) there highest error more (same, why) =
+    subst (λ (u : Unwound). IsEnd g units learn u (end_of (Over n))) (sym same) (path_asked g units old v (λ clauses. 67108864 < n) there highest error more why.0)
+leaf_ends g units learn old new v (OverLog log) there highest error more (same, why) =
+    subst (λ (u : Unwound). IsEnd g units learn u (end_of (OverLog log))) (sym same) (path_asked g units old v _ there highest error more why)
+leaf_ends g units learn old new v Memory there highest error more h = tt
 
 -- a question of a pair
 pub pair_asked : (g : Flow) (units : ℕ) (u : Unwound) (v w : VertexId) (Why : List (List Lit) → Type 0) → is_complete g u ≡ false → v.0 < length u.vertices → w.0 < length u.vertices

@@ -15,6 +15,7 @@ use Rattle.clause_learning.specs.declared.QueryFail.TheVariants.{Over as TooLong
 use Rattle.pair_query.specs.Laws.{pair_of}
 use Rattle.cover_engine.specs.Unwindings.{Unwound, is_complete, may_settle}
 use Rattle.cover_engine.specs.Units.{Legal}
+use Rattle.cover_engine.specs.Steering.{IsHighestOpen}
 use Rattle.refine.specs.Refinements.{IsDriven, IsErrorLeaf, question_at}
 use Rattle.refine.specs.Witnesses.{AreKnown, Known}
 use Rattle.explore.specs.declared.strategy.Explored.{Explored}
@@ -55,18 +56,20 @@ abbrev pub IsReached : Flow → List ℤ → Type 0
 IsReached g values =
     (v : NodeId) × ((after : List ℕ) × ((kind : ErrorKind) × ((at : ℕ) × RunsTo g values v after × (slice_get g.nodes v.0 ≡ Some (Error kind at)))))
 
--- these values drive the path of an open leaf to its error
+-- these values drive the path of the highest open leaf to its error
 pub record IsFeasible (g : Flow) (u : Unwound) (values : List ℤ) : Type 0 where
   pub leaf : VertexId
   pub there : leaf.0 < length u.vertices
+  pub highest : IsHighestOpen g u leaf
   pub error : IsErrorLeaf g u leaf
   pub driven : IsDriven g u leaf values
   pub reached : IsReached g values
 
--- the clauses of the question whether the path of an open leaf at an error has a run
+-- the clauses of the question whether the path of the highest open leaf, which is at an error, has a run
 pub record IsPathAsked (g : Flow) (u : Unwound) (clauses : List (List Lit)) : Type 0 where
   pub leaf : VertexId
   pub there : leaf.0 < length u.vertices
+  pub highest : IsHighestOpen g u leaf
   pub error : IsErrorLeaf g u leaf
   pub are : clauses ≡ (question_at g u leaf).clauses
 
@@ -106,7 +109,7 @@ end_of (TooHeavy log) = IsTooHeavy log
 end_of NoMemory = NoRoom
 
 -- how an exploration ended: its unwinding is complete within the units that are allowed, or it is not and has all of them; or values drive
--- the path of an open leaf to its error; or a question of the unwinding passes the learned clauses, the literals or the pairs that are
+-- the path of the highest open leaf to its error; or a question of the unwinding passes the learned clauses, the literals or the pairs that are
 -- allowed
 abbrev pub IsExplored : Flow → ℕ → ℕ → Explored → Type 0
 IsExplored g units learn (Complete u) = (is_complete g u ≡ true) × (length u.journal ≤ units)

@@ -3,6 +3,7 @@ ghost use Rattle.c_graph.specs.Shape.{widths_of};
 ghost use Rattle.reach_tree.specs.Trees.{vertex_at};
 ghost use Rattle.cover_engine.specs.Unwindings.{is_open_leaf};
 ghost use Rattle.cover_engine.specs.Units.{Legal};
+ghost use Rattle.cover_engine.specs.Steering.{IsHighestOpen};
 ghost use Rattle.refine.specs.Refinements.{IsErrorLeaf};
 ghost use Rattle.explore.specs.Ends.{IsEnd, IsExplored, IsOverCells, IsReady, is_plain, is_plain_at, unwinding_of};
 
@@ -21,7 +22,7 @@ use std::alloc::Global;
 pub enum Explored {
     /// No leaf is open.
     Complete(Unwinding),
-    /// These input values drive the path of an open leaf to its error.
+    /// These input values drive the path of the highest open leaf to its error.
     Feasible(Unwinding, Values),
     /// There are as many units as were allowed.
     Units(Unwinding),
@@ -89,6 +90,7 @@ pub struct Work {
 // The open leaf of highest number, unless the unwinding is complete or its units are spent.
 fn next_leaf(graph: &Graph, unwinding: &mut Unwinding, budget: Budget) -> Result<VertexId, End>
     ensures leaf { IfOk result (λ v. (v.0 < length unwinding.new.vertices) × (is_open_leaf graph.now unwinding.new v ≡ true)) }
+    ensures highest { IfOk result (IsHighestOpen graph.now unwinding.new) }
     ensures more { IfOk result (λ _. length unwinding.new.journal < budget.units) }
     ensures ended { IfErr result (IsEnd graph.now budget.units budget.learn unwinding.new) }
     ensures unchanged { unwinding.new ≡ unwinding.old }
@@ -208,6 +210,7 @@ fn refine_at(
     budget: Budget,
 ) -> Result<(), End>
     requires leaf { leaf.0 < length work.old.unwinding.vertices }
+    requires highest { IsHighestOpen graph.now work.old.unwinding leaf }
     requires error { IsErrorLeaf graph.now work.old.unwinding leaf }
     requires ready { IsReady graph.now budget.units work.old.unwinding work.old.witnesses }
     requires learn { 0 < budget.learn }

@@ -42,11 +42,11 @@ returns-in_err-values-clause-ended c =
     let p = err_from_is_err_and c.from_residual.result c.from_residual.ensures.1 in
     rw (p.1, p.2)
     (leaf_ends c.args.graph.now c.args.budget.units c.args.budget.learn c.args.work.now.unwinding c.refine_leaf.new.unwinding c.args.leaf c.in_err-values.field-0.0
-    c.requires.leaf c.requires.error c.requires.more c.in_err-values.ensures.refused)
+    c.requires.leaf c.requires.highest c.requires.error c.requires.more c.in_err-values.ensures.refused)
 
 pub returns-in-Spent-clause-ended : goal.returns-in-Spent-clause-ended
 returns-in-Spent-clause-ended c =
     let made = subst (IsRefined c.args.graph.now c.args.work.now.unwinding c.refine_leaf.new.unwinding c.args.leaf c.args.budget.learn) c.in-Spent.is
     c.in_ok-values.ensures.refined in
     subst (λ (u : Unwound). IsAsked c.args.graph.now c.args.budget.units u (λ (clauses : List (List Lit)). IsSpent clauses c.args.budget.learn c.in-Spent.log)) (sym made.0)
-    (path_asked c.args.graph.now c.args.budget.units c.args.work.now.unwinding c.args.leaf _ c.requires.leaf c.requires.error c.requires.more made.1)
+    (path_asked c.args.graph.now c.args.budget.units c.args.work.now.unwinding c.args.leaf _ c.requires.leaf c.requires.highest c.requires.error c.requires.more made.1)
