@@ -6,7 +6,7 @@
 
 What it makes is no product: nothing is proved of it, and the gate doesn't know it. It wants rustc. Rattle is Rust but for its clauses and
 ghost items, which are cut out here, and for its standard library, whose calls that take memory answer results: `standard.rs` has those
-that the crates use. A whole program takes a minute; later runs compile what changed and what stands above it.
+that the crates use, and a file of its name each crate of the kit. A whole program takes a minute; later runs compile what changed and what stands above it.
 """
 import pathlib
 import re
@@ -16,6 +16,8 @@ import sys
 HERE = pathlib.Path(__file__).resolve().parent
 ROOT = HERE.parent.parent
 RUSTC = ["rustc", "--edition", "2021", "-O", "-g"]
+# Crates of the kit that are written anew here.
+KIT = ("sha2", "hex")
 CLAUSE = re.compile(r"^[ \t]*(?:requires|ensures)\b[^{\n]*\{", re.M)
 MODEL = re.compile(r"^[ \t]*impl(?:<[^>]*>)? (?:std::marker::)?Model for [^{]*\{", re.M)
 GHOST = re.compile(r"^[ \t]*(?:pub(?:\([a-z]+\))? )?ghost \w+(?: =|:) \{", re.M)
@@ -109,7 +111,7 @@ def written(crate, out):
 
 
 def compile_one(root, to, kind, name, libraries, out):
-    externs = [word for it in ["rstd", *libraries] for word in ("--extern", f"{it}={out}/lib{it}.rlib")]
+    externs = [word for it in ["rstd", *(() if name in KIT else KIT), *libraries] for word in ("--extern", f"{it}={out}/lib{it}.rlib")]
     ran = subprocess.run([*RUSTC, "--crate-type", kind, "--crate-name", name, "-L", out, *externs, "-o", to, root], capture_output=True, text=True)
     if ran.returncode:
         sys.exit(f"{name}:\n{ran.stderr[:4000]}")
@@ -124,6 +126,9 @@ def main(out, program, *libraries):
         subprocess.run([*RUSTC, "--crate-type", "rlib", "--crate-name", "rstd", "-o", standard, HERE / "standard.rs"], check=True)
         fresh.add("rstd")
     is_sketch = program.endswith(".rs")
+    for kept in KIT:
+        if not (out / f"lib{kept}.rlib").exists() or "rstd" in fresh:
+            compile_one(HERE / f"{kept}.rs", out / f"lib{kept}.rlib", "rlib", kept, [], out)
     for crate in in_order(crates, libraries if is_sketch else [program]):
         is_main = (ROOT / "crates" / crate / "src" / "main.rt").exists()
         to = out / (crate if is_main else f"lib{crate}.rlib")

@@ -2,6 +2,7 @@
 
 ghost use Rattle.std.specs.Prelude.{◌≡◌, length};
 ghost use Rattle.c_graph.specs.Shape.{widths_of};
+ghost use Rattle.path_formula.specs.Questions.{question_of};
 ghost use Rattle.path_query.specs.Facts.{IsQuery};
 ghost use Rattle.resolution_log.specs.Chains.{IsRefutation};
 ghost use Rattle.clause_learning.specs.Solve.{IsAnswer};
@@ -102,6 +103,7 @@ fn judged(
     answer: Answer,
 ) -> Result<Found, RowFail>
     requires query { IsQuery (widths_of graph.now.cells) (length path.now) query.now }
+    requires question { query.now ≡ question_of graph.now path.now }
     requires answer { IsAnswer query.now.clauses 1000000 answer }
 {
     match answer {
