@@ -320,3 +320,10 @@ fn formulas_along_paths() {
     chain_laws::formulas_are_linked();
     chain_laws::formulas_make_links();
 }
+
+#[test]
+fn answers_to_requests() {
+    request_answers::accepted_is_certified();
+    request_answers::safe_is_proved();
+    request_answers::unsafe_reaches();
+}
