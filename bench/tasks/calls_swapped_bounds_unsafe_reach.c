@@ -1,0 +1,11 @@
+extern void abort(void);
+extern int __VERIFIER_nondet_int(void);
+extern unsigned char __VERIFIER_nondet_uchar(void);
+extern _Bool __VERIFIER_nondet_bool(void);
+void reach_error() {}
+int least(int a, int b) { return a < b ? a : b; }
+int greatest(int a, int b) { return a > b ? a : b; }
+int main() {
+  int x = least(-5, greatest(__VERIFIER_nondet_int(), 5));
+  if (x != 5) /*here*/ reach_error();
+}
