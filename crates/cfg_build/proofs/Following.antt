@@ -1,5 +1,5 @@
 -- What stands for places, in a table that grew, and one behind the other.
-use Rattle.std.proofs.Common.{◌≡◌, ℕ, zero, suc, ◌+◌, ◌-◌, Bool, true, List, [], ◌∷◌, ◌++◌, length, refl, sym, ap, ◌∙◌, subst, Result, Ok, Err}
+use Rattle.std.proofs.Common.{◌≡◌, ℕ, zero, suc, ◌+◌, ◌-◌, Bool, List, [], ◌++◌, length, refl, sym, subst, Result, Ok, Err}
 use Rattle.std.specs.Prelude.{IfOk, IsTrue}
 use Rattle.std.proofs.lemmas.List.{append-nil}
 use Rattle.lv_base.specs.declared.fail.Memory.{Memory}
@@ -20,7 +20,7 @@ use Rattle.code_moves.specs.Values.{failures_of}
 use Rattle.code_moves.specs.Deeds.{AreTests}
 use Rattle.code_moves.proofs.Doing.{tells-later, deeds-later}
 use Rattle.cfg_build.specs.declared.draft.Draft.{Draft}
-use Rattle.cfg_build.specs.Steps.{Adds, Built, Fork, Passes, Behind, Checked, next_of}
+use Rattle.cfg_build.specs.Steps.{Built, Fork, Passes, Checked, next_of}
 use Rattle.cfg_build.specs.Follows.{Plan, Follows, Joined, StandsAt, FirstFollow, Exit, PlacesFollow}
 use Rattle.cfg_build.proofs.Adding.{adds-twice, next-more, turned-later}
 use Rattle.cfg_build.proofs.Checking.{fails-later, first_when, second_when, one-tells, two-tells}

@@ -1,5 +1,5 @@
 -- Graphs that follow code, in a table that grew.
-use Rattle.std.proofs.Common.{◌≡◌, ℕ, zero, suc, ◌==◌, Bool, true, false, List, [], ◌∷◌, ◌++◌, length, refl, sym, ap, ◌∙◌, subst, arith, ◌<◌, ◌≤◌, Option, None, Some, slice_get, get_or}
+use Rattle.std.proofs.Common.{◌≡◌, ◌⊎◌, inl, inr, ℕ, zero, suc, ◌==◌, Bool, true, false, List, [], ◌∷◌, ◌++◌, length, refl, sym, ap, ◌∙◌, subst, arith, ◌<◌, ◌≤◌, Option, None, Some, slice_get, get_or}
 use Rattle.std.specs.Prelude.{IfSome}
 use Rattle.std.proofs.lemmas.Option.{slice_get_read}
 use Rattle.c_typed.specs.declared.tree.Object.{Object}
@@ -7,20 +7,30 @@ use Rattle.c_graph.specs.declared.graph.LoopAt.{LoopAt}
 use Rattle.c_graph.specs.declared.graph.NodeId.{NodeId}
 use Rattle.c_graph.specs.declared.graph.Node.{Node}
 use Rattle.c_graph.specs.declared.graph.Edge.{Edge}
-use Rattle.c_graph.specs.Functions.{FnFlow}
+use Rattle.c_graph.specs.declared.graph.Cell.{Cell}
+use Rattle.c_graph.specs.Functions.{FnFlow, Flows, AreFlows}
+use Rattle.c_graph.specs.Parts.{error_flows}
+use Rattle.bv_term.specs.WellFormed.{Table}
+use Rattle.c_typed.specs.Parts.{Parts}
 use Rattle.slot_code.specs.declared.flat.Instruction.{Instruction}
 use Rattle.c_terms.specs.declared.words.Words.{Words}
 use Rattle.c_terms.specs.Shown.{Grows}
 use Rattle.c_terms.proofs.Putting.{grows-twice}
-use Rattle.code_moves.specs.Setting.{Setting}
+use Rattle.code_moves.specs.Setting.{Setting, Stands}
 use Rattle.code_moves.proofs.Doing.{deeds-later}
 use Rattle.cfg_build.specs.declared.draft.Draft.{Draft}
 use Rattle.cfg_build.specs.declared.placing.Range.{Range}
+use Rattle.lv_base.specs.declared.kind.Model.{Model}
+use Rattle.c_graph.specs.Shape.{widths_of}
+use Rattle.slot_code.specs.Slots.{slots_in}
+use Rattle.code_layout.specs.Layout.{Lay, layout_of}
+use Rattle.code_layout.specs.Lies.{Lies}
+use Rattle.code_layout.proofs.Lying.{layouts_lie}
 use Rattle.cfg_build.specs.declared.placing.Whole.{Whole}
 use Rattle.cfg_build.specs.declared.placing.Places.{Places}
 use Rattle.cfg_build.specs.Steps.{Built, IsEmpty, node_id}
-use Rattle.cfg_build.specs.Follows.{Plan, plan_of, Joined, FirstFollow, Exit, PlacesFollow}
-use Rattle.cfg_build.specs.Graphs.{Opening, IsGraph, GraphFollows, GraphBehind, FirstGraphs}
+use Rattle.cfg_build.specs.Follows.{Plan, plan_of, Joined, Exit, PlacesFollow}
+use Rattle.cfg_build.specs.Graphs.{Opening, IsGraph, GraphFollows, FirstGraphs, ProgramFollows, program_code, program_setting}
 use Rattle.cfg_build.proofs.Following.{joined-by, first-later, built-by, built-twice}
 
 -- the graph of a draft that was empty
@@ -112,3 +122,52 @@ plan-is ps w r e f =
     let h : ◌≡◌ {A = Plan} (record { code = w.code.now; numbers = w.numbers.now; ranges = w.ranges.now; range = ps.range; exit = ps.exit }) (record { code = w.code.now; numbers = w.numbers.now; ranges = w.ranges.now; range = r; exit = ps.exit }) =
     ap (λ (z : Range). record { code = w.code.now; numbers = w.numbers.now; ranges = w.ranges.now; range = z; exit = ps.exit }) f in
     g ∙ h
+
+-- ---- A program
+
+-- parts without a graph make no graphs of functions
+no-graphs : (p : Flows) → AreFlows p → p.graphs ≡ [] → ⊥
+no-graphs p h e = omega (arith, h.main, ap length e)
+
+pub program-follows : (t : Parts) (order : List ℕ) (p : Flows) (code : List Instruction) (numbers : List ℕ) (ranges : List Range) (s : Setting) (gs hs : List FnFlow) (xs : List NodeId) (cells : List Cell) (T : Table) (main : ℕ)
+    → AreFlows p → (p ≡ record { graphs = hs; cells = cells; terms = T; exits = xs; main = main }) ⊎ (p ≡ error_flows) → (hs ≡ gs) ⊎ (hs ≡ [])
+    → (gs ≡ []) ⊎ FirstGraphs code numbers ranges main s T (length ranges) gs xs → s ≡ program_setting t order → code ≡ program_code t order → cells ≡ s.lay.cells
+    → ProgramFollows t order p ⊎ (p ≡ error_flows)
+program-follows t order p code numbers ranges s gs hs xs cells T main w (inr e) h k q r f = inr e
+program-follows t order p code numbers ranges s gs hs xs cells T main w (inl e) (inr h) k q r f = absurd (no-graphs p w (ap (λ (z : Flows). z.graphs) e ∙ h))
+program-follows t order p code numbers ranges s gs hs xs cells T main w (inl e) (inl h) (inl k) q r f = absurd (no-graphs p w (ap (λ (z : Flows). z.graphs) e ∙ h ∙ k))
+program-follows t order p code numbers ranges s gs hs xs cells T main w (inl e) (inl h) (inr k) q r f =
+    inl (subst (λ (z : Flows). ProgramFollows t order z) (sym e)
+    (record {
+      numbers = numbers;
+      ranges = ranges;
+      follow = subst (λ (z : List FnFlow). FirstGraphs (program_code t order) numbers ranges main (program_setting t order) T (length ranges) z xs) (sym h)
+          (subst (λ (z : Setting). FirstGraphs (program_code t order) numbers ranges main z T (length ranges) gs xs) q (subst (λ (z : List Instruction). FirstGraphs z numbers ranges main s T (length ranges) gs xs) r k));
+      cells = f ∙ ap (λ (z : Setting). z.lay.cells) q;
+    }))
+
+-- what is laid out for objects and code is what is laid out for a program with these objects and this code
+pub setting-is :
+    (t : Parts) (order : List ℕ) (objects : List Object) (model : Model) (lay : Lay) (code seen : List Instruction) (slots : ℕ)
+    → objects ≡ t.objects → model ≡ t.model → code ≡ program_code t order → seen ≡ program_code t order → slots ≡ slots_in seen
+    → lay ≡ layout_of objects model code slots
+    → ◌≡◌ {A = Setting} (record { objects = objects; model = model; lay = lay }) (program_setting t order)
+setting-is t order objects model lay code seen slots eo em ec es en el =
+    let counted : slots ≡ slots_in (program_code t order) = en ∙ ap slots_in es in
+    let laid : lay ≡ layout_of t.objects t.model (program_code t order) (slots_in (program_code t order)) = el ∙ (λ i. layout_of (eo i) (em i) (ec i) (counted i)) in
+    λ i. record { objects = eo i; model = em i; lay = laid i }
+
+-- all lies among the cells of a table over a layout's cells as the layout says
+pub stands-by :
+    (objects : List Object) (model : Model) (lay : Lay) (code : List Instruction) (slots : ℕ) (words : Words)
+    → lay ≡ layout_of objects model code slots → words.terms.cells ≡ widths_of lay.cells
+    → Stands (record { objects = objects; model = model; lay = lay }) words
+stands-by objects model lay code slots words el ew = record {
+  lies = subst (λ (cs : List ℕ). Lies model objects lay cs) (sym ew)
+      (subst (λ (l : Lay). Lies model objects l (widths_of l.cells)) (sym el) (layouts_lie objects model code slots));
+}
+
+-- graphs, if there are any, without how the table grew
+pub either-follows : (gs : List FnFlow) (A B : Type 0) → (gs ≡ []) ⊎ (A × B) → (gs ≡ []) ⊎ B
+either-follows gs A B (inl none) = inl none
+either-follows gs A B (inr both) = inr both.1

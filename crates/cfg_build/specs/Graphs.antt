@@ -10,9 +10,12 @@ use Rattle.c_graph.specs.declared.graph.Node.{Node}
 use Rattle.c_graph.specs.declared.graph.Node.TheVariants.{Plain}
 use Rattle.c_graph.specs.declared.graph.Operation.{Operation}
 use Rattle.c_graph.specs.declared.graph.Edge.{Edge}
-use Rattle.c_graph.specs.Functions.{FnFlow}
+use Rattle.c_graph.specs.Functions.{FnFlow, Flows}
 use Rattle.slot_code.specs.declared.flat.Instruction.{Instruction}
-use Rattle.code_layout.specs.Layout.{elements_of}
+use Rattle.slot_code.specs.Programs.{code_of}
+use Rattle.slot_code.specs.Slots.{slots_in}
+use Rattle.c_typed.specs.Parts.{Parts, tree_of}
+use Rattle.code_layout.specs.Layout.{elements_of, layout_of}
 use Rattle.code_moves.specs.Setting.{Setting}
 use Rattle.code_moves.specs.Deeds.{Deed, Sets, AreDeeds}
 use Rattle.cfg_build.specs.declared.placing.Range.{Range}
@@ -87,3 +90,18 @@ module _ (code : List Instruction) (numbers : List ℕ) (ranges : List Range) (m
   abbrev pub FirstGraphs : ℕ → List FnFlow → List NodeId → Type 0
   FirstGraphs zero graphs exits = (graphs ≡ []) × (exits ≡ [])
   FirstGraphs (suc k) graphs exits = GraphBehind code numbers ranges main g table (FirstGraphs k) k graphs exits
+
+-- ---- A program
+
+abbrev pub program_code : Parts → List ℕ → List Instruction
+program_code t order = (code_of (tree_of t) order).instructions
+
+abbrev pub program_setting : Parts → List ℕ → Setting
+program_setting t order = record { objects = t.objects; model = t.model; lay = layout_of t.objects t.model (program_code t order) (slots_in (program_code t order)) }
+
+-- the graphs of all functions follow the program's code, for some numbers of nodes and some ends of functions in it
+pub record ProgramFollows (t : Parts) (order : List ℕ) (p : Flows) : Type 0 where
+  pub numbers : List ℕ
+  pub ranges : List Range
+  pub follow : FirstGraphs (program_code t order) numbers ranges p.main (program_setting t order) p.terms (length ranges) p.graphs p.exits
+  pub cells : p.cells ≡ (program_setting t order).lay.cells

@@ -1,6 +1,7 @@
 //! The graphs of functions, place by place.
 
 ghost use Rattle.std.specs.Prelude.{◌≡◌, ◌==◌, ◌⊎◌, [], length, true, false, slice_get, IfOk, IfSome};
+ghost use Rattle.c_graph.specs.Parts.{error_flows};
 ghost use Rattle.c_terms.specs.Shown.{Grows};
 ghost use Rattle.code_moves.specs.Setting.{setting_of, Stands};
 ghost use Rattle.cfg_build.specs.Follows.{plan_of};
@@ -34,7 +35,9 @@ const NODES: u8 = 5;
 ///
 /// Fails with `Over` for limit 4, with the number of cells, where these are more than 65,536; else for limit 5, with the number of
 /// nodes of all graphs, where these are more than 65,536; else with `Memory`. It takes time in proportion to the code.
-pub fn build(alloc: Global, examined: &Examined) -> Result<FnGraphs, SourceFail> {
+pub fn build(alloc: Global, examined: &Examined) -> Result<FnGraphs, SourceFail>
+    ensures { IfOk result (λ p. of.ProgramFollows examined.now.typed examined.now.order p ⊎ (p ≡ error_flows)) }
+{
     let typed = examined.typed();
     let code = compiled(alloc, typed, examined.order())?;
     let slots = slots_in(&code.instructions)?;
@@ -58,15 +61,17 @@ pub fn build(alloc: Global, examined: &Examined) -> Result<FnGraphs, SourceFail>
         layout: &layout,
     };
     let Graphs { graphs, exits } = graphs_of(alloc, typed, &whole, main, &ground, &mut words)?;
-    // graphs over terms that are not well formed count for nothing: without a graph the parts make none
-    let graphs = if words.is_sound() {
-        graphs
-    } else {
-        Vec::new(alloc)
-    };
+    let graphs = where_sound(alloc, words.is_sound(), graphs);
     let cells = layout.into_cells();
     let terms = words.into_terms();
     Ok(function_graphs_from(alloc, graphs, cells, terms, exits, main)?)
+}
+
+// Graphs over terms that are not well formed count for nothing: without a graph the parts make none.
+fn where_sound(alloc: Global, is_sound: bool, graphs: Vec<FnGraph>) -> Vec<FnGraph>
+    ensures { (result.items ≡ graphs.items) ⊎ (result.items ≡ []) }
+{
+    if is_sound { graphs } else { Vec::new(alloc) }
 }
 
 // The number of `main`.

@@ -1,4 +1,4 @@
-use Rattle.std.proofs.Common.{refl, ap, ◌∙◌, ◌∷◌, [], ◌+◌, ℕ}
+use Rattle.std.proofs.Common.{refl, ap, ◌∙◌, ◌∷◌, []}
 use Rattle.c_graph.specs.declared.graph.NodeId.{NodeId}
 use Rattle.cfg_build.specs.Steps.{edge, node_id, next_of}
 use Rattle.cfg_build.proofs.Adding.{adds-twice, edges-equal, next-more}
