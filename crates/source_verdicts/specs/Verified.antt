@@ -12,6 +12,8 @@ use Rattle.c_typed.specs.Tree.{Program}
 use Rattle.c_typed.specs.Run.{run}
 use Rattle.c_graph.specs.Shape.{Flow}
 use Rattle.c_graph.specs.Runs.{Formulas, IsMapOf}
+use Rattle.cover_engine.specs.Unwindings.{Unwound, is_complete}
+use Rattle.cover_engine.specs.Units.{Legal}
 use Rattle.stored_text.specs.declared.StoredFail.{StoredFail}
 use Rattle.stored_text.specs.declared.StoredFail.TheVariants as stored
 use Rattle.stored_text.specs.Writing.{write_run_of}
@@ -63,12 +65,19 @@ pub data IsLimit (p : Program) (g : Flow) (source : List ℕ) (model : Model) (n
   of_bytes : (cert : Cert) → IsCertificate g source model cert → write_cert_of (content_of cert) ≡ Err (stored.Over number count) → IsLimit p g source model number count
   of_values : (kind : ErrorKind) (place : Place) (values : List ℤ) → Meets p source kind place values → write_run_of values ≡ Err (stored.Over number count) → IsLimit p g source model number count
 
+-- a legal unwinding of the graph has all units that are allowed and is not complete
+pub record IsOutOfUnits (g : Flow) (units : ℕ) : Type 0 where
+  pub unwinding : Unwound
+  pub legal : Legal g unwinding
+  pub incomplete : is_complete g unwinding ≡ false
+  pub all : length unwinding.journal ≡ units
+
 -- What a verdict means, on a source with this typed tree, from the graph that was made of it, with so many units and learned
 -- clauses of a question.
 abbrev pub IsVerified : Program → Flow → List ℕ → Model → ℕ → ℕ → Verdict → Type 0
 IsVerified p g source model units learn (Safe text) = IsProved g source model text
 IsVerified p g source model units learn (Unsafe kind place values text) = Meets p source kind place values × (write_run_of values ≡ Ok text)
-IsVerified p g source model units learn (OutOfUnits n) = n ≡ units
+IsVerified p g source model units learn (OutOfUnits n) = (n ≡ units) × ((units ≡ 0) ⊎ IsOutOfUnits g units)
 IsVerified p g source model units learn (OutOfLearn n) = n ≡ learn
 IsVerified p g source model units learn Unreplayed = (values : List ℤ) × IsAstray p values
 IsVerified p g source model units learn (Unproved n) = (m : Formulas) × IsMapOf g m × HasModel g m n
