@@ -1,0 +1,3 @@
+pub mod Fallings
+pub mod Lightness
+pub mod Belows
