@@ -161,17 +161,23 @@ module _ (model : Model) (compute : Compute) (inputs : List ℤ) where
 
 -- ---- Whole runs
 
--- `main` returns to the end of the code; operations test their operands
-abbrev pub run_code : Program → Code → List ℤ → Option Link → List ℤ → ℕ → Ending
-run_code program code slots None inputs turns = ending.Ended
-run_code program code slots (Some l) inputs turns =
-    run_from program.model (λ op kind x y. guarded program.model op kind x y) inputs code.instructions
-    (machine l.entry (put slots l.slot (pos (length code.instructions))) (record { store = start_store program.objects; taken = 0; turns = turns }))
+-- `main` returns to the end of the code
+abbrev pub run_code_by : Compute → Program → Code → List ℤ → Option Link → List ℤ → ℕ → Ending
+run_code_by compute program code slots None inputs turns = ending.Ended
+run_code_by compute program code slots (Some l) inputs turns =
+    run_from program.model compute inputs code.instructions (machine l.entry (put slots l.slot (pos (length code.instructions))) (record { store = start_store program.objects; taken = 0; turns = turns }))
 
 abbrev pub main_link : Option ℕ → Code → Option Link
 main_link None code = None
 main_link (Some main) code = link_of main code.links
 
--- the run of a program in this order, whatever the slots held before
+-- the run of a program in this order that computes so, whatever the slots held before
+abbrev pub run_by : Compute → Program → List ℕ → List ℤ → List ℤ → ℕ → Ending
+run_by compute program order slots inputs turns = run_code_by compute program (code_of program order) slots (main_link (main_number program.functions) (code_of program order)) inputs turns
+
+-- the same where operations test their operands
+abbrev pub run_code : Program → Code → List ℤ → Option Link → List ℤ → ℕ → Ending
+run_code program code slots link inputs turns = run_code_by (λ op kind x y. guarded program.model op kind x y) program code slots link inputs turns
+
 abbrev pub run : Program → List ℕ → List ℤ → List ℤ → ℕ → Ending
-run program order slots inputs turns = run_code program (code_of program order) slots (main_link (main_number program.functions) (code_of program order)) inputs turns
+run program order slots inputs turns = run_by (λ op kind x y. guarded program.model op kind x y) program order slots inputs turns

@@ -1,7 +1,7 @@
 -- The code of a program runs as its tree.
 use Rattle.std.proofs.Common.{◌≡◌, ℕ, suc, ◌≤◌, true, List, [], ◌∷◌, length, Option, Some, None, ℤ, pos, slice_get, inl, refl, sym, ap, ◌∙◌, subst, arith}
 use Rattle.typed_range_laws.specs.Guards.{guarded}
-use Rattle.typed_range_laws.proofs.Running.{runs_guarded}
+use Rattle.typed_range_laws.proofs.Running.{guarded_agrees, runs_agreeing as trees_agree}
 use Rattle.c_run.specs.Run.{State, Got, Value, Stop, Run, after, Compute}
 use Rattle.c_run.specs.Loops.{Start, enter}
 use Rattle.c_typed.specs.Tree.{Function, Program}
@@ -12,8 +12,8 @@ use Rattle.slot_code.specs.declared.reply.Ending.TheVariants as ending
 use Rattle.slot_code.specs.Slots.{put, slots_in}
 use Rattle.slot_code.specs.Values.{Link, link_of}
 use Rattle.slot_code.specs.Programs.{Code, code_of}
-use Rattle.slot_code.specs.Machine.{ending_of, machine, act_at, onward, run_from, run_code, main_link}
-use Rattle.slot_laws.specs.Laws.{IsOrder, MainStands, CodeRunsAsTree}
+use Rattle.slot_code.specs.Machine.{ending_of, machine, act_at, onward, run_from, run_code_by, main_link}
+use Rattle.slot_laws.specs.Laws.{IsOrder, MainStands, CodeRunsAgreeing, CodeRunsAsTree}
 use Rattle.slot_laws.proofs.Running.{goes_on}
 use Rattle.slot_laws.proofs.Lying.{put_same, ends}
 use Rattle.slot_laws.proofs.Calling.{bound_store, bound}
@@ -63,10 +63,7 @@ module _ (program : Program) (compute : Compute) (inputs : List ℤ) (code : Lis
   main_code c main l before s st e g link =
       main_runs main l (length c.instructions) (slots_in c.instructions) s st (stands_one program compute inputs code main l c.links (length c.instructions) (slots_in c.instructions) g.stands link) (omega (arith, ap (λ xs. length xs) e))
 
-module _ (program : Program) (order : List ℕ) (io : IsOrder program order) (slots inputs : List ℤ) (turns : ℕ) where
-  abbrev compute : Compute
-  compute op kind x y = guarded program.model op kind x y
-
+module _ (program : Program) (order : List ℕ) (io : IsOrder program order) (compute : Compute) (slots inputs : List ℤ) (turns : ℕ) where
   abbrev start : State
   start = record { store = typed.start_store program.objects; taken = 0; turns = turns }
 
@@ -79,12 +76,16 @@ module _ (program : Program) (order : List ℕ) (io : IsOrder program order) (sl
   main_found : (main : ℕ) → has order main ≡ true → (l : Link) × (link_of main code.links ≡ Some l)
   main_found main h = linked_one main code.links (subst (λ x. has x main ≡ true) (sym grown.numbers) (has_onto order [] main (inl h)))
 
-  run_is : (main : Option ℕ) → MainStands main order → run_code program code slots (main_link main code) inputs turns ≡ ending_of (typed.end_of_run (typed.run_main program compute inputs turns main start))
+  run_is : (main : Option ℕ) → MainStands main order → run_code_by compute program code slots (main_link main code) inputs turns ≡ ending_of (typed.end_of_run (typed.run_main program compute inputs turns main start))
   unfolding run_at
   run_is None h = refl
   run_is (Some main) h =
       let found = main_found main h in
-      ap (λ o. run_code program code slots o inputs turns) found.1 ∙ main_code program compute inputs code.instructions code main found.0 (onto order []) slots start refl grown found.1
+      ap (λ o. run_code_by compute program code slots o inputs turns) found.1 ∙ main_code program compute inputs code.instructions code main found.0 (onto order []) slots start refl grown found.1
+
+pub runs_agreeing : CodeRunsAgreeing
+runs_agreeing program order fits io compute agrees slots inputs turns =
+    run_is program order io compute slots inputs turns (typed.main_number program.functions) io.main ∙ ap (λ e. ending_of e) (trees_agree program fits compute agrees turns inputs)
 
 pub runs_as_tree : CodeRunsAsTree
-runs_as_tree program order fits io slots inputs turns = run_is program order io slots inputs turns (typed.main_number program.functions) io.main ∙ ap (λ e. ending_of e) (runs_guarded program fits turns inputs)
+runs_as_tree program order fits io slots inputs turns = runs_agreeing program order fits io (λ op kind x y. guarded program.model op kind x y) (guarded_agrees program.model) slots inputs turns

@@ -7,6 +7,7 @@ use Rattle.c_typed.specs.Run.{size_of, main_number}
 use Rattle.c_typed.specs.Run as typed
 use Rattle.c_typed.specs.Facts.{IsTyped}
 use Rattle.c_typed.specs.Rules.{has, Call, calls_of, all_of_all}
+use Rattle.typed_range_laws.specs.Ways.{Agrees}
 use Rattle.slot_code.specs.declared.flat.Instruction.{Instruction}
 use Rattle.slot_code.specs.declared.flat.Instruction.TheVariants as i
 use Rattle.slot_code.specs.Programs.{code_of}
@@ -68,6 +69,11 @@ pub record IsOrder (program : Program) (order : List ℕ) : Type 0 where
   pub callees : CalleesFirst program.functions [] order
   pub main : MainStands (main_number program.functions) order
 
--- In such an order the code of a typed tree runs as the tree, whatever its slots hold before.
+-- In such an order the code of a typed tree runs as the tree with each arithmetic that agrees with C's, whatever its slots hold before.
+abbrev pub CodeRunsAgreeing : Type 0
+CodeRunsAgreeing = (program : Program) (order : List ℕ) → IsTyped program → IsOrder program order → (compute : Compute) → Agrees program.model compute → (slots inputs : List ℤ) (turns : ℕ) →
+    flat.run_by compute program order slots inputs turns ≡ ending_of (typed.run turns program inputs)
+
+-- So it does where each operation tests its operands.
 abbrev pub CodeRunsAsTree : Type 0
 CodeRunsAsTree = (program : Program) (order : List ℕ) → IsTyped program → IsOrder program order → (slots inputs : List ℤ) (turns : ℕ) → flat.run program order slots inputs turns ≡ ending_of (typed.run turns program inputs)

@@ -1,48 +1,51 @@
--- Statements, functions and whole programs run the same where each operation tests its operands.
+-- Statements, functions and whole programs run the same with each arithmetic that agrees with C's.
 use Rattle.std.proofs.Common.{◌≡◌, ℕ, zero, suc, ◌+◌, ◌-◌, List, [], ◌∷◌, ◌++◌, length, replicate, Option, Some, None, ℤ, pos, slice_get, slice_index_or, refl, sym, ap, subst}
 use Rattle.std.specs.List.{All}
 use Rattle.std.proofs.lemmas.List.Elements.{All-head, All-tail}
 use Rattle.lv_base.specs.declared.kind.Kind.{Kind}
 use Rattle.lv_base.specs.declared.kind.Model.{Model}
 use Rattle.lv_base.specs.Integers.{InRange}
-use Rattle.c_run.specs.Run.{State, Spent, Run, give, after, turn, store_all, padded, is_true}
+use Rattle.c_run.specs.Run.{State, Spent, Run, Compute, give, after, turn, store_all, padded, is_true}
 use Rattle.c_run.specs.Operators.{Use, used, dropped}
 use Rattle.c_run.specs.Loops.{Place, toLabel, toCase, toDefault, From, Start, Seek, Exit, Normal, Broke, Continued, Returned, Jumped, Absent, Calls, leave_switch, bind_parameters, enter}
 use Rattle.c_typed.specs.Tree.{Val, Vals, no_values, values_and, Step, pDraw, pBegin, pBlock, pEmpty, pEffect, pIf, pIfElse, pWhile, pSwitch, pDo, pFor, pCase, pDefault, pLabel, pGoto, pBreak, pContinue, pReturn, Steps, no_steps, steps_and, Owner, static, local, Object, Function, Program}
 use Rattle.c_typed.specs.Facts.{Fits, AllOf, OptionFits, TestFits, ReturnFits, StepFits, StepsFit, FunctionFits, FunctionsFit, ObjectFits, FirstFits, IsTyped}
 use Rattle.c_typed.specs.Run as run
-use Rattle.typed_range_laws.specs.Laws.{RunsGuarded}
-use Rattle.typed_range_laws.proofs.Agreeing.{Good, Alike, binds, gives, stops, weaker, chosen, turns, stores, Each, each_more, each_none, each_both, each_zero, all_draws, plain, tested, Left, Gave, rows, elses, founds, nexts, loops, switches, enters}
+use Rattle.typed_range_laws.specs.Guards.{guarded}
+use Rattle.typed_range_laws.specs.Ways.{Agrees}
+use Rattle.typed_range_laws.specs.Laws.{RunsAgreeing, RunsGuarded}
+use Rattle.typed_range_laws.proofs.Ranging.{guard_open}
+use Rattle.typed_range_laws.proofs.Agreeing.{Good, Alike, binds, gives, stops, weaker, chosen, turns, stores, Each, each_more, each_none, each_both, each_zero, all_draws, plain, Left, Gave, rows, elses, founds, nexts, loops, switches, enters}
 use Rattle.typed_range_laws.proofs.Typing.{Arguments, CallsAlike, T, P, OfVal, of_kind, value_alike}
 
-module _ (model : Model) (objects : List Object) (functions : List Function) (inputs : List ℤ) (call call' : Calls) (hc : CallsAlike model objects functions inputs call call') where
+module _ (model : Model) (objects : List Object) (functions : List Function) (inputs : List ℤ) (compute : Compute) (agrees : Agrees model compute) (call call' : Calls) (hc : CallsAlike model objects functions inputs call call') where
   abbrev V : Use → Val → Run ℤ
-  V u e = T model objects functions inputs call call' hc u e
+  V u e = T model objects functions inputs compute agrees call call' hc u e
 
   abbrev W : Use → Val → Run ℤ
-  W u e = P model objects functions inputs call call' hc u e
+  W u e = P model objects functions inputs compute agrees call call' hc u e
 
   abbrev In : Val → ℤ → Type 0
-  In e v = OfVal model objects functions inputs call call' hc e v
+  In e v = OfVal model objects functions inputs compute agrees call call' hc e v
 
   value : (u : Use) (e : Val) → Fits model objects functions e → Alike model objects ℤ (In e) (V u e) (W u e)
-  value u e f = value_alike model objects functions inputs call call' hc u e f
+  value u e f = value_alike model objects functions inputs compute agrees call call' hc u e f
 
   abbrev Any : ℤ → Type 0
   Any v = Unit {0}
 
-  each_alike : (k : Kind) (es : Vals) → AllOf model objects functions k es → Alike model objects (List ℤ) (Each model objects k) (run.values model objects (tested model objects) inputs call es) (run.values model objects (plain model objects) inputs call' es)
+  each_alike : (k : Kind) (es : Vals) → AllOf model objects functions k es → Alike model objects (List ℤ) (Each model objects k) (run.values model objects compute inputs call es) (run.values model objects (plain model objects) inputs call' es)
   each_alike k no_values f = gives model objects (List ℤ) (Each model objects k) [] (each_none model objects k)
   each_alike k (values_and es e) f =
       binds model objects (List ℤ) (List ℤ) (Each model objects k) (Each model objects k) _ _ _ _ (each_alike k es f.0)
       (λ vs h. binds model objects ℤ (List ℤ) (In e) (Each model objects k) (V used e) (W used e) _ _ (value used e f.2)
-      (λ v o. gives model objects (List ℤ) (Each model objects k) (vs ++ v ∷ []) (each_both model objects k vs (v ∷ []) h (each_more model objects k v [] (of_kind model objects functions inputs call call' hc e k v f.1 o) (each_none model objects k)))))
+      (λ v o. gives model objects (List ℤ) (Each model objects k) (vs ++ v ∷ []) (each_both model objects k vs (v ∷ []) h (each_more model objects k v [] (of_kind model objects functions inputs compute agrees call call' hc e k v f.1 o) (each_none model objects k)))))
 
-  effect_alike : (e : Option Val) → OptionFits model objects functions e → Alike model objects (Unit {0}) (λ v. Unit {0}) (run.effect_of model objects (tested model objects) inputs call e) (run.effect_of model objects (plain model objects) inputs call' e)
+  effect_alike : (e : Option Val) → OptionFits model objects functions e → Alike model objects (Unit {0}) (λ v. Unit {0}) (run.effect_of model objects compute inputs call e) (run.effect_of model objects (plain model objects) inputs call' e)
   effect_alike None f = gives model objects (Unit {0}) (λ v. Unit {0}) tt tt
   effect_alike (Some e) f = binds model objects ℤ (Unit {0}) (In e) (λ v. Unit {0}) (V dropped e) (W dropped e) _ _ (value dropped e f) (λ v h. gives model objects (Unit {0}) (λ x. Unit {0}) tt tt)
 
-  test_alike : (e : Option Val) → TestFits model objects functions e → Alike model objects ℤ Any (run.test_of model objects (tested model objects) inputs call e) (run.test_of model objects (plain model objects) inputs call' e)
+  test_alike : (e : Option Val) → TestFits model objects functions e → Alike model objects ℤ Any (run.test_of model objects compute inputs call e) (run.test_of model objects (plain model objects) inputs call' e)
   test_alike None f = gives model objects ℤ Any (pos 1) tt
   test_alike (Some e) f = weaker model objects ℤ (In e) Any (V used e) (W used e) (λ v h. tt) (value used e f.1)
 
@@ -51,23 +54,23 @@ module _ (model : Model) (objects : List Object) (functions : List Function) (in
     L = Left model objects result
 
     abbrev X : Step → From → Run Exit
-    X s from = run.exec model objects (tested model objects) inputs call result n s from
+    X s from = run.exec model objects compute inputs call result n s from
 
     abbrev Y : Step → From → Run Exit
     Y s from = run.exec model objects (plain model objects) inputs call' result n s from
 
     abbrev Xs : Steps → From → Run Exit
-    Xs ss from = run.exec_all model objects (tested model objects) inputs call result n ss from
+    Xs ss from = run.exec_all model objects compute inputs call result n ss from
 
     abbrev Ys : Steps → From → Run Exit
     Ys ss from = run.exec_all model objects (plain model objects) inputs call' result n ss from
 
-    returned_alike : (r : Option Kind) (e : Option Val) → ReturnFits model objects functions r e → Alike model objects Exit (Left model objects r) (run.returned model objects (tested model objects) inputs call r e) (run.returned model objects (plain model objects) inputs call' r e)
+    returned_alike : (r : Option Kind) (e : Option Val) → ReturnFits model objects functions r e → Alike model objects Exit (Left model objects r) (run.returned model objects compute inputs call r e) (run.returned model objects (plain model objects) inputs call' r e)
     returned_alike r None f = gives model objects Exit (Left model objects r) (Returned None) tt
     returned_alike None (Some e) f = binds model objects ℤ Exit (In e) (Left model objects None) (V dropped e) (W dropped e) _ _ (value dropped e f) (λ v h. gives model objects Exit (Left model objects None) (Returned None) tt)
     returned_alike (Some k) (Some e) f =
         binds model objects ℤ Exit (In e) (Left model objects (Some k)) (V used e) (W used e) _ _ (value used e f.1)
-        (λ v h. gives model objects Exit (Left model objects (Some k)) (Returned (Some v)) (of_kind model objects functions inputs call call' hc e k v f.0 h))
+        (λ v h. gives model objects Exit (Left model objects (Some k)) (Returned (Some v)) (of_kind model objects functions inputs compute agrees call call' hc e k v f.0 h))
 
     left_switch : (x : Exit) → L x → L (leave_switch x)
     left_switch Normal l = tt
@@ -159,7 +162,7 @@ all_each : (model : Model) (objects : List Object) (k : Kind) (vs : List ℤ) �
 all_each model objects k [] h = each_none model objects k
 all_each model objects k (v ∷ vs) h = each_more model objects k v vs (All-head (InRange k model) v vs h) (all_each model objects k vs (All-tail (InRange k model) v vs h))
 
-module _ (program : Program) (typed : IsTyped program) (inputs : List ℤ) where
+module _ (program : Program) (typed : IsTyped program) (inputs : List ℤ) (compute : Compute) (agrees : Agrees program.model compute) where
   abbrev model : Model
   model = program.model
 
@@ -181,33 +184,41 @@ module _ (program : Program) (typed : IsTyped program) (inputs : List ℤ) where
       (first_each told told.owner (all_at (ObjectFits model objects program.functions) objects o told typed.objects there) i)
 
   body_alike : (n : ℕ) (call call' : Calls) → CallsAlike model objects program.functions inputs call call' → (f : ℕ) (vs : List ℤ) (told : Function) → slice_get program.functions f ≡ Some told → Arguments model objects program.functions inputs told.parameters vs →
-      Alike model objects (Option ℤ) (Gave model objects told.result) (run.body_of program (tested model objects) inputs call n (Some told) vs) (run.body_of program (plain model objects) inputs call' n (Some told) vs)
+      Alike model objects (Option ℤ) (Gave model objects told.result) (run.body_of program compute inputs call n (Some told) vs) (run.body_of program (plain model objects) inputs call' n (Some told) vs)
   body_alike n call call' hc f vs told there args =
       let fits = fits_at model objects program.functions program.functions 0 f told typed.functions there in
       binds model objects (Unit {0}) (Option ℤ) (λ x. Unit {0}) (Gave model objects told.result) (bind_parameters told.parameters vs) (bind_parameters told.parameters vs) _ _ (bound_alike model objects program.functions inputs told.parameters vs args)
-      (λ x u. enters model objects told.result (suc n) _ _ Start (λ from. steps_alike model objects program.functions inputs call call' hc fits.0 told.result n told.body from fits.1.body))
+      (λ x u. enters model objects told.result (suc n) _ _ Start (λ from. steps_alike model objects program.functions inputs compute agrees call call' hc fits.0 told.result n told.body from fits.1.body))
 
-  calls_alike : (n : ℕ) → CallsAlike model objects program.functions inputs (run.call_at program (tested model objects) inputs n) (run.call_at program (plain model objects) inputs n)
+  calls_alike : (n : ℕ) → CallsAlike model objects program.functions inputs (run.call_at program compute inputs n) (run.call_at program (plain model objects) inputs n)
   calls_alike zero f at vs told there args = stops model objects (Option ℤ) (Gave model objects told.result) (λ st. Spent at st.store)
   calls_alike (suc n) f at vs told there args =
       binds model objects (Unit {0}) (Option ℤ) (λ x. Unit {0}) (Gave model objects told.result) (turn at) (turn at) _ _ (turns model objects at)
       (λ x u. subst
-      (λ o. Alike model objects (Option ℤ) (Gave model objects told.result) (run.body_of program (tested model objects) inputs (run.call_at program (tested model objects) inputs n) n o vs) (run.body_of program (plain model objects) inputs (run.call_at program (plain model objects) inputs n) n o vs))
-      (sym there) (body_alike n (run.call_at program (tested model objects) inputs n) (run.call_at program (plain model objects) inputs n) (calls_alike n) f vs told there args))
+      (λ o. Alike model objects (Option ℤ) (Gave model objects told.result) (run.body_of program compute inputs (run.call_at program compute inputs n) n o vs) (run.body_of program (plain model objects) inputs (run.call_at program (plain model objects) inputs n) n o vs))
+      (sym there) (body_alike n (run.call_at program compute inputs n) (run.call_at program (plain model objects) inputs n) (calls_alike n) f vs told there args))
 
   no_arguments : (os : List ℕ) → Arguments model objects program.functions inputs os []
   no_arguments [] = tt
   no_arguments (o ∷ os) = tt
 
   main_same : (n : ℕ) (main : ℕ) (o : Option Function) (st : State) → slice_get program.functions main ≡ o → Good model objects st.store →
-      run.body_of program (tested model objects) inputs (run.call_at program (tested model objects) inputs n) n o [] st ≡ run.body_of program (plain model objects) inputs (run.call_at program (plain model objects) inputs n) n o [] st
+      run.body_of program compute inputs (run.call_at program compute inputs n) n o [] st ≡ run.body_of program (plain model objects) inputs (run.call_at program (plain model objects) inputs n) n o [] st
   main_same n main None st e g = refl
-  main_same n main (Some told) st e g = (body_alike n (run.call_at program (tested model objects) inputs n) (run.call_at program (plain model objects) inputs n) (calls_alike n) main [] told e (no_arguments told.parameters) st g).0
+  main_same n main (Some told) st e g = (body_alike n (run.call_at program compute inputs n) (run.call_at program (plain model objects) inputs n) (calls_alike n) main [] told e (no_arguments told.parameters) st g).0
 
-  pub run_same : (n : ℕ) (main : Option ℕ) (st : State) → Good model objects st.store → run.run_main program (tested model objects) inputs n main st ≡ run.run_main program (plain model objects) inputs n main st
+  pub run_same : (n : ℕ) (main : Option ℕ) (st : State) → Good model objects st.store → run.run_main program compute inputs n main st ≡ run.run_main program (plain model objects) inputs n main st
   run_same n None st g = refl
   run_same n (Some main) st g = main_same n main (slice_get program.functions main) st refl g
 
+pub runs_agreeing : RunsAgreeing
+runs_agreeing program typed compute agrees turns inputs =
+    ap (λ g. run.end_of_run g)
+    (run_same program typed inputs compute agrees turns (run.main_number program.functions) (record { store = run.start_store program.objects; taken = 0; turns = turns }) (start_good program typed inputs compute agrees))
+
+-- tests of operands leave what C computes
+pub guarded_agrees : (model : Model) → Agrees model (λ op kind x y. guarded model op kind x y)
+guarded_agrees model = record { same = λ op kind x y p h r. guard_open op kind model x y p h r }
+
 pub runs_guarded : RunsGuarded
-runs_guarded program typed turns inputs =
-    ap (λ g. run.end_of_run g) (run_same program typed inputs turns (run.main_number program.functions) (record { store = run.start_store program.objects; taken = 0; turns = turns }) (start_good program typed inputs))
+runs_guarded program typed turns inputs = runs_agreeing program typed (λ op kind x y. guarded program.model op kind x y) (guarded_agrees program.model) turns inputs

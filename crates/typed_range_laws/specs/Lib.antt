@@ -1,2 +1,3 @@
 pub mod Guards
+pub mod Ways
 pub mod Laws
