@@ -95,6 +95,7 @@ stands-at-later a b p s place n ns es g h = record {
   instruction = h.instruction;
   there = h.there;
   number = h.number;
+  kept = h.kept;
   follows = follows-later a b p s place h.instruction n ns es g h.follows;
 }
 

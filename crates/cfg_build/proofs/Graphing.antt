@@ -11,7 +11,8 @@ use Rattle.c_graph.specs.declared.graph.Cell.{Cell}
 use Rattle.c_graph.specs.Functions.{FnFlow, Flows, AreFlows}
 use Rattle.c_graph.specs.Parts.{error_flows}
 use Rattle.bv_term.specs.WellFormed.{Table}
-use Rattle.c_typed.specs.Parts.{Parts}
+use Rattle.c_typed.specs.Parts.{Parts, tree_of}
+use Rattle.c_typed.specs.Run.{main_number}
 use Rattle.slot_code.specs.declared.flat.Instruction.{Instruction}
 use Rattle.c_terms.specs.declared.words.Words.{Words}
 use Rattle.c_terms.specs.Shown.{Grows}
@@ -30,6 +31,8 @@ use Rattle.cfg_build.specs.declared.placing.Whole.{Whole}
 use Rattle.cfg_build.specs.declared.placing.Places.{Places}
 use Rattle.cfg_build.specs.Steps.{Built, IsEmpty, node_id}
 use Rattle.cfg_build.specs.Follows.{Plan, plan_of, Joined, Exit, PlacesFollow}
+use Rattle.slot_code.specs.Programs.{Code, code_of}
+use Rattle.cfg_build.specs.Ranges.{AreRanges, ProgramRanges}
 use Rattle.cfg_build.specs.Graphs.{Opening, IsGraph, GraphFollows, FirstGraphs, ProgramFollows, program_code, program_setting}
 use Rattle.cfg_build.proofs.Following.{joined-by, first-later, built-by, built-twice}
 
@@ -129,19 +132,39 @@ plan-is ps w r e f =
 no-graphs : (p : Flows) → AreFlows p → p.graphs ≡ [] → ⊥
 no-graphs p h e = omega (arith, h.main, ap length e)
 
+-- graphs that stand only where two things are so
+pub stand-both : (A B : Type 0) (gs hs is : List FnFlow) → (A × (hs ≡ gs)) ⊎ (hs ≡ []) → (B × (is ≡ hs)) ⊎ (is ≡ []) → (B × (is ≡ gs)) ⊎ (is ≡ [])
+stand-both A B gs hs is x (inr none) = inr none
+stand-both A B gs hs is (inl x) (inl y) = inl (y.0, y.1 ∙ x.1)
+stand-both A B gs hs is (inr none) (inl y) = inr (y.1 ∙ none)
+
+pub stand-by : (A B X Y : Type 0) → (A → B) → (A × X) ⊎ Y → (B × X) ⊎ Y
+stand-by A B X Y f (inl h) = inl (f h.0, h.1)
+stand-by A B X Y f (inr h) = inr h
+
+-- ranges of code that is the program's
+pub ranges-stand : (t : Parts) (order : List ℕ) (code : Code) (slots : ℕ) (ranges : List Range) → code ≡ code_of (tree_of t) order → slots ≡ slots_in (program_code t order)
+    → AreRanges (length code.instructions) slots code.links ranges → ProgramRanges t order ranges
+ranges-stand t order code slots ranges e f h =
+    let moved : AreRanges (length code.instructions) (slots_in (program_code t order)) code.links ranges = subst (λ n. AreRanges (length code.instructions) n code.links ranges) f h in
+    subst (λ (c : Code). AreRanges (length c.instructions) (slots_in (program_code t order)) c.links ranges) e moved
+
 pub program-follows : (t : Parts) (order : List ℕ) (p : Flows) (code : List Instruction) (numbers : List ℕ) (ranges : List Range) (s : Setting) (gs hs : List FnFlow) (xs : List NodeId) (cells : List Cell) (T : Table) (main : ℕ)
-    → AreFlows p → (p ≡ record { graphs = hs; cells = cells; terms = T; exits = xs; main = main }) ⊎ (p ≡ error_flows) → (hs ≡ gs) ⊎ (hs ≡ [])
+    → AreFlows p → (p ≡ record { graphs = hs; cells = cells; terms = T; exits = xs; main = main }) ⊎ (p ≡ error_flows)
+    → (((main_number (tree_of t).functions ≡ Some main) × ProgramRanges t order ranges) × (hs ≡ gs)) ⊎ (hs ≡ [])
     → (gs ≡ []) ⊎ FirstGraphs code numbers ranges main s T (length ranges) gs xs → s ≡ program_setting t order → code ≡ program_code t order → cells ≡ s.lay.cells
     → ProgramFollows t order p ⊎ (p ≡ error_flows)
 program-follows t order p code numbers ranges s gs hs xs cells T main w (inr e) h k q r f = inr e
 program-follows t order p code numbers ranges s gs hs xs cells T main w (inl e) (inr h) k q r f = absurd (no-graphs p w (ap (λ (z : Flows). z.graphs) e ∙ h))
-program-follows t order p code numbers ranges s gs hs xs cells T main w (inl e) (inl h) (inl k) q r f = absurd (no-graphs p w (ap (λ (z : Flows). z.graphs) e ∙ h ∙ k))
+program-follows t order p code numbers ranges s gs hs xs cells T main w (inl e) (inl h) (inl k) q r f = absurd (no-graphs p w (ap (λ (z : Flows). z.graphs) e ∙ h.1 ∙ k))
 program-follows t order p code numbers ranges s gs hs xs cells T main w (inl e) (inl h) (inr k) q r f =
     inl (subst (λ (z : Flows). ProgramFollows t order z) (sym e)
     (record {
       numbers = numbers;
       ranges = ranges;
-      follow = subst (λ (z : List FnFlow). FirstGraphs (program_code t order) numbers ranges main (program_setting t order) T (length ranges) z xs) (sym h)
+      main = h.0.0;
+      stand = h.0.1;
+      follow = subst (λ (z : List FnFlow). FirstGraphs (program_code t order) numbers ranges main (program_setting t order) T (length ranges) z xs) (sym h.1)
           (subst (λ (z : Setting). FirstGraphs (program_code t order) numbers ranges main z T (length ranges) gs xs) q (subst (λ (z : List Instruction). FirstGraphs z numbers ranges main s T (length ranges) gs xs) r k));
       cells = f ∙ ap (λ (z : Setting). z.lay.cells) q;
     }))

@@ -2,3 +2,4 @@ pub mod Adding
 pub mod Checking
 pub mod Following
 pub mod Graphing
+pub mod Linking

@@ -1,5 +1,5 @@
 -- Graphs of functions that follow flat code, place by place.
-use Rattle.std.specs.Prelude.{ℕ, zero, suc, ◌+◌, ◌-◌, ◌==◌, ◌≡◌, nat_lt, if◌then◌else◌, List, [], ◌∷◌, ◌++◌, length, Option, None, Some, slice_get}
+use Rattle.std.specs.Prelude.{ℕ, zero, suc, ◌+◌, ◌-◌, ◌==◌, ◌≡◌, ◌<◌, ◌≤◌, nat_lt, true, if◌then◌else◌, List, [], ◌∷◌, ◌++◌, length, Option, None, Some, slice_get}
 use Rattle.lv_base.specs.Integers.{residue}
 use Rattle.bv_term.specs.WellFormed.{Table}
 use Rattle.bv_term.specs.Numbers.{truth}
@@ -10,11 +10,13 @@ use Rattle.c_graph.specs.declared.graph.Edge.{Edge}
 use Rattle.slot_code.specs.declared.flat.Instruction.{Instruction}
 use Rattle.slot_code.specs.declared.flat.Instruction.TheVariants as i
 use Rattle.c_terms.specs.Numbers.{nonzero}
+use Rattle.code_layout.specs.Layout.{slot_cell}
 use Rattle.code_moves.specs.Setting.{Setting}
 use Rattle.code_moves.specs.Values.{slot_value}
 use Rattle.cfg_build.specs.declared.placing.Range.{Range}
 use Rattle.cfg_build.specs.declared.placing.Places.{Places}
 use Rattle.cfg_build.specs.Steps.{node_id, Way, Fork, Checked}
+use Rattle.cfg_build.specs.Keeping.{keeps}
 
 -- the code of a program, the number of each place's node, where each function's code stands, the function that is looked at, and the
 -- node behind all its places
@@ -39,16 +41,26 @@ numbered (Some n) exit = node_id n
 abbrev pub node_of : Plan → ℕ → NodeId
 node_of p place = if nat_lt place p.range.entry then p.exit else if nat_lt place p.range.end then numbered (slice_get p.numbers place) p.exit else p.exit
 
--- the function's code begins at the place
-pub record Begins (ranges : List Range) (function place : ℕ) : Type 0 where
+-- A function's code stands before that of another, and so do its slots; it has some of both.
+pub record LiesBelow (range other : Range) : Type 0 where
+  pub some : range.entry < range.end
+  pub before : range.end ≤ other.entry
+  pub wide : range.slot < range.bound
+  pub below : range.bound ≤ other.slot
+
+-- The function's code begins at the place, it returns by the slot, and it lies below the function that calls it.
+pub record Begins (ranges : List Range) (caller : Range) (function place slot : ℕ) : Type 0 where
   pub range : Range
   pub there : slice_get ranges function ≡ Some range
   pub entry : range.entry ≡ place
+  pub by : range.slot ≡ slot
+  pub lies : LiesBelow range caller
 
--- the call of a function that begins at a place
-pub record Calls (ranges : List Range) (place : ℕ) (next : NodeId) (n : ℕ) (nodes : List Node) (edges : List Edge) : Type 0 where
+-- the call of a function that begins at a place and returns by a slot, which no instruction reads
+pub record Calls (p : Plan) (g : Setting) (place slot : ℕ) (next : NodeId) (n : ℕ) (nodes : List Node) (edges : List Edge) : Type 0 where
   pub function : ℕ
-  pub begins : Begins ranges function place
+  pub begins : Begins p.ranges p.range function place slot
+  pub unread : slot_cell g.lay slot ≡ None
   pub nodes_are : nodes ≡ Call function next ∷ []
   pub edges_are : edges ≡ []
 
@@ -62,7 +74,7 @@ module _ (p : Plan) (g : Setting) (table : Table) where
   abbrev pub Follows : ℕ → Instruction → ℕ → List Node → List Edge → Type 0
   Follows place (i.Fail kind at) = Last (Error kind at)
   Follows place i.Stop = Last End
-  Follows place (i.Call at goal slot) = Calls p.ranges goal (node_of p (place + 1))
+  Follows place (i.Call at goal slot) = Calls p g goal slot (node_of p (place + 1))
   Follows place (i.Return slot) = Way p.exit
   Follows place (i.Jump skip) = Way (node_of p (place + 1 + skip))
   Follows place (i.Turn at goal) = Way (node_of p goal)
@@ -93,6 +105,7 @@ module _ (p : Plan) (g : Setting) (table : Table) where
     pub instruction : Instruction
     pub there : slice_get p.code place ≡ Some instruction
     pub number : slice_get p.numbers place ≡ Some n
+    pub kept : keeps p.range place instruction ≡ true
     pub follows : Follows p g table place instruction n nodes edges
 
   -- the first so many places of the function, one behind the other

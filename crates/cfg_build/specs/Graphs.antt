@@ -15,12 +15,14 @@ use Rattle.slot_code.specs.declared.flat.Instruction.{Instruction}
 use Rattle.slot_code.specs.Programs.{code_of}
 use Rattle.slot_code.specs.Slots.{slots_in}
 use Rattle.c_typed.specs.Parts.{Parts, tree_of}
+use Rattle.c_typed.specs.Run.{main_number}
 use Rattle.code_layout.specs.Layout.{elements_of, layout_of}
 use Rattle.code_moves.specs.Setting.{Setting}
 use Rattle.code_moves.specs.Deeds.{Deed, Sets, AreDeeds}
 use Rattle.cfg_build.specs.declared.placing.Range.{Range}
 use Rattle.cfg_build.specs.Steps.{node_id, edge}
 use Rattle.cfg_build.specs.Follows.{Plan, Joined, PlacesFollow}
+use Rattle.cfg_build.specs.Ranges.{ProgramRanges}
 
 -- ---- The first values of objects
 
@@ -99,9 +101,12 @@ program_code t order = (code_of (tree_of t) order).instructions
 abbrev pub program_setting : Parts → List ℕ → Setting
 program_setting t order = record { objects = t.objects; model = t.model; lay = layout_of t.objects t.model (program_code t order) (slots_in (program_code t order)) }
 
--- the graphs of all functions follow the program's code, for some numbers of nodes and some ends of functions in it
+-- the graphs of all functions follow the program's code, each from its function's entry on, for some numbers of nodes; `main` is that
+-- of the program
 pub record ProgramFollows (t : Parts) (order : List ℕ) (p : Flows) : Type 0 where
   pub numbers : List ℕ
   pub ranges : List Range
+  pub main : main_number (tree_of t).functions ≡ Some p.main
+  pub stand : ProgramRanges t order ranges
   pub follow : FirstGraphs (program_code t order) numbers ranges p.main (program_setting t order) p.terms (length ranges) p.graphs p.exits
   pub cells : p.cells ≡ (program_setting t order).lay.cells

@@ -1,6 +1,6 @@
 //! The graphs of functions, place by place.
 
-ghost use Rattle.std.specs.Prelude.{◌≡◌, ◌==◌, ◌⊎◌, [], length, true, false, slice_get, IfOk, IfSome};
+ghost use Rattle.std.specs.Prelude.{◌≡◌, ◌==◌, ◌⊎◌, [], length, true, false, slice_get, IfOk, IfSome, IsTrue};
 ghost use Rattle.c_graph.specs.Parts.{error_flows};
 ghost use Rattle.c_terms.specs.Shown.{Grows};
 ghost use Rattle.code_moves.specs.Setting.{setting_of, Stands};
@@ -11,6 +11,7 @@ use crate::draft::Draft;
 use crate::looping::loops_in;
 use crate::opening::add_opening;
 use crate::placing::{Places, Range, Whole, add_places, node_of};
+use crate::ranging::{entries_of, is_placed, main_of, ranges_of};
 use crate::steps::nodes_at;
 use bv_term::Terms;
 use c_graph::{FnGraph, FnGraphs, LoopAt, NodeId, function_graphs_from};
@@ -21,8 +22,7 @@ use code_layout::{Layout, widths_of};
 use code_moves::Ground;
 use lv_base::{Memory, SourceFail};
 use slot_code::Instruction;
-use slot_compiler::{Code, compiled, slots_in};
-use slot_values::Link;
+use slot_compiler::{compiled, slots_in};
 use std::alloc::Global;
 
 /// The most nodes of all function graphs together.
@@ -43,7 +43,7 @@ pub fn build(alloc: Global, examined: &Examined) -> Result<FnGraphs, SourceFail>
     let slots = slots_in(&code.instructions)?;
     let (objects, model) = (typed.objects(), typed.model());
     let layout = Layout::new(alloc, objects, model, &code.instructions, slots)?;
-    let ranges = ranges_of(alloc, typed, &code)?;
+    let ranges = ranges_of(alloc, typed, &code, slots)?;
     let main = main_of(typed);
     let numbers = numbers_of(alloc, &code.instructions, &ranges, main)?;
     let entries = entries_of(alloc, &code)?;
@@ -62,72 +62,18 @@ pub fn build(alloc: Global, examined: &Examined) -> Result<FnGraphs, SourceFail>
     };
     let Graphs { graphs, exits } = graphs_of(alloc, typed, &whole, main, &ground, &mut words)?;
     let graphs = where_sound(alloc, words.is_sound(), graphs);
+    let graphs = where_sound(alloc, is_placed(typed, &code, slots, &ranges, main), graphs);
     let cells = layout.into_cells();
     let terms = words.into_terms();
     Ok(function_graphs_from(alloc, graphs, cells, terms, exits, main)?)
 }
 
-// Graphs over terms that are not well formed count for nothing: without a graph the parts make none.
+// Graphs over terms that are not well formed, or of places that are not those of the code, count for nothing: without a graph the parts
+// make none.
 fn where_sound(alloc: Global, is_sound: bool, graphs: Vec<FnGraph>) -> Vec<FnGraph>
-    ensures { (result.items ≡ graphs.items) ⊎ (result.items ≡ []) }
+    ensures { (IsTrue is_sound × (result.items ≡ graphs.items)) ⊎ (result.items ≡ []) }
 {
     if is_sound { graphs } else { Vec::new(alloc) }
-}
-
-// The number of `main`.
-fn main_of(typed: &Typed) -> u32 {
-    for (number, function) in typed.functions().iter().enumerate() {
-        if function.name.is(b"main") {
-            return u32::try_from(number).unwrap_or(0);
-        }
-    }
-    0
-}
-
-// A range without a place for each of so many functions.
-fn no_ranges(alloc: Global, functions: usize) -> Result<Vec<Range>, Memory> {
-    let mut ranges = Vec::new(alloc);
-    for number in 0..functions {
-        let Ok(function) = u32::try_from(number) else {
-            return Err(Memory);
-        };
-        ranges.push(Range {
-            function,
-            entry: 0,
-            end: 0,
-        })?;
-    }
-    Ok(ranges)
-}
-
-// The code of each function, by its number: from its entry up to the next one's.
-fn ranges_of(alloc: Global, typed: &Typed, code: &Code) -> Result<Vec<Range>, Memory> {
-    let mut ranges = no_ranges(alloc, typed.functions().len())?;
-    for (number, link) in code.links.iter().enumerate() {
-        let end = match code.links.get(number + 1) {
-            None => code.instructions.len(),
-            Some(behind) => behind.entry,
-        };
-        if (link.function as usize) < ranges.len() {
-            ranges[link.function as usize] = Range {
-                function: link.function,
-                entry: link.entry,
-                end,
-            };
-        }
-    }
-    Ok(ranges)
-}
-
-// The function that begins at each place.
-fn entries_of(alloc: Global, code: &Code) -> Result<Vec<Option<u32>>, Memory> {
-    let mut entries = vec![in alloc; None; code.instructions.len()]?;
-    for link in &code.links {
-        if link.entry < entries.len() {
-            entries[link.entry] = Some(link.function);
-        }
-    }
-    Ok(entries)
 }
 
 // The number of each place's node in its function's graph; of `main` number 0 is the node at which it begins.

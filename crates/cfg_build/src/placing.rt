@@ -5,9 +5,10 @@ ghost use Rattle.c_terms.specs.Shown.{Grows};
 ghost use Rattle.code_moves.specs.Setting.{setting_of, Stands};
 ghost use Rattle.cfg_build.specs.Steps.{Built};
 ghost use Rattle.cfg_build.specs.Follows as of;
-ghost use Rattle.cfg_build.specs.Follows.{plan_of, Begins, Exit, Follows, PlacesFollow, StandsAt};
+ghost use Rattle.cfg_build.specs.Follows.{plan_of, Begins, LiesBelow, Exit, Follows, PlacesFollow, StandsAt};
 
 use crate::draft::Draft;
+use crate::keeping::keeps;
 use crate::steps::{add_moves, add_skip_equal, add_skip_zero, add_way};
 use c_graph::{Node, NodeId};
 use c_terms::Words;
@@ -17,12 +18,15 @@ use lv_base::Memory;
 use slot_code::Instruction;
 use std::alloc::Global;
 
-/// The code of one function: the places from its first on up to its end.
+/// The code of one function, the places from its first on up to its end, and its slots.
 #[derive(Clone, Copy)]
 pub(crate) struct Range {
     pub(crate) function: u32,
     pub(crate) entry: usize,
     pub(crate) end: usize,
+    /// The slot that holds the place to return to; its other slots stand behind it, below a bound.
+    pub(crate) slot: usize,
+    pub(crate) bound: usize,
 }
 
 /// The code of a whole program, and where everything in it stands.
@@ -68,9 +72,9 @@ fn entry_at(places: &Places<'_>, place: usize) -> Option<u32> {
     }
 }
 
-// The function that begins at a place.
-fn called(places: &Places<'_>, place: usize) -> Option<u32>
-    ensures { IfSome result (λ f. Begins places.now.whole.ranges.now f place) }
+// The function that begins at a place and returns by a slot, if its code and slots lie below those of the function that is looked at.
+fn called(places: &Places<'_>, place: usize, slot: usize) -> Option<u32>
+    ensures { IfSome result (λ f. Begins places.now.whole.ranges.now places.now.range f place slot) }
 {
     let Some(function) = entry_at(places, place) else {
         return None;
@@ -78,24 +82,44 @@ fn called(places: &Places<'_>, place: usize) -> Option<u32>
     let Some(range) = places.whole.ranges.get(function as usize) else {
         return None;
     };
-    if range.entry != place {
-        return None;
+    if is_called(range, &places.range, place, slot) {
+        Some(function)
+    } else {
+        None
     }
-    Some(function)
 }
 
-// The node of a call, if a function begins there.
+fn is_called(range: &Range, caller: &Range, place: usize, slot: usize) -> bool
+    ensures { IsTrue result → (range.now.entry ≡ place) × (range.now.slot ≡ slot) × LiesBelow range.now caller.now }
+{
+    let is_there = range.entry == place && range.slot == slot;
+    is_there && lies_below(range, caller)
+}
+
+fn lies_below(range: &Range, other: &Range) -> bool
+    ensures { IsTrue result → LiesBelow range.now other.now }
+{
+    let is_code = range.entry < range.end && range.end <= other.entry;
+    is_code && range.slot < range.bound && range.bound <= other.slot
+}
+
+// The node of a call, if a function begins there and returns by the slot, which no instruction reads.
 fn add_call(
     places: &Places<'_>,
     goal: usize,
+    slot: usize,
     next: NodeId,
+    ground: &Ground<'_>,
     draft: &mut Draft,
 ) -> Result<bool, Memory>
-    ensures { IfOk result (λ b. IsTrue b → Built draft.old draft.new (of.Calls places.now.whole.ranges.now goal next)) }
+    ensures { IfOk result (λ b. IsTrue b → Built draft.old draft.new (of.Calls (plan_of places.now) (setting_of ground.now) goal slot next)) }
 {
-    let Some(function) = called(places, goal) else {
+    let Some(function) = called(places, goal, slot) else {
         return Ok(false);
     };
+    if ground.layout.slot(slot).is_some() {
+        return Ok(false);
+    }
     draft.node(Node::Call(function, next))?;
     Ok(true)
 }
@@ -126,7 +150,7 @@ fn add_place(
     match instruction {
         Instruction::Fail(kind, at) => add_last(Node::Error(kind, at), draft),
         Instruction::Stop => add_last(Node::End, draft),
-        Instruction::Call(_, goal, _) => add_call(places, goal, next, draft),
+        Instruction::Call(_, goal, slot) => add_call(places, goal, slot, next, ground, draft),
         Instruction::Return(_) => {
             add_way(draft, places.exit)?;
             Ok(true)
@@ -184,6 +208,9 @@ fn add_next(
     if !is_number_of(places, place, number) {
         return Ok(false);
     }
+    if !keeps(&places.range, place, instruction)? {
+        return Ok(false);
+    }
     add_place(alloc, places, place, instruction, ground, words, draft)
 }
 
@@ -200,7 +227,8 @@ fn add_exit(places: &Places<'_>, draft: &mut Draft) -> Result<bool, Memory>
 }
 
 /// The nodes and edges of a function's places, and its exit. It answers false, and they count for nothing, where nodes have other
-/// numbers, or a call is of no function: in the code of a program neither is so.
+/// numbers, a call is of no function, or an instruction leads out of its function's code or fills a slot of another: in the code of a
+/// program none of that is so.
 pub(crate) fn add_places(
     alloc: Global,
     places: &Places<'_>,

@@ -1,4 +1,4 @@
-ghost use Rattle.std.specs.Prelude.{◌≡◌, IfOk, codes, bytes_eq, map, option_map, position};
+ghost use Rattle.std.specs.Prelude.{◌≡◌, IfOk, map, option_map};
 ghost use Rattle.c_typed.specs.Run as run;
 ghost use Rattle.c_typed.specs.View as v;
 ghost use Rattle.slot_code.specs.Machine as flat;
@@ -8,27 +8,9 @@ ghost use Rattle.slot_machine.specs.Loaded.{entry_of};
 
 use c_typed::Function;
 use lv_base::Memory;
-use slot_compiler::Code;
+use slot_compiler::{Code, main_number};
 use slot_machine::Entry;
 use slot_values::{Link, link_of};
-
-fn is_main(function: &Function) -> bool
-    ensures { result ≡ bytes_eq (v.function_of function.now).name (codes "main") }
-{
-    function.name.as_bytes() == b"main".as_slice()
-}
-
-fn place_of_main(functions: &[Function]) -> Option<usize>
-    ensures { result ≡ position (λ f. bytes_eq f.name (codes "main")) functions.now }
-{
-    functions.iter().position(|function| is_main(function))
-}
-
-fn main_number(functions: &[Function]) -> Option<usize>
-    ensures { result ≡ run.main_number (map v.function_of functions.now) }
-{
-    place_of_main(functions)
-}
 
 // A function without a number has no code that could be called.
 fn number_of(number: usize) -> Result<u32, Memory>

@@ -2,8 +2,10 @@
 #![tactic(auto)]
 
 mod bodies;
+mod mains;
 mod programs;
 mod rooms;
 
+pub use mains::main_number;
 pub use programs::{Code, compiled};
 pub use rooms::slots_in;

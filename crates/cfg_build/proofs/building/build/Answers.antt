@@ -1,10 +1,18 @@
-use Rattle.std.proofs.Common.{rules, ◌≡◌, ◌⊎◌, List, [], length, sym, ap, ◌∙◌, subst}
+use Rattle.std.proofs.Common.{rules, ◌≡◌, ◌⊎◌, List, [], length, Some, sym, ap, ◌∙◌, subst}
+use Rattle.std.specs.Prelude.{IsTrue}
 use Rattle.bv_term.specs.WellFormed.{Table}
 use Rattle.c_terms.specs.Shown.{Grows}
 use Rattle.slot_code.specs.declared.flat.Instruction.{Instruction}
 use Rattle.code_moves.specs.Setting.{Setting, Stands}
+use Rattle.c_typed.specs.Parts.{tree_of}
+use Rattle.c_typed.specs.Run.{main_number}
+use Rattle.slot_code.specs.Programs as p
+use Rattle.slot_code.specs.Slots.{slots_in}
+use Rattle.slot_values.specs.Linked.{links_of}
+use Rattle.slot_compiler.specs.Seen.{code_of}
+use Rattle.cfg_build.specs.Ranges.{AreRanges, ProgramRanges}
 use Rattle.cfg_build.specs.Graphs.{FirstGraphs, program_code, program_setting}
-use Rattle.cfg_build.proofs.Graphing.{program-follows, either-follows, setting-is, stands-by}
+use Rattle.cfg_build.proofs.Graphing.{program-follows, either-follows, setting-is, stands-by, stand-both, stand-by, ranges-stand}
 use Rattle.cfg_build.proofs.building.build.Goals as goal
 
 pub returns : goal.returns
@@ -28,7 +36,21 @@ returns c =
     let same : c.into_terms-terms.result ≡ c.graphs_of.new.words.terms = search rules in
     let follows = subst (λ (T : Table). (c.in_ok-graphs.graphs.items ≡ []) ⊎ FirstGraphs c.deref-5.result.now c.deref-6.result.now c.deref-8.result.now c.main_of-main.result s T (length c.deref-8.result.now) c.in_ok-graphs.graphs.items c.in_ok-graphs.exits.items)
     (sym same) (either-follows c.in_ok-graphs.graphs.items _ _ said) in
+    let m = c.main_of-main.result in
+    let rs = c.deref-8.result.now in
+    let whole : code_of c.in_ok-code.code ≡ p.code_of (tree_of t) order = c.in_ok-code.ensures ∙ ap (λ x. p.code_of (tree_of x) c.order.result.now) c.typed-typed.ensures.value ∙ ap (λ x. p.code_of (tree_of t) x) c.order.ensures.value in
+    let slots : c.in_ok-slots.slots ≡ slots_in (program_code t order) = c.in_ok-slots.ensures ∙ ap slots_in (c.deref.ensures.value ∙ is_code) in
+    let stood : IsTrue c.is_placed.result → AreRanges (length code) c.in_ok-slots.slots (links_of c.in_ok-code.code.links.items) rs = λ b. search (rules, c.is_placed.ensures.stand b) in
+    let placed : IsTrue c.is_placed.result → (main_number (tree_of t).functions ≡ Some m) × ProgramRanges t order rs = λ b.
+        (subst (λ x. main_number (tree_of x).functions ≡ Some m) c.typed-typed.ensures.value (c.is_placed.ensures.main b),
+        ranges-stand t order (code_of c.in_ok-code.code) c.in_ok-slots.slots rs whole slots (stood b)) in
+    let gs = c.in_ok-graphs.graphs.items in
+    let hs = c.where_sound-graphs.result.items in
+    let is = c.where_sound-graphs-2.result.items in
+    let first : (IsTrue c.is_sound.result × (hs ≡ gs)) ⊎ (hs ≡ []) = search rules in
+    let second : (IsTrue c.is_placed.result × (is ≡ hs)) ⊎ (is ≡ []) = search rules in
+    let stand = stand-by _ _ _ _ placed (stand-both _ _ gs hs is first second) in
     program-follows t order c.in_ok-function_graphs_from.field-0 c.deref-5.result.now c.deref-6.result.now c.deref-8.result.now s
-    c.in_ok-graphs.graphs.items c.where_sound-graphs.result.items c.in_ok-graphs.exits.items c.into_cells-cells.result.items c.into_terms-terms.result c.main_of-main.result
-    (search rules) (search rules) (search rules)
+    c.in_ok-graphs.graphs.items c.where_sound-graphs-2.result.items c.in_ok-graphs.exits.items c.into_cells-cells.result.items c.into_terms-terms.result m
+    (search rules) (search rules) stand
     follows setting (c.deref-5.ensures.value ∙ is_code) (search rules)
