@@ -1,0 +1,4 @@
+pub mod Deeds
+pub mod Plans
+pub mod Rule
+pub mod Blocked
