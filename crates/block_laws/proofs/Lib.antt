@@ -10,3 +10,4 @@ pub mod Placing
 pub mod Blocks
 pub mod Edges
 pub mod Runs
+pub mod Testing

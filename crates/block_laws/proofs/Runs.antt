@@ -13,13 +13,13 @@ use Rattle.c_graph.specs.declared.graph.Operation.TheVariants.{Assume, Set, SetA
 use Rattle.c_graph.specs.Shape.{Flow, IsFlow, OperationFits, widths_of}
 use Rattle.c_graph.specs.Steps.{IsWhole, Moment, moment, operated_all}
 use Rattle.c_graph.specs.Runs.{RunsAlong}
-use Rattle.c_graph.proofs.Keeping.{edge-fits}
+use Rattle.c_graph.proofs.Keeping.{edge-fits, inductive_means_safe}
 use Rattle.graph_walk_laws.proofs.Consuming.{taken, more_left}
 use Rattle.block_rule.specs.Deeds.{Code}
 use Rattle.block_rule.specs.Plans.{Plan, matters, IsError}
 use Rattle.block_rule.specs.Rule.{block_code}
 use Rattle.block_rule.specs.Blocked.{Agree, read_before_all, Flows, plain_deeds, Begins, Keeps, IsBlocked}
-use Rattle.block_laws.specs.Keeping.{BlocksKeepErrors}
+use Rattle.block_laws.specs.Keeping.{BlockedMapMeansSafe, BlocksKeepErrors}
 use Rattle.block_laws.proofs.Reading.{SetsBelow, AllSetBelow, follows_all}
 use Rattle.block_laws.proofs.Moving.{Widths}
 use Rattle.block_laws.proofs.Blocks.{Along, alive-along, both-true, Out, block-lands}
@@ -216,3 +216,8 @@ blocks_keep_errors g h plan draws v after kind at flow wide is (path, store, who
       ),
       ap (λ (xs : List Node). slice_get xs v.0) is.nodes.1 ∙ node-there g.nodes is.nodes.0 v.0 (Error kind at) error,
     )
+
+pub blocked_map_means_safe : BlockedMapMeansSafe
+blocked_map_means_safe g h plan m draws v after kind at flow wide is map run error =
+    let r = blocks_keep_errors g h plan draws v after kind at flow wide is run error in
+    inductive_means_safe h m draws v kind at r.0.0 wide map r.0.1 r.1
