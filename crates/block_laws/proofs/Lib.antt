@@ -1,0 +1,13 @@
+pub mod Lists
+pub mod Keeping
+pub mod Arriving
+pub mod Reading
+pub mod Moving
+pub mod Leading
+pub mod Going
+pub mod Taking
+pub mod Placing
+pub mod Blocks
+pub mod Edges
+pub mod Runs
+pub mod Testing
