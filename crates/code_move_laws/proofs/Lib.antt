@@ -1,0 +1,14 @@
+pub mod Numbers
+pub mod Stores
+pub mod Reaching
+pub mod Elements
+pub mod Plain
+pub mod Located
+pub mod Objects
+pub mod Changing
+pub mod Crements
+pub mod Rows
+pub mod Drawing
+pub mod Skipping
+pub mod Laying
+pub mod Whole

@@ -1,0 +1,5 @@
+use Rattle.code_move_laws.proofs.Skipping as law
+use Rattle.code_move_laws.proofs.equal_skips_agree.Goals as goal
+
+pub returns : goal.returns
+returns c = law.equal-skips

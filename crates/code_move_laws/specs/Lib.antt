@@ -1,0 +1,5 @@
+pub mod Mirrors
+pub mod Doing
+pub mod Steps
+pub mod Skips
+pub mod Laid

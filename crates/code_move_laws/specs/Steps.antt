@@ -1,0 +1,96 @@
+-- What one instruction does to the machine and to the cells.
+use Rattle.std.specs.Prelude.{ℕ, suc, ◌<◌, ◌≡◌, true, false, List, [], ◌++◌, map, take, Option, None, Some, slice_get, ℤ, pos}
+use Rattle.lv_base.specs.declared.kind.Model.{Model}
+use Rattle.lv_base.specs.Integers.{InAny, is_promoted}
+use Rattle.c_run.specs.Run.{Compute}
+use Rattle.c_run.specs.Operators.{is_logical}
+use Rattle.c_typed.specs.Tree.{Object}
+use Rattle.c_typed.specs.Run.{size_of, kind_of}
+use Rattle.c_typed.specs.View.{object_of}
+use Rattle.slot_code.specs.declared.flat.Instruction.{Instruction}
+use Rattle.slot_code.specs.declared.flat.Instruction.TheVariants as i
+use Rattle.slot_code.specs.declared.reply.Ending.TheVariants as ending
+use Rattle.slot_code.specs.Slots.{get}
+use Rattle.slot_code.specs.Machine.{Machine, Next, Goes, Over, act}
+use Rattle.slot_laws.specs.Laws.{IsShaped}
+use Rattle.c_graph.specs.Shape.{widths_of}
+use Rattle.word_laws.specs.Laws.{done, first_met}
+use Rattle.code_moves.specs.Setting.{Setting}
+use Rattle.code_moves.specs.Values.{failures_of}
+use Rattle.code_moves.specs.Moves.{moves_of}
+use Rattle.cfg_build.specs.Steps.{offset_of}
+use Rattle.layout_laws.specs.Serve.{Serves}
+use Rattle.code_move_laws.specs.Mirrors.{IsLaid, Mirrors}
+use Rattle.code_move_laws.specs.Doing.{Reaches}
+
+-- the arithmetic of the graph: operands are converted to the operation's kind first
+abbrev pub converting : Model → Compute
+converting model op kind x y = done op kind model x y
+
+-- ---- What holds of instructions, and of slots before them
+
+-- the objects of the setting, as those of a typed tree
+abbrev pub objects_of : Setting → List Object
+objects_of g = map object_of g.objects
+
+-- Constants are of some kind, operations are in promoted kinds, an index is tested against the elements of its object, and what is
+-- drawn or computed for an object is of its kind.
+abbrev pub IsFit : Model → List Object → Instruction → Type 0
+IsFit model objects (i.Constant slot v) = InAny v
+IsFit model objects (i.Element slot at object count) = count ≡ size_of (slice_get objects object)
+IsFit model objects (i.Locate slot at object count) = count ≡ size_of (slice_get objects object)
+IsFit model objects (i.Negate slot k at) = is_promoted k ≡ true
+IsFit model objects (i.Complement slot k at) = is_promoted k ≡ true
+IsFit model objects (i.Binary slot o k at) = (is_promoted k ≡ true) × (is_logical o ≡ false)
+IsFit model objects (i.Update slot o k l at object) = (is_promoted k ≡ true) × (is_logical o ≡ false) × (l ≡ kind_of (slice_get objects object))
+IsFit model objects (i.Change slot before by k at object) = k ≡ kind_of (slice_get objects object)
+IsFit model objects (i.Fill object k count) = k ≡ kind_of (slice_get objects object)
+IsFit model objects _ = Unit {0}
+
+-- the number of one of the object's elements
+abbrev pub IsIndexOf : Option Object → ℤ → Type 0
+IsIndexOf o v = (n : ℕ) × (v ≡ pos n) × (n < size_of o)
+
+-- where an element is reached through a slot, it holds the element's number
+abbrev pub IsReady : List Object → List ℤ → Instruction → Type 0
+IsReady objects slots (i.Load slot object) = IsIndexOf (slice_get objects object) (get slots slot)
+IsReady objects slots (i.Store slot object) = IsIndexOf (slice_get objects object) (get slots slot)
+IsReady objects slots (i.Update slot o k l at object) = IsIndexOf (slice_get objects object) (get slots slot)
+IsReady objects slots (i.Change slot before by k at object) = IsIndexOf (slice_get objects object) (get slots slot)
+IsReady objects slots _ = Unit {0}
+
+-- an instruction behind which the next one stands
+abbrev pub IsPlain : Instruction → Type 0
+IsPlain (i.Store slot object) = ⊥
+IsPlain (i.Begin slot object count values) = ⊥
+IsPlain (i.Bind slot object) = ⊥
+IsPlain (i.Jump skip) = ⊥
+IsPlain (i.Turn at goal) = ⊥
+IsPlain (i.SkipZero slot skip) = ⊥
+IsPlain (i.SkipEqual slot v skip) = ⊥
+IsPlain (i.Call at goal slot) = ⊥
+IsPlain (i.Return slot) = ⊥
+IsPlain (i.Fail kind at) = ⊥
+IsPlain i.Stop = ⊥
+IsPlain _ = Unit {0}
+
+-- ---- The step
+
+-- The machine goes on to the next place, no check fails, and the deeds lead to a store that mirrors where it went, drawing the inputs that
+-- it drew; or it meets an error, and the first check that fails is the one of this error. Of other endings nothing is said.
+abbrev pub Agrees : Setting → List ℤ → Instruction → Machine → List ℕ → Next → Type 0
+Agrees g inputs x m store (Goes n) =
+    (draws : List ℤ) × (after : List ℕ) × (n.place ≡ suc m.place) × (first_met (failures_of g store x) ≡ None)
+    × (take (n.st).taken inputs ≡ take (m.st).taken inputs ++ draws)
+    × Reaches (widths_of g.lay.cells) (moves_of g x) store draws after [] × Mirrors g n.slots (n.st).store after
+Agrees g inputs x m store (Over (ending.Error kind at taken)) =
+    (first_met (failures_of g store x) ≡ Some kind) × (at ≡ offset_of x) × (taken ≡ (m.st).taken)
+Agrees g inputs x m store (Over _) = Unit {0}
+
+abbrev pub acted : Setting → List ℤ → Instruction → Machine → Next
+acted g inputs x m = act g.model (λ op kind a b. converting g.model op kind a b) inputs x m.place m.slots m.st
+
+abbrev pub StepsAgree : Type 0
+StepsAgree =
+    (g : Setting) (inputs : List ℤ) (x : Instruction) (m : Machine) (store : List ℕ) → IsLaid g → Serves g.model g.objects g.lay x → IsShaped (objects_of g) x
+    → IsFit g.model (objects_of g) x → IsPlain x → IsReady (objects_of g) m.slots x → Mirrors g m.slots (m.st).store store → Agrees g inputs x m store (acted g inputs x m)
