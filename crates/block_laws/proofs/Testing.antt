@@ -133,8 +133,8 @@ module _ (table : Table) (plan : Plan) (is : IsTable table) (reads : AreReads ta
         let r = reads i.0 there.0 there.1 in
         let both = pair (λ x. x.0 < i.0) (ReadsOperand plan i.0) there.0 one.before r.1 in
         let same : OnOperands (λ x. slice_index (values table s) x.0 ≡ slice_index (values table t) x.0) there.0 =
-          onto (λ x. (x.0 < i.0) × ReadsOperand plan i.0 x) (λ x. slice_index (values table s) x.0 ≡ slice_index (values table t) x.0) there.0
-              (λ x h. let less = h.0 in below bound x (omega (arith, lt, less)) (λ c le y. a c le (h.1 c y))) both in
+        onto (λ x. (x.0 < i.0) × ReadsOperand plan i.0 x) (λ x. slice_index (values table s) x.0 ≡ slice_index (values table t) x.0) there.0
+        (λ x h. let less = h.0 in below bound x (omega (arith, lt, less)) (λ c le y. a c le (h.1 c y))) both in
         one.value
         ∙ alike s t (widths table) (values table s) (values table t) there.0 same (own table.cells (widths table) plan s t i.0 there.0 one.fits r.0 a)
         ∙ sym other.value

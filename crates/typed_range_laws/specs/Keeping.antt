@@ -15,6 +15,7 @@ use Rattle.c_typed.specs.Tree.{Val, vConstant, vRead, vElement, vWhole, vNothing
 use Rattle.c_typed.specs.Run.{size_of, kind_of, kept, is_this_label, is_default}
 use Rattle.c_typed.specs.Run as typed
 use Rattle.typed_range_laws.specs.Ways.{Keep, write_kept}
+
 module _ (model : Model) (objects : List Object) (compute : Compute) (keep : Keep) (inputs : List ℤ) (call : Calls) where
   abbrev pub count_of : ℕ → ℕ
   count_of object = size_of (slice_get objects object)

@@ -41,9 +41,10 @@ returns c =
     let whole : code_of c.in_ok-code.code ≡ p.code_of (tree_of t) order = c.in_ok-code.ensures ∙ ap (λ x. p.code_of (tree_of x) c.order.result.now) c.typed-typed.ensures.value ∙ ap (λ x. p.code_of (tree_of t) x) c.order.ensures.value in
     let slots : c.in_ok-slots.slots ≡ slots_in (program_code t order) = c.in_ok-slots.ensures ∙ ap slots_in (c.deref.ensures.value ∙ is_code) in
     let stood : IsTrue c.is_placed.result → AreRanges (length code) c.in_ok-slots.slots (links_of c.in_ok-code.code.links.items) rs = λ b. search (rules, c.is_placed.ensures.stand b) in
-    let placed : IsTrue c.is_placed.result → (main_number (tree_of t).functions ≡ Some m) × ProgramRanges t order rs = λ b.
-        (subst (λ x. main_number (tree_of x).functions ≡ Some m) c.typed-typed.ensures.value (c.is_placed.ensures.main b),
-        ranges-stand t order (code_of c.in_ok-code.code) c.in_ok-slots.slots rs whole slots (stood b)) in
+    let placed : IsTrue c.is_placed.result → (main_number (tree_of t).functions ≡ Some m) × ProgramRanges t order rs = λ b. (
+      subst (λ x. main_number (tree_of x).functions ≡ Some m) c.typed-typed.ensures.value (c.is_placed.ensures.main b),
+      ranges-stand t order (code_of c.in_ok-code.code) c.in_ok-slots.slots rs whole slots (stood b),
+    ) in
     let gs = c.in_ok-graphs.graphs.items in
     let hs = c.where_sound-graphs.result.items in
     let is = c.where_sound-graphs-2.result.items in
