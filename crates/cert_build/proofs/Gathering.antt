@@ -50,7 +50,7 @@ proofs_more g m learn n logs new log h r e =
 
 pub cause_of : (g : Flow) (m : Formulas) (learn n : ℕ) (logs : List (List Chain)) (e : QueryFail) → n < count_of g → AreProofsTo g m learn n logs
     → IsOneCause g m n learn e → IsProveCause g m learn e
-cause_of g m learn n logs (Over size) lt h c = c
+cause_of g m learn n logs (Over size) lt h c = (n, record { there = lt; logs = logs; before = h }, c)
 cause_of g m learn n logs (OverLog log) lt h c = (n, record { there = lt; logs = logs; before = h }, c)
 cause_of g m learn n logs Memory lt h c = tt
 

@@ -45,6 +45,6 @@ IsOneCause g m n learn Memory = Unit {0}
 
 -- the same of the lowest obligation that has none
 abbrev pub IsProveCause : Flow → Formulas → ℕ → QueryFail → Type 0
-IsProveCause g m learn (Over size) = 67108864 < size
+IsProveCause g m learn (Over size) = (n : ℕ) × IsLowest g m learn n × (67108864 < size)
 IsProveCause g m learn (OverLog log) = (n : ℕ) × IsLowest g m learn n × IsHeavy (obligation_says g m n) learn 134217728 log
 IsProveCause g m learn Memory = Unit {0}

@@ -28,9 +28,9 @@ use resolution_log::laws::{
     none_is_new_over_empty, propagation_stays, results_are_implied, sets_are_enough,
 };
 use run_replay::orders_agree;
-use slot_laws::{code_goes_on, code_runs_as_tree, code_shaped, ranks_fall};
+use slot_laws::{code_goes_on, code_runs_as_tree, code_runs_each_way, code_shaped, ranks_fall};
 use stored_text::{over_is_named, refused_at_the_first_byte, run_text_is_read, written_is_read};
-use typed_range_laws::runs_guarded;
+use typed_range_laws::{runs_agreeing, runs_each_way, runs_guarded};
 use typing_rules::{constants_summed, expressions_summed, words_summed};
 
 #[test]
@@ -99,6 +99,8 @@ fn calls_of_reach_error() {
 
 #[test]
 fn values_in_their_ranges() {
+    runs_agreeing();
+    runs_each_way();
     runs_guarded();
 }
 
@@ -107,7 +109,26 @@ fn flat_code_runs_as_the_tree() {
     code_goes_on();
     ranks_fall();
     code_shaped();
+    code_runs_each_way();
     code_runs_as_tree();
+}
+
+#[test]
+fn instructions_and_cells() {
+    layout_laws::cells_differ();
+    layout_laws::cells_serve();
+    code_move_laws::code_is_laid();
+    code_move_laws::steps_agree();
+    code_move_laws::zero_skips_agree();
+    code_move_laws::equal_skips_agree();
+}
+
+#[test]
+fn graphs_of_blocks() {
+    block_laws::blocks_keep_errors();
+    block_laws::blocked_map_means_safe();
+    block_laws::reads_tell();
+    block_laws::complements_exclude();
 }
 
 #[test]
@@ -313,6 +334,9 @@ fn clauses_of_paths() {
     path_laws::questions_make_runs();
     path_laws::draws_are_read();
     path_laws::numbers_are_bits();
+    path_weight_laws::paths_are_light();
+    path_weight_laws::refused_paths_are_heavy();
+    path_weight_laws::terms_are_below();
 }
 
 #[test]

@@ -1,2 +1,3 @@
 pub mod Replays
 pub mod Writing
+pub mod Spending

@@ -1,6 +1,6 @@
 -- Values that were replayed.
-use Rattle.std.proofs.Common.{inl, inr, ◌⊎◌, ◌≡◌, ◌∙◌, sym, ap, refl, ℕ, ℤ, List, [], ◌∷◌, length, Bool, true, false, ◌<◌, ◌^◌, arith, rules}
-use Rattle.std.specs.Prelude.{Option, Some, None, ◌==◌, ◌&&◌, nat_lt, if◌then◌else◌, unsigned_abs}
+use Rattle.std.proofs.Common.{◌≡◌, ◌∙◌, sym, ap, refl, ℕ, ℤ, List, [], ◌∷◌, Bool, true, false, ◌<◌, ◌^◌, arith}
+use Rattle.std.specs.Prelude.{Some, None, ◌==◌, ◌&&◌, nat_lt, if◌then◌else◌, unsigned_abs}
 use Rattle.std.specs.List.{list_all}
 use Rattle.std.proofs.lemmas.Bool.Decides.{nat_tests}
 use Rattle.lv_base.specs.declared.fault.ErrorKind.{ErrorKind}

@@ -1,5 +1,5 @@
 -- What is said where a text is written, or is not.
-use Rattle.std.proofs.Common.{inl, inr, ◌⊎◌, ◌≡◌, ◌∙◌, sym, ap, subst, refl, ℕ, ℤ, List, length}
+use Rattle.std.proofs.Common.{inl, inr, ◌⊎◌, ◌≡◌, sym, subst, ℕ, ℤ, List, length}
 use Rattle.std.specs.Prelude.{Ok, Err}
 use Rattle.lv_base.specs.Place.{place_at}
 use Rattle.lv_base.specs.declared.kind.Model.{Model}
@@ -18,7 +18,7 @@ use Rattle.cert_text.specs.Writing.{write_cert_of}
 use Rattle.cert_verdicts.specs.Judged.{IsCertificate}
 use Rattle.verdicts.specs.declared.verdict.Verdict.{Verdict}
 use Rattle.verdicts.specs.declared.verdict.Verdict.TheVariants.{Unsafe}
-use Rattle.source_verdicts.specs.Verified.{IsVerified, IsLimit, Meets, unwritten_for}
+use Rattle.source_verdicts.specs.Verified.{IsVerified, Meets, unwritten_for}
 use Rattle.source_verdicts.specs.Verified.IsLimit.{of_bytes, of_values}
 
 module _ (p : Program) (g : Flow) (source : List ℕ) (model : Model) (units learn : ℕ) where

@@ -1,5 +1,5 @@
 -- What the verdict on a source means.
-use Rattle.std.specs.Prelude.{ℕ, ◌≡◌, ◌<◌, ◌≤◌, ◌⊎◌, ◌^◌, Bool, false, nat_lt, ◌==◌, if◌then◌else◌, List, length, ℤ, Option, Some, None, Ok, Err, unsigned_abs}
+use Rattle.std.specs.Prelude.{ℕ, ◌≡◌, ◌<◌, ◌⊎◌, Bool, false, nat_lt, ◌==◌, if◌then◌else◌, List, length, ℤ, Option, Some, None, Ok, Err, unsigned_abs}
 use Rattle.std.specs.List.{list_all}
 use Rattle.lv_base.specs.Place.{place_at}
 use Rattle.lv_base.specs.declared.kind.Model.{Model}
@@ -12,15 +12,20 @@ use Rattle.c_typed.specs.Tree.{Program}
 use Rattle.c_typed.specs.Run.{run}
 use Rattle.c_graph.specs.Shape.{Flow}
 use Rattle.c_graph.specs.Runs.{Formulas, IsMapOf}
+use Rattle.prop.specs.declared.Lit.{Lit}
+use Rattle.resolution_log.specs.declared.Chain.{Chain}
+use Rattle.clause_learning.specs.Solve.{IsHeavy, IsSpent}
 use Rattle.cover_engine.specs.Unwindings.{Unwound, is_complete}
 use Rattle.cover_engine.specs.Units.{Legal}
+use Rattle.explore.specs.Ends.{IsAsked}
+use Rattle.obligations.specs.Stated.{obligation_says}
 use Rattle.stored_text.specs.declared.StoredFail.{StoredFail}
 use Rattle.stored_text.specs.declared.StoredFail.TheVariants as stored
 use Rattle.stored_text.specs.Writing.{write_run_of}
 use Rattle.cert_text.specs.declared.Cert.{Cert}
 use Rattle.cert_text.specs.Content.{content_of}
 use Rattle.cert_text.specs.Writing.{write_cert_of}
-use Rattle.cert_build.specs.Proofs.{HasModel}
+use Rattle.cert_build.specs.Proofs.{HasModel, IsLowest}
 use Rattle.cert_verdicts.specs.Judged.{IsCertificate}
 use Rattle.source_verdicts.specs.declared.replaying.Met.{Met}
 use Rattle.verdicts.specs.declared.verdict.Verdict.{Verdict}
@@ -57,13 +62,31 @@ met_at n _ = None
 abbrev pub IsAstray : Program → List ℤ → Type 0
 IsAstray p values = (list_all is_short_value values ≡ false) ⊎ ((turns : ℕ) × (met_in (length values) (run turns p values) ≡ None))
 
+-- Something is so of the clauses of a question that a legal unwinding of the graph has, which is not complete and has fewer units than are
+-- allowed; or of those of an obligation of a map, the ones before it being refuted with so many learned clauses each.
+pub data IsMet (g : Flow) (units learn : ℕ) (Why : List (List Lit) → Type 0) : Type 0 where
+  of_question : (unwinding : Unwound) → Legal g unwinding → IsAsked g units unwinding Why → IsMet g units learn Why
+  of_obligation : (m : Formulas) (number : ℕ) → IsMapOf g m → IsLowest g m learn number → Why (obligation_says g m number) → IsMet g units learn Why
+
+-- A log over the clauses numbers the learned clauses that are allowed.
+abbrev pub IsOutOfLearn : Flow → ℕ → ℕ → Type 0
+IsOutOfLearn g units learn = (log : List Chain) × IsMet g units learn (λ clauses. IsSpent clauses learn log)
+
+-- A log over the clauses reaches the limit on pairs with its last chain.
+abbrev pub IsTooHeavy : Flow → ℕ → ℕ → Type 0
+IsTooHeavy g units learn = (log : List Chain) × IsMet g units learn (λ clauses. IsHeavy clauses learn 134217728 log)
+
+-- The clauses have more literals than are allowed.
+abbrev pub IsTooLong : Flow → ℕ → ℕ → ℕ → Type 0
+IsTooLong g units learn count = (67108864 < count) × (IsMet g units learn (λ clauses. Unit {0}))
+
 -- Which limit was passed: on the literals of a question or obligation, on the pairs of its log, on the bytes of a certificate
 -- that is accepted, or on the values that lead to an error.
-pub data IsLimit (p : Program) (g : Flow) (source : List ℕ) (model : Model) (number count : ℕ) : Type 0 where
-  of_literals : number ≡ 6 → IsLimit p g source model number count
-  of_pairs : number ≡ 7 → IsLimit p g source model number count
-  of_bytes : (cert : Cert) → IsCertificate g source model cert → write_cert_of (content_of cert) ≡ Err (stored.Over number count) → IsLimit p g source model number count
-  of_values : (kind : ErrorKind) (place : Place) (values : List ℤ) → Meets p source kind place values → write_run_of values ≡ Err (stored.Over number count) → IsLimit p g source model number count
+pub data IsLimit (p : Program) (g : Flow) (source : List ℕ) (model : Model) (units learn number count : ℕ) : Type 0 where
+  of_literals : number ≡ 6 → IsTooLong g units learn count → IsLimit p g source model units learn number count
+  of_pairs : number ≡ 7 → count ≡ 134217728 → IsTooHeavy g units learn → IsLimit p g source model units learn number count
+  of_bytes : (cert : Cert) → IsCertificate g source model cert → write_cert_of (content_of cert) ≡ Err (stored.Over number count) → IsLimit p g source model units learn number count
+  of_values : (kind : ErrorKind) (place : Place) (values : List ℤ) → Meets p source kind place values → write_run_of values ≡ Err (stored.Over number count) → IsLimit p g source model units learn number count
 
 -- a legal unwinding of the graph has all units that are allowed and is not complete
 pub record IsOutOfUnits (g : Flow) (units : ℕ) : Type 0 where
@@ -78,10 +101,10 @@ abbrev pub IsVerified : Program → Flow → List ℕ → Model → ℕ → ℕ 
 IsVerified p g source model units learn (Safe text) = IsProved g source model text
 IsVerified p g source model units learn (Unsafe kind place values text) = Meets p source kind place values × (write_run_of values ≡ Ok text)
 IsVerified p g source model units learn (OutOfUnits n) = (n ≡ units) × ((units ≡ 0) ⊎ IsOutOfUnits g units)
-IsVerified p g source model units learn (OutOfLearn n) = n ≡ learn
+IsVerified p g source model units learn (OutOfLearn n) = (n ≡ learn) × ((learn ≡ 0) ⊎ IsOutOfLearn g units learn)
 IsVerified p g source model units learn Unreplayed = (values : List ℤ) × IsAstray p values
 IsVerified p g source model units learn (Unproved n) = (m : Formulas) × IsMapOf g m × HasModel g m n
-IsVerified p g source model units learn (Over number count) = IsLimit p g source model number count
+IsVerified p g source model units learn (Over number count) = IsLimit p g source model units learn number count
 IsVerified p g source model units learn NoMemory = Unit {0}
 IsVerified p g source model units learn Accepted = ⊥
 IsVerified p g source model units learn (Rejected rejection) = ⊥

@@ -56,9 +56,9 @@ fn proved(
     match prove(alloc, graph, map, learn) {
         Ok(Proved::Logs(logs)) => stored(alloc, graph, source, model, map, logs),
         Ok(Proved::Fails(number)) => Verdict::Unproved(number),
-        Ok(Proved::Spent(_, _)) => Verdict::OutOfLearn(learn),
+        Ok(Proved::Spent(_number, _log)) => Verdict::OutOfLearn(learn),
         Err(QueryFail::Over(count)) => Verdict::Over(6, count),
-        Err(QueryFail::OverLog(_)) => Verdict::Over(7, MOST_PAIRS),
+        Err(QueryFail::OverLog(_log)) => Verdict::Over(7, MOST_PAIRS),
         Err(QueryFail::Memory) => Verdict::NoMemory,
     }
 }

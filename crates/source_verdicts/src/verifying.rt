@@ -62,9 +62,9 @@ fn explored(
             replayed(alloc, examined, source, values.as_slice(), steps)
         }
         Ok(Explored::Units(_)) => Verdict::OutOfUnits(budget.units),
-        Ok(Explored::Learned(_, _)) => Verdict::OutOfLearn(budget.learn),
-        Ok(Explored::Over(_, count)) => Verdict::Over(6, count),
-        Ok(Explored::OverLog(_, _)) => Verdict::Over(7, MOST_PAIRS),
+        Ok(Explored::Learned(_unwinding, _log)) => Verdict::OutOfLearn(budget.learn),
+        Ok(Explored::Over(_unwinding, count)) => Verdict::Over(6, count),
+        Ok(Explored::OverLog(_unwinding, _log)) => Verdict::Over(7, MOST_PAIRS),
         Err(_) => Verdict::NoMemory,
     }
 }

@@ -1,4 +1,4 @@
-use Rattle.std.proofs.Common.{◌≡◌, ◌∙◌, sym, ap, ℕ, List}
+use Rattle.std.proofs.Common.{◌∙◌, sym, ap, ℕ, List}
 use Rattle.std.specs.Prelude.{Ok}
 use Rattle.cert_verdicts.specs.Judged.{IsCertificate}
 use Rattle.source_verdicts.proofs.Writing.{cert_unwritten}
