@@ -12,3 +12,5 @@ pub mod Drawing
 pub mod Skipping
 pub mod Laying
 pub mod Whole
+pub mod Trimming
+pub mod Operating
