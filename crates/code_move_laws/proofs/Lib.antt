@@ -14,3 +14,5 @@ pub mod Laying
 pub mod Whole
 pub mod Trimming
 pub mod Operating
+pub mod Checking
+pub mod Following

@@ -5,3 +5,5 @@ pub mod Steps
 pub mod Skips
 pub mod Laid
 pub mod Trims
+pub mod Paths
+pub mod Stepping

@@ -4,7 +4,9 @@
 
 ghost use Rattle.code_move_laws.specs.Doing.{DeedsAreDone};
 ghost use Rattle.code_move_laws.specs.Laid.{CodeIsLaid};
+ghost use Rattle.code_move_laws.specs.Paths.{ChecksFail, ChecksPass};
 ghost use Rattle.code_move_laws.specs.Skips.{EqualSkipsAgree, ZeroSkipsAgree};
+ghost use Rattle.code_move_laws.specs.Stepping.{StepsRun};
 ghost use Rattle.code_move_laws.specs.Steps.{StepsAgree};
 ghost use Rattle.code_move_laws.specs.Trims.{BeginsTrim, BindsTrim, ConvertingAgrees, StoresTrim, TrimmingKeeps};
 
@@ -57,4 +59,19 @@ pub fn binds_trim()
 /// Where deeds lead to a store, the operations of an edge that do them lead there.
 pub fn deeds_are_done()
     ensures { DeedsAreDone }
+{}
+
+/// Where no check of an instruction fails, a run goes through its nodes to the next one and does its deeds.
+pub fn checks_pass()
+    ensures { ChecksPass }
+{}
+
+/// Where a check of an instruction fails, a run goes to the error node of the first that does.
+pub fn checks_fail()
+    ensures { ChecksFail }
+{}
+
+/// A step of the machine is a run through the nodes that stand for its instruction, to the next node or to the error's.
+pub fn steps_run()
+    ensures { StepsRun }
 {}
