@@ -12,11 +12,12 @@ use Rattle.c_run.specs.Operators.{op_of, is_turned, is_negated, negated, crement
 use Rattle.c_typed.specs.Tree.{Program}
 use Rattle.c_typed.specs.Run.{promoted, start_store, main_number}
 use Rattle.typed_range_laws.specs.Guards.{guarded}
+use Rattle.typed_range_laws.specs.Ways.{Keep, as_it_is, write_kept}
 use Rattle.slot_code.specs.declared.flat.Instruction.{Instruction}
 use Rattle.slot_code.specs.declared.flat.Instruction.TheVariants as i
 use Rattle.slot_code.specs.declared.reply.Ending.{Ending}
 use Rattle.slot_code.specs.declared.reply.Ending.TheVariants as ending
-use Rattle.slot_code.specs.Slots.{get, put, slots_from}
+use Rattle.slot_code.specs.Slots.{get, put, slots_through}
 use Rattle.slot_code.specs.Values.{Link, link_of}
 use Rattle.slot_code.specs.Programs.{Code, code_of}
 
@@ -104,74 +105,99 @@ module _ (model : Model) (compute : Compute) (inputs : List ℤ) where
     vs ← draw_all inputs model k count
     store_all object vs
 
-  -- the instruction at this place
-  abbrev pub act : Instruction → ℕ → List ℤ → State → Next
-  act (i.Constant slot v) place slots st = fills place slots slot (Value v st)
-  act (i.Read slot object) place slots st = fills place slots slot (read (scalar object) st)
-  act (i.Element slot at object count) place slots st = fills place slots slot (element_read at object count (get slots slot) st)
-  act (i.Locate slot at object count) place slots st = fills place slots slot (index_found at object count (get slots slot) st)
-  act (i.Load slot object) place slots st = fills place slots (suc slot) (read (element_in slots slot object) st)
-  act (i.Store slot object) place slots st = fills place slots slot (write (element_in slots slot object) (get slots (suc slot)) st)
-  act (i.Convert slot k) place slots st = fills place slots slot (Value (converted k model (get slots slot)) st)
-  act (i.Negate slot k at) place slots st = fills place slots slot (computed at (compute arith.Sub k (pos 0) (get slots slot)) st)
-  act (i.Complement slot k at) place slots st = fills place slots slot (computed at (compute arith.Xor k (get slots slot) (converted k model (negsuc 0))) st)
-  act (i.Not slot) place slots st = fills place slots slot (Value (truth (is_zero (get slots slot))) st)
-  act (i.Truth slot) place slots st = fills place slots slot (Value (truth (is_true (get slots slot))) st)
-  act (i.Binary slot o k at) place slots st = fills place slots slot (applied at o k (get slots slot) (get slots (suc slot)) st)
-  act (i.Update slot o k l at object) place slots st = fills place slots slot (updated at o k l (element_in slots slot object) (get slots (suc slot)) (get slots (suc (suc slot))) st)
-  act (i.Change slot before by k at object) place slots st = fills place slots slot (changed at before by k (element_in slots slot object) st)
-  act (i.Draw slot k) place slots st = fills place slots slot (draw inputs model k st)
-  act (i.Fill object k count) place slots st = goes (suc place) slots (filled object k count st)
-  act (i.Begin slot object count values) place slots st = goes (suc place) slots (store_all object (padded count (slots_from slots slot values)) st)
-  act (i.Bind slot object) place slots st = goes (suc place) slots (store_all object (get slots slot ∷ []) st)
-  act (i.Jump skip) place slots st = Goes (machine (suc place + skip) slots st)
-  act (i.SkipZero slot skip) place slots st = Goes (machine (choose (is_true (get slots slot)) (suc place) (suc place + skip)) slots st)
-  act (i.SkipEqual slot v skip) place slots st = Goes (machine (choose (int_le (get slots slot) v && int_le v (get slots slot)) (suc place + skip) (suc place)) slots st)
-  act (i.Turn at goal) place slots st = goes goal slots (turn at st)
-  act (i.Call at goal slot) place slots st = goes goal (put slots slot (pos (suc place))) (turn at st)
-  act (i.Take slot at from needed) place slots st = fills place slots slot (taken_of needed at (returned_in slots from) st)
-  act (i.Return slot) place slots st = Goes (machine (max (suc place) (unsigned_abs (get slots slot))) slots st)
-  act (i.Fail kind at) place slots st = Over (ending.Error kind at st.taken)
-  act i.Stop place slots st = Over ending.Ended
-
-  -- behind the code the run ends
-  abbrev pub act_at : Option Instruction → Machine → Next
-  act_at None m = Over ending.Ended
-  act_at (Some x) m = act x m.place m.slots m.st
-
   module _ (code : List Instruction) where
-    abbrev pub step : Machine → Next
-    step m = act_at (slice_get code m.place) m
-
     abbrev pub onward : Next → (Machine → Ending) → Ending
     onward (Goes m) go = go m
     onward (Over e) go = e
-
-    -- not more than so many instructions
-    abbrev pub walk : ℕ → Machine → Ending
-    walk zero m = ending.Spent
-    walk (suc n) m = onward (step m) (walk n)
 
     -- There are no more instructions than this: each takes a turn, or goes forward.
     abbrev pub rank : Machine → ℕ
     rank m = suc ((m.st).turns * suc (length code) + (length code - m.place))
 
+  module _ (keep : Keep) where
+    -- the instruction at this place, where a value that `Store`, `Begin` or `Bind` puts into an object is kept so
+    abbrev pub act_with : Instruction → ℕ → List ℤ → State → Next
+    act_with (i.Constant slot v) place slots st = fills place slots slot (Value v st)
+    act_with (i.Read slot object) place slots st = fills place slots slot (read (scalar object) st)
+    act_with (i.Element slot at object count) place slots st = fills place slots slot (element_read at object count (get slots slot) st)
+    act_with (i.Locate slot at object count) place slots st = fills place slots slot (index_found at object count (get slots slot) st)
+    act_with (i.Load slot object) place slots st = fills place slots (suc slot) (read (element_in slots slot object) st)
+    act_with (i.Store slot object) place slots st = fills place slots slot (write_kept keep (element_in slots slot object) (get slots (suc slot)) st)
+    act_with (i.Convert slot k) place slots st = fills place slots slot (Value (converted k model (get slots slot)) st)
+    act_with (i.Negate slot k at) place slots st = fills place slots slot (computed at (compute arith.Sub k (pos 0) (get slots slot)) st)
+    act_with (i.Complement slot k at) place slots st = fills place slots slot (computed at (compute arith.Xor k (get slots slot) (converted k model (negsuc 0))) st)
+    act_with (i.Not slot) place slots st = fills place slots slot (Value (truth (is_zero (get slots slot))) st)
+    act_with (i.Truth slot) place slots st = fills place slots slot (Value (truth (is_true (get slots slot))) st)
+    act_with (i.Binary slot o k at) place slots st = fills place slots slot (applied at o k (get slots slot) (get slots (suc slot)) st)
+    act_with (i.Update slot o k l at object) place slots st = fills place slots slot (updated at o k l (element_in slots slot object) (get slots (suc slot)) (get slots (suc (suc slot))) st)
+    act_with (i.Change slot before by k at object) place slots st = fills place slots slot (changed at before by k (element_in slots slot object) st)
+    act_with (i.Draw slot k) place slots st = fills place slots slot (draw inputs model k st)
+    act_with (i.Fill object k count) place slots st = goes (suc place) slots (filled object k count st)
+    act_with (i.Begin slot object count values) place slots st = goes (suc place) slots (store_all object (padded count (slots_through (keep object) slots slot values)) st)
+    act_with (i.Bind slot object) place slots st = goes (suc place) slots (store_all object (keep object (get slots slot) ∷ []) st)
+    act_with (i.Jump skip) place slots st = Goes (machine (suc place + skip) slots st)
+    act_with (i.SkipZero slot skip) place slots st = Goes (machine (choose (is_true (get slots slot)) (suc place) (suc place + skip)) slots st)
+    act_with (i.SkipEqual slot v skip) place slots st = Goes (machine (choose (int_le (get slots slot) v && int_le v (get slots slot)) (suc place + skip) (suc place)) slots st)
+    act_with (i.Turn at goal) place slots st = goes goal slots (turn at st)
+    act_with (i.Call at goal slot) place slots st = goes goal (put slots slot (pos (suc place))) (turn at st)
+    act_with (i.Take slot at from needed) place slots st = fills place slots slot (taken_of needed at (returned_in slots from) st)
+    act_with (i.Return slot) place slots st = Goes (machine (max (suc place) (unsigned_abs (get slots slot))) slots st)
+    act_with (i.Fail kind at) place slots st = Over (ending.Error kind at st.taken)
+    act_with i.Stop place slots st = Over ending.Ended
+
+    -- behind the code the run ends
+    abbrev pub act_at_with : Option Instruction → Machine → Next
+    act_at_with None m = Over ending.Ended
+    act_at_with (Some x) m = act_with x m.place m.slots m.st
+
+    module _ (code : List Instruction) where
+      abbrev pub step_with : Machine → Next
+      step_with m = act_at_with (slice_get code m.place) m
+
+      -- not more than so many instructions
+      abbrev pub walk_with : ℕ → Machine → Ending
+      walk_with zero m = ending.Spent
+      walk_with (suc n) m = onward code (step_with m) (walk_with n)
+
+      abbrev pub run_from_with : Machine → Ending
+      run_from_with m = walk_with (rank code m) m
+
+  -- the same where values are kept as they are
+  abbrev pub act : Instruction → ℕ → List ℤ → State → Next
+  act = act_with as_it_is
+
+  abbrev pub act_at : Option Instruction → Machine → Next
+  act_at = act_at_with as_it_is
+
+  module _ (code : List Instruction) where
+    abbrev pub step : Machine → Next
+    step = step_with as_it_is code
+
+    abbrev pub walk : ℕ → Machine → Ending
+    walk = walk_with as_it_is code
+
     abbrev pub run_from : Machine → Ending
-    run_from m = walk (rank m) m
+    run_from = run_from_with as_it_is code
 
 -- ---- Whole runs
 
--- `main` returns to the end of the code; operations test their operands
-abbrev pub run_code : Program → Code → List ℤ → Option Link → List ℤ → ℕ → Ending
-run_code program code slots None inputs turns = ending.Ended
-run_code program code slots (Some l) inputs turns =
-    run_from program.model (λ op kind x y. guarded program.model op kind x y) inputs code.instructions
-    (machine l.entry (put slots l.slot (pos (length code.instructions))) (record { store = start_store program.objects; taken = 0; turns = turns }))
+-- `main` returns to the end of the code
+abbrev pub run_code_with : Compute → Keep → Program → Code → List ℤ → Option Link → List ℤ → ℕ → Ending
+run_code_with compute keep program code slots None inputs turns = ending.Ended
+run_code_with compute keep program code slots (Some l) inputs turns =
+    run_from_with program.model compute inputs keep code.instructions (machine l.entry (put slots l.slot (pos (length code.instructions))) (record { store = start_store program.objects; taken = 0; turns = turns }))
 
 abbrev pub main_link : Option ℕ → Code → Option Link
 main_link None code = None
 main_link (Some main) code = link_of main code.links
 
--- the run of a program in this order, whatever the slots held before
+-- the run of a program in this order that computes so and keeps values so, whatever the slots held before
+abbrev pub run_with : Compute → Keep → Program → List ℕ → List ℤ → List ℤ → ℕ → Ending
+run_with compute keep program order slots inputs turns = run_code_with compute keep program (code_of program order) slots (main_link (main_number program.functions) (code_of program order)) inputs turns
+
+-- the same where operations test their operands, and values are kept as they are
+abbrev pub run_code : Program → Code → List ℤ → Option Link → List ℤ → ℕ → Ending
+run_code program code slots link inputs turns = run_code_with (λ op kind x y. guarded program.model op kind x y) as_it_is program code slots link inputs turns
+
 abbrev pub run : Program → List ℕ → List ℤ → List ℤ → ℕ → Ending
-run program order slots inputs turns = run_code program (code_of program order) slots (main_link (main_number program.functions) (code_of program order)) inputs turns
+run program order slots inputs turns = run_with (λ op kind x y. guarded program.model op kind x y) as_it_is program order slots inputs turns

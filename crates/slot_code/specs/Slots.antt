@@ -12,10 +12,14 @@ put [] (suc slot) v = pos 0 ∷ put [] slot v
 put (x ∷ xs) zero v = v ∷ xs
 put (x ∷ xs) (suc slot) v = x ∷ put xs slot v
 
--- the values of so many slots from one on
+-- what becomes of the values of so many slots from one on
+abbrev pub slots_through : (ℤ → ℤ) → List ℤ → ℕ → ℕ → List ℤ
+slots_through f slots slot zero = []
+slots_through f slots slot (suc count) = f (get slots slot) ∷ slots_through f slots (suc slot) count
+
+-- these values
 abbrev pub slots_from : List ℤ → ℕ → ℕ → List ℤ
-slots_from slots slot zero = []
-slots_from slots slot (suc count) = get slots slot ∷ slots_from slots (suc slot) count
+slots_from slots slot count = slots_through (λ v. v) slots slot count
 
 -- Slots below this number hold all that an instruction writes.
 abbrev pub slots_of : Instruction → ℕ

@@ -1,14 +1,16 @@
 -- Values in a row, the parameters that get them, and calls.
 use Rattle.std.proofs.Common.{◌≡◌, ℕ, zero, suc, ◌+◌, ◌≤◌, Bool, List, [], ◌∷◌, ◌++◌, length, Option, Some, None, ℤ, slice_get, slice_set, inl, refl, ap, ◌∙◌, subst, arith, length-append}
+use Rattle.std.specs.Prelude.{map}
 use Rattle.lv_base.specs.declared.kind.Kind.{Kind}
 use Rattle.c_run.specs.Run.{State, Value, after, with_store}
 use Rattle.c_run.specs.Operators.{Use, used, dropped, called_value}
-use Rattle.c_run.specs.Loops.{bind_parameters}
+use Rattle.typed_range_laws.specs.Ways.{Keep}
+use Rattle.typed_range_laws.specs.Keeping.{bind_kept}
 use Rattle.c_typed.specs.Rules.{Call}
 use Rattle.slot_code.specs.declared.flat.Instruction.{Instruction}
 use Rattle.slot_code.specs.declared.flat.Instruction.TheVariants as i
 use Rattle.slot_code.specs.declared.reply.Ending.{Ending}
-use Rattle.slot_code.specs.Slots.{get, slots_from}
+use Rattle.slot_code.specs.Slots.{get, slots_through}
 use Rattle.slot_code.specs.Values.{Link, link_of, parameters_of, is_needed, bind_code, call_code}
 use Rattle.slot_code.specs.Machine.{taken_of, returned_in}
 use Rattle.slot_laws.proofs.Running.{still_taken}
@@ -32,37 +34,37 @@ holds_kept c d n top s s' [] lo e le k h = tt
 holds_kept c d zero top s s' (v ∷ vs) lo e le k h = absurd (omega (arith, e))
 holds_kept c d (suc n) top s s' (v ∷ vs) lo e le k h = (k d lo (inl (omega (arith, le))) ∙ h.0, holds_kept c (suc d) n top s s' vs (omega (arith, lo)) (omega (arith, e)) (omega (arith, le)) k h.1)
 
--- such values read from their slots
-pub held : (d n : ℕ) (s vs : List ℤ) → length vs ≡ n → Holds d s vs → slots_from s d n ≡ vs
-held d zero s [] e h = refl
-held d zero s (v ∷ vs) e h = absurd (omega (arith, e))
-held d (suc n) s [] e h = absurd (omega (arith, e))
-held d (suc n) s (v ∷ vs) e h = ap (λ x. x ∷ slots_from s (suc d) n) h.0 ∙ ap (λ xs. v ∷ xs) (held (suc d) n s vs (omega (arith, e)) h.1)
+-- what becomes of such values
+pub held_through : (f : ℤ → ℤ) (d n : ℕ) (s vs : List ℤ) → length vs ≡ n → Holds d s vs → slots_through f s d n ≡ map f vs
+held_through f d zero s [] e h = refl
+held_through f d zero s (v ∷ vs) e h = absurd (omega (arith, e))
+held_through f d (suc n) s [] e h = absurd (omega (arith, e))
+held_through f d (suc n) s (v ∷ vs) e h = ap (λ x. f x ∷ slots_through f s (suc d) n) h.0 ∙ ap (λ xs. f v ∷ xs) (held_through f (suc d) n s vs (omega (arith, e)) h.1)
 
 -- ---- Parameters
 
--- the store in which these objects have these values
-abbrev pub bound_store : List ℕ → List ℤ → List (List ℤ) → List (List ℤ)
-bound_store (o ∷ os) (v ∷ vs) store = bound_store os vs (slice_set store o (v ∷ []))
-bound_store _ _ store = store
+-- the store in which these objects have what is kept of these values
+abbrev pub bound_store : Keep → List ℕ → List ℤ → List (List ℤ) → List (List ℤ)
+bound_store keep (o ∷ os) (v ∷ vs) store = bound_store keep os vs (slice_set store o (keep o v ∷ []))
+bound_store keep _ _ store = store
 
-pub bound : (os : List ℕ) (vs : List ℤ) (st : State) → bind_parameters os vs st ≡ Value tt (with_store st (bound_store os vs st.store))
-bound [] vs st = refl
-bound (o ∷ os) [] st = refl
-bound (o ∷ os) (v ∷ vs) st = bound os vs (with_store st (slice_set st.store o (v ∷ [])))
+pub bound : (keep : Keep) (os : List ℕ) (vs : List ℤ) (st : State) → bind_kept keep os vs st ≡ Value tt (with_store st (bound_store keep os vs st.store))
+bound keep [] vs st = refl
+bound keep (o ∷ os) [] st = refl
+bound keep (o ∷ os) (v ∷ vs) st = bound keep os vs (with_store st (slice_set st.store o (keep o v ∷ [])))
 
 module _ (c : Frame) where
   pub binds : (os : List ℕ) (vs : List ℤ) (n d m : ℕ) (s : List ℤ) (st : State) → At c m (bind_code d os n) → length vs ≡ n → Holds d s vs →
-      from c m s st ≡ from c (m + length (bind_code d os n)) s (with_store st (bound_store os vs st.store))
+      from c m s st ≡ from c (m + length (bind_code d os n)) s (with_store st (bound_store c.keep os vs st.store))
   binds [] vs n d m s st l e h = ap (λ x. from c x s st) (omega arith)
   binds (o ∷ os) [] zero d m s st l e h = ap (λ x. from c x s st) (omega arith)
   binds (o ∷ os) [] (suc n) d m s st l e h = absurd (omega (arith, e))
   binds (o ∷ os) (v ∷ vs) zero d m s st l e h = absurd (omega (arith, e))
   binds (o ∷ os) (v ∷ vs) (suc n) d m s st l e h =
-      leads c m (suc m) s s st (with_store st (slice_set st.store o (get s d ∷ []))) (i.Bind d o) l.0 refl
-      ∙ ap (λ x. from c (suc m) s (with_store st (slice_set st.store o (x ∷ [])))) h.0
-      ∙ binds os vs n (suc d) (suc m) s (with_store st (slice_set st.store o (v ∷ []))) l.1 (omega (arith, e)) h.1
-      ∙ ap (λ x. from c x s (with_store st (bound_store os vs (slice_set st.store o (v ∷ []))))) (omega arith)
+      leads c m (suc m) s s st (with_store st (slice_set st.store o (c.keep o (get s d) ∷ []))) (i.Bind d o) l.0 refl
+      ∙ ap (λ x. from c (suc m) s (with_store st (slice_set st.store o (c.keep o x ∷ [])))) h.0
+      ∙ binds os vs n (suc d) (suc m) s (with_store st (slice_set st.store o (c.keep o v ∷ []))) l.1 (omega (arith, e)) h.1
+      ∙ ap (λ x. from c x s (with_store st (bound_store c.keep os vs (slice_set st.store o (c.keep o v ∷ []))))) (omega arith)
 
 -- ---- Calls
 
@@ -75,7 +77,7 @@ unfoldable pub Called : Frame → ℕ → Type 0
 Called c t =
     (f at : ℕ) (l : Link) (vs : List ℤ) → link_of f c.links ≡ Some l → (p : ℕ) (s : List ℤ) (st : State) (k : Option ℤ → State → Ending) → Lies c p (i.Call at l.entry l.slot) → st.turns ≤ t →
     ((r : Option ℤ) (s' : List ℤ) (st' : State) → st'.turns ≤ t → Above c s s' → returned_in s' l.slot ≡ r → from c (suc p) s' st' ≡ k r st') →
-    from c p s (with_store st (bound_store (parameters_of (slice_get c.functions f)) vs st.store)) ≡ ends (c.call f at vs st) k
+    from c p s (with_store st (bound_store c.keep (parameters_of (slice_get c.functions f)) vs st.store)) ≡ ends (c.call f at vs st) k
 
 -- the functions that are called stand there
 abbrev pub Linked : List Link → List Call → Type 0

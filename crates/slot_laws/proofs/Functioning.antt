@@ -6,8 +6,9 @@ use Rattle.lv_base.specs.declared.kind.Kind.{Kind}
 use Rattle.c_run.specs.Run.{State, Got, Value, Run, after, choose, is_true, Compute}
 use Rattle.c_run.specs.Loops.{toLabel, From, Start, Seek, Exit, Normal, Broke, Continued, Returned, Calls, left_by, enter}
 use Rattle.c_typed.specs.Tree.{Steps, Function, Program}
-use Rattle.c_typed.specs.Run as typed
 use Rattle.c_typed.specs.Rules.{all_of_all, calls_of}
+use Rattle.typed_range_laws.specs.Keeping as keeping
+use Rattle.typed_range_laws.specs.Ways.{Keep}
 use Rattle.slot_code.specs.declared.flat.Instruction.{Instruction}
 use Rattle.slot_code.specs.declared.flat.Instruction.TheVariants as i
 use Rattle.slot_code.specs.declared.reply.Ending.{Ending}
@@ -43,7 +44,7 @@ module _ (c : Frame) (s0 : List ℤ) (n : ℕ) (hc : (t : ℕ) → t ≤ n → C
   code = steps_code c.model c.objects c.functions c.links result (suc c.low) end labels end end place body
 
   abbrev run : From → Run Exit
-  run from' = typed.exec_all c.model c.objects c.compute c.inputs c.call result n body from'
+  run from' = keeping.exec_all c.model c.objects c.compute c.keep c.inputs c.call result n body from'
 
   -- where the call goes on, at so many turns
   abbrev pub Back : ℕ → (Option ℤ → State → Ending) → Type 0
@@ -107,13 +108,14 @@ same_number a b e = ⊎_elim (λ p. p.1) (λ p. absurd cc) (eqb_tells a b)
 
 -- ---- Functions that stand before others
 
-module _ (program : Program) (compute : Compute) (inputs : List ℤ) (code : List Instruction) where
+module _ (program : Program) (compute : Compute) (keep : Keep) (inputs : List ℤ) (code : List Instruction) where
   abbrev pub frame : List Link → Calls → (low top start : ℕ) → Frame
   frame links call low top start = record {
     model = program.model;
     objects = program.objects;
     functions = program.functions;
     compute = compute;
+    keep = keep;
     inputs = inputs;
     links = links;
     code = code;

@@ -1,5 +1,6 @@
 -- The code of a statement does what the typed run says, from its start and from each place in it.
 use Rattle.std.proofs.Common.{◌≡◌, ℕ, suc, ◌+◌, ◌≤◌, List, [], ◌∷◌, ◌++◌, length, Option, Some, None, ℤ, pos, slice_get, refl, sym, ap, ◌∙◌, subst, arith}
+use Rattle.std.specs.Prelude.{map}
 use Rattle.lv_base.specs.declared.kind.Kind.{Kind}
 use Rattle.c_run.specs.Run.{State, Got, Value, Run, give, after, store_all, padded, draw_all}
 use Rattle.c_run.specs.Operators.{Use, used, dropped}
@@ -7,17 +8,18 @@ use Rattle.c_run.specs.Loops.{Place, toLabel, toCase, toDefault, From, Start, Se
 use Rattle.c_typed.specs.Tree.{Val, Step, pDraw, pBegin, pBlock, pEmpty, pEffect, pIf, pIfElse, pWhile, pSwitch, pDo, pFor, pCase, pDefault, pLabel, pGoto, pBreak, pContinue, pReturn, Steps, no_steps, steps_and}
 use Rattle.c_typed.specs.Run as typed
 use Rattle.c_typed.specs.Rules.{all_values, all_of_all, all_option}
+use Rattle.typed_range_laws.specs.Keeping as keeping
 use Rattle.slot_code.specs.declared.flat.Instruction.{Instruction}
 use Rattle.slot_code.specs.declared.flat.Instruction.TheVariants as i
 use Rattle.slot_code.specs.declared.reply.Ending.{Ending}
-use Rattle.slot_code.specs.Slots.{slots_from}
+use Rattle.slot_code.specs.Slots.{slots_through}
 use Rattle.slot_code.specs.Values.{number_of, count_of, value_code, values_code, effect_code, test_code}
 use Rattle.slot_code.specs.Statements.{Mark, moved, cases_code, loop_code, loop_size, return_code, return_size, return_value, marks_of, marks_in, size_of, size_in, step_code, steps_code, aCase, aLabel, aDefault}
 use Rattle.slot_code.specs.Machine.{filled}
 use Rattle.slot_laws.proofs.Running.{still_here, still_filled, still_store}
 use Rattle.slot_laws.proofs.Lying.{ends, ends_value, seq, Frame, At, at_moved, split, from, there_from, leads, Keeps, keeps_on, Does, plain}
 use Rattle.slot_laws.proofs.Pieces.{single}
-use Rattle.slot_laws.proofs.Calling.{HoldsAll, held, Called}
+use Rattle.slot_laws.proofs.Calling.{HoldsAll, held_through, Called}
 use Rattle.slot_laws.proofs.Valuing.{after_both, drop, no_drops_do, value_does, values_do}
 use Rattle.slot_laws.proofs.Sizes.{step_length, steps_length}
 use Rattle.slot_laws.proofs.Seeking.{sought, is_mark}
@@ -39,17 +41,17 @@ module _ (c : Frame) (s0 : List ℤ) (end : ℕ) (labels : List ℕ → ℕ) (n 
       ∙ ap (λ x. ends x k) (after_both (List ℤ) (Unit {0}) Exit (draw_all c.inputs c.model kind count st) (λ vs. store_all object vs) (λ v. give Normal))
 
   begin_starts : (b e p object count m : ℕ) (xs : List Instruction) (g : Run (List ℤ)) → ((t : ℕ) → t ≤ n → Does c t (List ℤ) (HoldsAll m d) d xs g) →
-      Starts c s0 end labels n b e p (xs ++ i.Begin d object count m ∷ []) (length xs + 1) (λ st. after (g st) (λ vs st1. after (store_all object (padded count vs) st1) (λ v. give Normal)))
+      Starts c s0 end labels n b e p (xs ++ i.Begin d object count m ∷ []) (length xs + 1) (λ st. after (g st) (λ vs st1. after (store_all object (padded count (map (c.keep object) vs)) st1) (λ v. give Normal)))
   begin_starts b e p object count m xs g runs t q s st k tn eq l ro tu ke nb lv =
       let r = split c p xs (i.Begin d object count m ∷ []) l in
-      let f : List ℤ → Run Exit = λ vs st1. after (store_all object (padded count vs) st1) (λ v. give Normal) in
+      let f : List ℤ → Run Exit = λ vs st1. after (store_all object (padded count (map (c.keep object) vs)) st1) (λ v. give Normal) in
       seq (List ℤ) Exit (g st) f k (from c p s st) (runs t tn p (p + length xs) s st (λ vs st1. ends (f vs st1) k) refl r.0 tu
       (λ vs s1 st1 tu1 k1 is1.
       let done : List ℤ → Got (Unit {0}) = λ ws. store_all object (padded count ws) st1 in
-      seq (Unit {0}) Exit (done vs) (λ v. give Normal) k (from c (p + length xs) s1 st1)
-      (plain c t (p + length xs) q d s1 st1 (i.Begin d object count m) (done (slots_from s1 d m)) (λ v st2. ends (Value Normal st2) k) (omega (arith, eq)) r.1.0 refl (still_store st1 object (padded count (slots_from s1 d m))) tu1
+      seq (Unit {0}) Exit (done (map (c.keep object) vs)) (λ v. give Normal) k (from c (p + length xs) s1 st1)
+      (plain c t (p + length xs) q d s1 st1 (i.Begin d object count m) (done (slots_through (c.keep object) s1 d m)) (λ v st2. ends (Value Normal st2) k) (omega (arith, eq)) r.1.0 refl (still_store st1 object (padded count (slots_through (c.keep object) s1 d m))) tu1
       (λ v s2 st2 tu2 k2 is2. nb s2 st2 tu2 (keeps_on c d s0 s1 s2 (keeps_on c d s0 s s1 ke k1) k2) ∙ sym (ends_value Normal st2 k))
-      ∙ ap (λ ws. ends (done ws) (λ v st2. ends (Value Normal st2) k)) (held d m s1 vs is1.0 is1.1))))
+      ∙ ap (λ ws. ends (done ws) (λ v st2. ends (Value Normal st2) k)) (held_through (c.keep object) d m s1 vs is1.0 is1.1))))
 
   -- nothing is sought in a statement without parts
   absent : (b e p m : ℕ) (xs : List Instruction) → Seeks c s0 end labels n b e p xs m [] (λ pl. give Absent)
@@ -99,13 +101,13 @@ module _ (c : Frame) (s0 : List ℤ) (end : ℕ) (labels : List ℕ → ℕ) (n 
   code u e = value_code c.objects c.functions c.links u slot e
 
   abbrev value : Use → Val → Run ℤ
-  value u e = typed.value c.model c.objects c.compute c.inputs c.call u e
+  value u e = keeping.value c.model c.objects c.compute c.keep c.inputs c.call u e
 
   abbrev run : Step → From → Run Exit
-  run s from = typed.exec c.model c.objects c.compute c.inputs c.call result n s from
+  run s from = keeping.exec c.model c.objects c.compute c.keep c.inputs c.call result n s from
 
   abbrev run_all : Steps → From → Run Exit
-  run_all ss from = typed.exec_all c.model c.objects c.compute c.inputs c.call result n ss from
+  run_all ss from = keeping.exec_all c.model c.objects c.compute c.keep c.inputs c.call result n ss from
 
   abbrev size : Step → ℕ
   size s = size_of c.model c.objects c.functions c.links result slot s
@@ -137,11 +139,11 @@ module _ (c : Frame) (s0 : List ℤ) (end : ℕ) (labels : List ℕ → ℕ) (n 
   alone : (e : Val) (es : List Val) → ValuesLinked c.links (e ∷ es) → ValuesLinked c.links (e ∷ [])
   alone e es li = (li.0, tt)
 
-  test_gives : (e : Option Val) → ValuesLinked c.links (all_option e) → Gives c s0 end labels n (test_code c.objects c.functions c.links slot e) (typed.test_of c.model c.objects c.compute c.inputs c.call e)
+  test_gives : (e : Option Val) → ValuesLinked c.links (all_option e) → Gives c s0 end labels n (test_code c.objects c.functions c.links slot e) (keeping.test_of c.model c.objects c.compute c.keep c.inputs c.call e)
   test_gives None li t tn = single c t slot (i.Constant slot (pos 1)) (give (pos 1)) (λ p s st. refl) (omega arith) (λ st. still_here st (pos 1))
   test_gives (Some e) li t tn = gives used e li t tn
 
-  step_leads : (e : Option Val) → ValuesLinked c.links (all_option e) → Leads c s0 end labels n (effect_code c.objects c.functions c.links slot e) (typed.effect_of c.model c.objects c.compute c.inputs c.call e)
+  step_leads : (e : Option Val) → ValuesLinked c.links (all_option e) → Leads c s0 end labels n (effect_code c.objects c.functions c.links slot e) (keeping.effect_of c.model c.objects c.compute c.keep c.inputs c.call e)
   step_leads None li t tn = no_drops_do c t (hc t tn) slot
   step_leads (Some e) li t tn = drop c t slot (code dropped e) (value dropped e) (gives dropped e li t tn)
 
@@ -150,7 +152,7 @@ module _ (c : Frame) (s0 : List ℤ) (end : ℕ) (labels : List ℕ → ℕ) (n 
 
   return_starts : (b e p : ℕ) (r : Option Kind) (v : Option Val) → ValuesLinked c.links (all_option v) →
       let xs : List Instruction = return_value c.model c.objects c.functions c.links r slot v in
-      Starts c s0 end labels n b e p (return_code slot p end r xs v) (return_size r (length xs) v) (typed.returned c.model c.objects c.compute c.inputs c.call r v)
+      Starts c s0 end labels n b e p (return_code slot p end r xs v) (return_size r (length xs) v) (keeping.returned c.model c.objects c.compute c.keep c.inputs c.call r v)
   return_starts b e p r None li = enter.return_void c s0 end labels n b e p
   return_starts b e p None (Some v) li = enter.return_dropped c s0 end labels n b e p (code dropped v) (value dropped v) (gives dropped v li)
   return_starts b e p (Some kind) (Some v) li = enter.return_value c s0 end labels n b e p (code used v) (value used v) (gives used v li)
@@ -167,7 +169,7 @@ module _ (c : Frame) (s0 : List ℤ) (end : ℕ) (labels : List ℕ → ℕ) (n 
     pub start_does : (s : Step) (b e p : ℕ) → ValuesLinked c.links (all_values s) → Starts c s0 end labels n b e p (coded b e p s) (size s) (run s Start)
     start_does (pDraw object) b e p li = fill_starts c s0 end labels n b e p object (count_of c.objects c.functions c.links object) (typed.kind_of (slice_get c.objects object))
     start_does (pBegin object es) b e p li =
-        begin_starts c s0 end labels n b e p object (count_of c.objects c.functions c.links object) (number_of es) (values_code c.objects c.functions c.links slot es) (typed.values c.model c.objects c.compute c.inputs c.call es)
+        begin_starts c s0 end labels n b e p object (count_of c.objects c.functions c.links object) (number_of es) (values_code c.objects c.functions c.links slot es) (keeping.values c.model c.objects c.compute c.keep c.inputs c.call es)
         (λ t tn. values_do c t (hc t tn) slot es (omega arith) (parts_linked c.links es li))
     start_does (pBlock ss) b e p li = start_all ss b e p li
     start_does pEmpty b e p li = enter.empty_starts c s0 end labels n b e p
@@ -202,12 +204,12 @@ module _ (c : Frame) (s0 : List ℤ) (end : ℕ) (labels : List ℕ → ℕ) (n 
         let B : ℕ = p + (first + 1 + length xs + 1) in
         let l3 = values_first c.links (all_of_all start ++ all_option v ++ all_option step) (all_values s) li in
         let l2 = values_first c.links (all_of_all start ++ all_option v) (all_option step) l3 in
-        let next : Run Exit = loop at n (typed.test_of c.model c.objects c.compute c.inputs c.call v) (run s Start) (typed.effect_of c.model c.objects c.compute c.inputs c.call step) in
+        let next : Run Exit = loop at n (keeping.test_of c.model c.objects c.compute c.keep c.inputs c.call v) (run s Start) (keeping.effect_of c.model c.objects c.compute c.keep c.inputs c.call step) in
         let loop_instructions : List Instruction = i.Turn at (suc (p + first)) ∷ loop_code at (suc (p + first)) slot xs (coded E C B s) zs in
         resized c s0 end labels n b e p (first + (1 + loop_size (length xs) (size s) (length zs))) (size (pFor at start v step s)) (coded b e p (pFor at start v step s)) (run (pFor at start v step s) Start) (omega arith)
         (enter.row_starts c s0 end labels n b e p first (1 + loop_size (length xs) (size s) (length zs)) (coded_all b e p start) loop_instructions (run_all start Start) next (length_all start b e p)
         (start_all start b e p (values_first c.links (all_of_all start) (all_option v) l2))
-        (loop_starts c s0 end labels n b e (p + first) (size s) at E C B xs (coded E C B s) zs (typed.test_of c.model c.objects c.compute c.inputs c.call v) (run s Start) (typed.effect_of c.model c.objects c.compute c.inputs c.call step) (length_of s E C B) (omega arith) (omega arith) (omega arith)
+        (loop_starts c s0 end labels n b e (p + first) (size s) at E C B xs (coded E C B s) zs (keeping.test_of c.model c.objects c.compute c.keep c.inputs c.call v) (run s Start) (keeping.effect_of c.model c.objects c.compute c.keep c.inputs c.call step) (length_of s E C B) (omega arith) (omega arith) (omega arith)
         (test_gives v (values_last c.links (all_of_all start) (all_option v) l2)) (start_does s E C B (values_last c.links (all_of_all start ++ all_option v ++ all_option step) (all_values s) li))
         (step_leads step (values_last c.links (all_of_all start ++ all_option v) (all_option step) l3))))
     start_does (pSwitch at kind v s) b e p li =
@@ -270,7 +272,7 @@ module _ (c : Frame) (s0 : List ℤ) (end : ℕ) (labels : List ℕ → ℕ) (n 
         let r = split c p (coded_all b e p start) loop_instructions l in
         let w = at_moved c (p + length (coded_all b e p start)) (p + first) loop_instructions (omega (arith, length_all start b e p)) r.1 in
         enter.moved_at c s0 end labels k pl p B (first + 1 + length xs + 1) (marks s) (run (pFor at start v step s) (Seek pl) st) s1 st refl
-        (round_seeks c s0 end labels n b e (p + first) (size s) at E C B xs (coded E C B s) zs (typed.test_of c.model c.objects c.compute c.inputs c.call v) (run s Start) (typed.effect_of c.model c.objects c.compute c.inputs c.call step) (length_of s E C B) (omega arith) (omega arith) (omega arith)
+        (round_seeks c s0 end labels n b e (p + first) (size s) at E C B xs (coded E C B s) zs (keeping.test_of c.model c.objects c.compute c.keep c.inputs c.call v) (run s Start) (keeping.effect_of c.model c.objects c.compute c.keep c.inputs c.call step) (length_of s E C B) (omega arith) (omega arith) (omega arith)
         (test_gives v (values_last c.links (all_of_all start) (all_option v) l2)) (start_does s E C B l4) (step_leads step (values_last c.links (all_of_all start ++ all_option v) (all_option step) l3)) (marks s) (λ x. run s (Seek x)) (seek_does s E C B l4)
         pl t q s1 st k tn eq w.1 ro.before_end tu ke nb lv)
     seek_does (pSwitch at kind v s) b e p li =

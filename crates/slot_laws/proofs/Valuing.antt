@@ -6,18 +6,19 @@ use Rattle.lv_base.specs.declared.kind.Op.TheVariants as arith'
 use Rattle.lv_base.specs.declared.fault.ErrorKind.TheVariants as error
 use Rattle.lv_base.specs.Integers.{truth, is_zero, converted}
 use Rattle.c_tree.specs.declared.symbol.BinaryOp.{BinaryOp}
-use Rattle.c_run.specs.Run.{State, Got, Value, Stop, Error, Ended, Run, give, after, choose, read, write, Element, element, scalar, located, draw, computed}
+use Rattle.c_run.specs.Run.{State, Got, Value, Stop, Error, Ended, Run, give, after, choose, read, Element, element, scalar, located, draw, computed}
 use Rattle.c_run.specs.Operators.{Use, used, dropped, called_value}
 use Rattle.c_typed.specs.Tree.{Val, vConstant, vRead, vElement, vWhole, vNothing, vConvert, vDiscard, vNegate, vComplement, vNot, vBinary, vBoth, vEither, vCond, vAssign, vUpdate, vChange, vCall, vReach, vAbort, vDraw, vComma, Goal, gObject, gElement, Vals, no_values, values_and}
-use Rattle.c_typed.specs.Run as typed
 use Rattle.c_typed.specs.Rules.{object_in, calls, calls_in, calls_of_goal}
+use Rattle.typed_range_laws.specs.Ways.{write_kept}
+use Rattle.typed_range_laws.specs.Keeping as keeping
 use Rattle.slot_code.specs.declared.flat.Instruction.{Instruction}
 use Rattle.slot_code.specs.declared.flat.Instruction.TheVariants as i
 use Rattle.slot_code.specs.declared.reply.Ending.TheVariants as ending
 use Rattle.slot_code.specs.Slots.{get}
 use Rattle.slot_code.specs.Values.{Link, link_of, number_of, count_of, value_code, values_code, drops_code, goal_code, call_code, is_needed, parameters_of}
 use Rattle.slot_code.specs.Machine.{applied, updated, changed, element_read, index_found}
-use Rattle.slot_laws.proofs.Running.{still_here, still_write, still_computed, still_drawn, still_element, still_index, still_applied, still_updated, still_changed, value_in}
+use Rattle.slot_laws.proofs.Running.{still_here, still_write_kept, still_computed, still_drawn, still_element, still_index, still_applied, still_updated, still_changed, value_in}
 use Rattle.slot_laws.proofs.Lying.{ends, ends_value, seq, Frame, split, parts, from, there_from, stops, keeps_same, keeps_on, keeps_less, Does, then_on, In, Nothing, one}
 use Rattle.slot_laws.proofs.Pieces.{single, unary, binary, both, either, choice}
 use Rattle.slot_laws.proofs.Calling.{HoldsAll, holds_more, holds_kept, Called, Linked, linked_first, linked_last, call_does}
@@ -69,7 +70,7 @@ module _ (c : Frame) (t : ℕ) where
 
 module _ (c : Frame) (t : ℕ) (hc : Called c t) where
   abbrev value : Use → Val → Run ℤ
-  value u e = typed.value c.model c.objects c.compute c.inputs c.call u e
+  value u e = keeping.value c.model c.objects c.compute c.keep c.inputs c.call u e
 
   abbrev code : Use → ℕ → Val → List Instruction
   code u d e = value_code c.objects c.functions c.links u d e
@@ -93,13 +94,13 @@ module _ (c : Frame) (t : ℕ) (hc : Called c t) where
   element_is at object (Value v st) = found_is object v (int_le (pos 0) v && int_lt v (pos (count object))) at st
   element_is at object (Stop e) = refl
 
-  goal_is : (g : Goal) (st : State) → typed.target_of c.model c.objects c.compute c.inputs c.call g st ≡ after (index_of g st) (λ v. give (element (object_in g) (unsigned_abs v)))
+  goal_is : (g : Goal) (st : State) → keeping.target_of c.model c.objects c.compute c.keep c.inputs c.call g st ≡ after (index_of g st) (λ v. give (element (object_in g) (unsigned_abs v)))
   goal_is (gObject object) st = refl
   goal_is (gElement at object e) st = element_is at object (value used e st)
 
   -- what is done with an element is done with its index
   goal_after : (g : Goal) (st : State) (f : Element → Run ℤ) →
-      after (typed.target_of c.model c.objects c.compute c.inputs c.call g st) f ≡ after (index_of g st) (λ v. f (element (object_in g) (unsigned_abs v)))
+      after (keeping.target_of c.model c.objects c.compute c.keep c.inputs c.call g st) f ≡ after (index_of g st) (λ v. f (element (object_in g) (unsigned_abs v)))
   goal_after g st f = ap (λ x. after x f) (goal_is g st) ∙ after_both ℤ Element ℤ (index_of g st) (λ v. give (element (object_in g) (unsigned_abs v))) f
 
   reach_does : (d at : ℕ) → Does c t ℤ (In c t d) d (i.Fail error.Reach at ∷ []) (λ (st : State). Stop (Error error.Reach at st.taken))
@@ -171,10 +172,10 @@ module _ (c : Frame) (t : ℕ) (hc : Called c t) where
         (value_does used d e lo (linked_first c.links (calls e) (calls a) (linked_first c.links (calls e ++ calls a) (calls b) li)))
         (value_does used d a lo (linked_last c.links (calls e) (calls a) (linked_first c.links (calls e ++ calls a) (calls b) li))) (value_does used d b lo (linked_last c.links (calls e ++ calls a) (calls b) li))
     value_does u d (vAssign kind at g e) lo li = λ p q s st k eq l tu h.
-        binary c t d (goal_code c.objects c.functions c.links d g) (code used (suc d) e) (index_of g) (value used e) (i.Store d (object_in g)) (λ n v. write (element (object_in g) (unsigned_abs n)) v) lo
+        binary c t d (goal_code c.objects c.functions c.links d g) (code used (suc d) e) (index_of g) (value used e) (i.Store d (object_in g)) (λ n v. write_kept c.keep (element (object_in g) (unsigned_abs n)) v) lo
         (goal_does d g lo (linked_first c.links (calls_of_goal g) (calls e) li)) (value_does used (suc d) e (omega (arith, lo)) (linked_last c.links (calls_of_goal g) (calls e) li)) (λ p s st. refl) (omega arith)
-        (λ n v st. still_write st (element (object_in g) (unsigned_abs n)) v) p q s st k eq l tu h
-        ∙ sym (ap (λ x. ends x k) (goal_after g st (λ a st1. after (value used e st1) (λ v. write a v))))
+        (λ n v st. still_write_kept st c.keep (element (object_in g) (unsigned_abs n)) v) p q s st k eq l tu h
+        ∙ sym (ap (λ x. ends x k) (goal_after g st (λ a st1. after (value used e st1) (λ v. write_kept c.keep a v))))
     value_does u d (vUpdate o kind kind' at g e) lo li = λ p q s st k eq l tu h.
         update c t d (goal_code c.objects c.functions c.links d g) (code used (suc (suc d)) e) (index_of g) (value used e) o kind kind' at (object_in g) lo
         (goal_does d g lo (linked_first c.links (calls_of_goal g) (calls e) li)) (value_does used (suc (suc d)) e (omega (arith, lo)) (linked_last c.links (calls_of_goal g) (calls e) li)) p q s st k eq l tu h
@@ -183,25 +184,25 @@ module _ (c : Frame) (t : ℕ) (hc : Called c t) where
         unary c t d (goal_code c.objects c.functions c.links d g) (index_of g) (i.Change d before by kind at (object_in g)) (λ n. changed c.model c.compute c.inputs at before by kind (element (object_in g) (unsigned_abs n)))
         (goal_does d g lo li) (λ p s st. refl) (omega arith) (λ n st. still_changed c.model c.compute c.inputs at before by kind (element (object_in g) (unsigned_abs n)) st) p q s st k eq l tu h
         ∙ sym (ap (λ x. ends x k) (goal_after g st (λ a. changed c.model c.compute c.inputs at before by kind a)))
-    value_does u d (vCall result at x f es) lo li = called_does u result f at d (number_of es) li.0.0 (values_code c.objects c.functions c.links d es) (typed.values c.model c.objects c.compute c.inputs c.call es) li.0.1 (values_do d es lo li.1)
+    value_does u d (vCall result at x f es) lo li = called_does u result f at d (number_of es) li.0.0 (values_code c.objects c.functions c.links d es) (keeping.values c.model c.objects c.compute c.keep c.inputs c.call es) li.0.1 (values_do d es lo li.1)
     value_does u d (vReach at) lo li = reach_does d at
     value_does u d vAbort lo li = abort_does d
     value_does u d (vDraw kind) lo li = single c t d (i.Draw d kind) (draw c.inputs c.model kind) (λ p s st. refl) (omega arith) (λ st. still_drawn kind c.model (slice_get c.inputs st.taken) st)
     value_does u d (vComma es e) lo li =
-        then_do c t ℤ (In c t d) d (drops_code c.objects c.functions c.links d es) (code used d e) (typed.drop_values c.model c.objects c.compute c.inputs c.call es) (value used e)
+        then_do c t ℤ (In c t d) d (drops_code c.objects c.functions c.links d es) (code used d e) (keeping.drop_values c.model c.objects c.compute c.keep c.inputs c.call es) (value used e)
         (drops_do d es lo (linked_first c.links (calls_in es) (calls e) li)) (value_does used d e lo (linked_last c.links (calls_in es) (calls e) li))
 
     pub values_do : (d : ℕ) (es : Vals) → c.low ≤ d → Linked c.links (calls_in es) →
-        Does c t (List ℤ) (HoldsAll (number_of es) d) d (values_code c.objects c.functions c.links d es) (typed.values c.model c.objects c.compute c.inputs c.call es)
+        Does c t (List ℤ) (HoldsAll (number_of es) d) d (values_code c.objects c.functions c.links d es) (keeping.values c.model c.objects c.compute c.keep c.inputs c.call es)
     values_do d no_values lo li = no_values_do d
     values_do d (values_and es e) lo li =
-        more_values_do d (number_of es) (values_code c.objects c.functions c.links d es) (code used (d + number_of es) e) (typed.values c.model c.objects c.compute c.inputs c.call es) (value used e) lo
+        more_values_do d (number_of es) (values_code c.objects c.functions c.links d es) (code used (d + number_of es) e) (keeping.values c.model c.objects c.compute c.keep c.inputs c.call es) (value used e) lo
         (values_do d es lo (linked_first c.links (calls_in es) (calls e) li)) (value_does used (d + number_of es) e (omega (arith, lo)) (linked_last c.links (calls_in es) (calls e) li))
 
-    pub drops_do : (d : ℕ) (es : Vals) → c.low ≤ d → Linked c.links (calls_in es) → Does c t (Unit {0}) (Nothing c t) d (drops_code c.objects c.functions c.links d es) (typed.drop_values c.model c.objects c.compute c.inputs c.call es)
+    pub drops_do : (d : ℕ) (es : Vals) → c.low ≤ d → Linked c.links (calls_in es) → Does c t (Unit {0}) (Nothing c t) d (drops_code c.objects c.functions c.links d es) (keeping.drop_values c.model c.objects c.compute c.keep c.inputs c.call es)
     drops_do d no_values lo li = no_drops_do d
     drops_do d (values_and es e) lo li =
-        then_do c t (Unit {0}) (Nothing c t) d (drops_code c.objects c.functions c.links d es) (code dropped d e) (typed.drop_values c.model c.objects c.compute c.inputs c.call es) (λ st. after (value dropped e st) (λ v. give tt))
+        then_do c t (Unit {0}) (Nothing c t) d (drops_code c.objects c.functions c.links d es) (code dropped d e) (keeping.drop_values c.model c.objects c.compute c.keep c.inputs c.call es) (λ st. after (value dropped e st) (λ v. give tt))
         (drops_do d es lo (linked_first c.links (calls_in es) (calls e) li)) (drop c t d (code dropped d e) (value dropped e) (value_does dropped d e lo (linked_last c.links (calls_in es) (calls e) li)))
 
     goal_does : (d : ℕ) (g : Goal) → c.low ≤ d → Linked c.links (calls_of_goal g) → Does c t ℤ (In c t d) d (goal_code c.objects c.functions c.links d g) (index_of g)

@@ -1,7 +1,7 @@
 //! Flat code runs as the typed tree that it was made of, and goes on from instruction to instruction.
 #![tactic(auto)]
 
-ghost use Rattle.slot_laws.specs.Laws.{CodeGoesOn, CodeRunsAsTree, CodeShaped, RanksFall};
+ghost use Rattle.slot_laws.specs.Laws.{CodeGoesOn, CodeRunsEachWay, CodeRunsAsTree, CodeShaped, RanksFall};
 
 /// A run from a place is the run from where the instruction there leads: each instruction takes a turn or goes forward.
 pub fn code_goes_on()
@@ -16,6 +16,12 @@ pub fn ranks_fall()
 /// The code of a typed tree stores no more and no fewer values into an object than it has elements.
 pub fn code_shaped()
     ensures { CodeShaped }
+{}
+
+/// The code of a typed tree runs as the tree with each arithmetic that is C's on operands of the kinds, and each way to keep values
+/// in objects that leaves those of the objects' kinds.
+pub fn code_runs_each_way()
+    ensures { CodeRunsEachWay }
 {}
 
 /// The code of a typed tree runs as the tree, whatever the slots hold before, where each function stands behind those that it

@@ -3,6 +3,7 @@ use Rattle.std.proofs.Common.{◌≡◌, ℕ, ◌<◌, List, Some, None, sym, ap
 use Rattle.std.specs.Prelude.{slice_get}
 use Rattle.lv_base.specs.declared.kind.Model.{Model}
 use Rattle.c_run.specs.Run.{State, Compute}
+use Rattle.typed_range_laws.specs.Ways.{as_it_is}
 use Rattle.slot_code.specs.declared.flat.Instruction.{Instruction}
 use Rattle.slot_code.specs.declared.reply.Ending.{Ending}
 use Rattle.slot_code.specs.declared.reply.Ending.TheVariants as ending
@@ -17,7 +18,7 @@ module _ (model : Model) (compute : Compute) (inputs : List ℤ) (code : List In
   leads : (place : ℕ) (x : Instruction) (slots : List ℤ) (st : State) (n : Next) → slice_get code place ≡ Some x → n ≡ act model compute inputs x place slots st →
       all (machine place slots st) ≡ onward model compute inputs code n (run_from model compute inputs code)
   leads place x slots st n at h =
-      goes_on model compute inputs code (machine place slots st)
+      goes_on model compute inputs as_it_is code (machine place slots st)
       ∙ ap (λ o. onward model compute inputs code (act_at model compute inputs o (machine place slots st)) (run_from model compute inputs code)) at
       ∙ ap (λ k. onward model compute inputs code k (run_from model compute inputs code)) (sym h)
 
@@ -31,10 +32,10 @@ module _ (model : Model) (compute : Compute) (inputs : List ℤ) (code : List In
 
   pub runs_behind : (place : ℕ) (slots : List ℤ) (st : State) → slice_get code place ≡ None → ending.Ended ≡ run_from model compute inputs code (machine place slots st)
   runs_behind place slots st b =
-      sym (goes_on model compute inputs code (machine place slots st)
+      sym (goes_on model compute inputs as_it_is code (machine place slots st)
       ∙ ap (λ o. onward model compute inputs code (act_at model compute inputs o (machine place slots st)) (run_from model compute inputs code)) b)
 
   pub rank_falls : (place : ℕ) (x : Instruction) (slots : List ℤ) (st : State) (m : Machine) → slice_get code place ≡ Some x → Goes m ≡ act model compute inputs x place slots st →
       rank model compute inputs code m < rank model compute inputs code (machine place slots st)
   rank_falls place x slots st m at h =
-      subst (Falls model compute inputs code (machine place slots st)) (ap (λ o. act_at model compute inputs o (machine place slots st)) at ∙ sym h) (ranks_fall model compute inputs code (machine place slots st))
+      subst (Falls model compute inputs code (machine place slots st)) (ap (λ o. act_at model compute inputs o (machine place slots st)) at ∙ sym h) (ranks_fall model compute inputs as_it_is code (machine place slots st))

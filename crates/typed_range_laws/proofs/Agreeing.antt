@@ -1,6 +1,7 @@
--- Two runs that agree as long as each object holds values of its kind: one tests its operands, the other does not.
+-- Two runs that agree as long as each object holds values of its kind: both compute as C does on operands of the kinds,
+-- and one keeps in its objects what leaves the values of their kinds.
 use Rattle.std.proofs.Common.{◌≡◌, ℕ, zero, suc, Bool, true, false, List, [], ◌∷◌, ◌++◌, replicate, Option, Some, None, Result, Ok, Err, ℤ, pos, slice_get, slice_set, slice_index_or, refl, sym, ap, ◌∙◌, subst, if◌then◌else◌}
-use Rattle.std.specs.Prelude.{IfOk, int_le, int_lt, ◌&&◌, unsigned_abs}
+use Rattle.std.specs.Prelude.{IfOk, int_le, int_lt, ◌&&◌, unsigned_abs, map}
 use Rattle.lv_base.specs.declared.kind.Kind.{Kind}
 use Rattle.lv_base.specs.declared.kind.Kind.TheVariants as kind
 use Rattle.lv_base.specs.declared.kind.Model.{Model}
@@ -20,9 +21,9 @@ use Rattle.c_typed.specs.Tree.{Object}
 use Rattle.c_typed.specs.Facts.{is_comparison, when}
 use Rattle.c_typed.specs.Facts as facts
 use Rattle.c_typed.specs.Run.{promoted}
-use Rattle.typed_range_laws.specs.Guards.{guarded}
+use Rattle.typed_range_laws.specs.Ways.{Agrees, Keep, Keeps, write_kept}
 use Rattle.typed_range_laws.proofs.Bounds.{truth_in_range}
-use Rattle.typed_range_laws.proofs.Ranging.{guard_open, converted_in_range, arith_fine, tested_in_range}
+use Rattle.typed_range_laws.proofs.Ranging.{converted_in_range, arith_fine, tested_in_range}
 
 -- an element behind a write
 pub set_at : {X : Type 0} (P : X → Type 0) (xs : List X) (i : ℕ) (v : X) (j : ℕ) (d : X) → (j ≡ i → P v) → P (slice_index_or xs j d) → P (slice_index_or (slice_set xs i v) j d)
@@ -173,39 +174,26 @@ module _ (model : Model) (objects : List Object) where
       binds ℤ (List ℤ) (InRange k model) (Each k) (draw inputs model k) (draw inputs model k) _ _ (draws inputs k)
       (λ v h. binds (List ℤ) (List ℤ) (Each k) (Each k) (draw_all inputs model k count) (draw_all inputs model k count) _ _ (all_draws inputs k count) (λ vs e. gives (List ℤ) (Each k) (v ∷ vs) (each_more k v vs h e)))
 
+  -- the same where a value that gets into an object becomes what is kept of it
+  module _ (keep : Keep) (keeps : Keeps model objects keep) where
+    pub writes_kept : (k : Kind) (e : Element) (v : ℤ) → Within k e → InRange k model v → Alike ℤ (InRange k model) (write_kept keep e v) (write e v)
+    writes_kept k e v w h =
+        subst (λ x. Alike ℤ (InRange k model) (λ st. after (write e x st) (λ z. give v)) (write e v)) (sym (keeps.same e.object w.0 v w.1 (subst (λ z. InRange z model v) (sym w.2) h))) (writes k e v w h)
+
+    pub all_kept : (o : ℕ) (told : Object) (vs : List ℤ) → slice_get objects o ≡ Some told → Each told.kind vs → map (keep o) vs ≡ vs
+    all_kept o told [] there h = refl
+    all_kept o told (v ∷ vs) there h = ap (λ x. x ∷ map (keep o) vs) (keeps.same o told v there (h zero)) ∙ ap (λ xs. v ∷ xs) (all_kept o told vs there (λ i. h (suc i)))
+
   -- ---- Operations
-
-  abbrev pub plain : Compute
-  plain o k x y = arith_of o k model x y
-
-  abbrev pub tested : Compute
-  tested o k x y = guarded model o k x y
 
   computed_ranged : (P : ℤ → Type 0) (at : ℕ) (r : Result ℤ ErrorKind) (st : State) → Good st.store → IfOk r P → Ranged ℤ P (computed at r st)
   unfolding Ranged
   computed_ranged P at (Ok v) st g h = (h, g)
   computed_ranged P at (Err e) st g h = tt
 
-  -- in range of its kind, or of another where the result is
-  computes_in : (P : ℤ → Type 0) (o : Op) (k : Kind) (at : ℕ) (x y : ℤ) → is_promoted k ≡ true → InRange k model x → IsRight o k model y → IfOk (plain o k x y) P → Alike ℤ P (computed at (tested o k x y)) (computed at (plain o k x y))
-  computes_in P o k at x y p h r f st g = (ap (λ z. computed at z st) (guard_open o k model x y p h r), computed_ranged P at (plain o k x y) st g f)
-
-  pub computes : (o : Op) (k : Kind) (at : ℕ) (x y : ℤ) → is_promoted k ≡ true → InRange k model x → IsRight o k model y → Alike ℤ (InRange k model) (computed at (tested o k x y)) (computed at (plain o k x y))
-  computes o k at x y p h r = computes_in (InRange k model) o k at x y p h r (arith_fine k model o x y h)
-
   negated_in : (n : Bool) (v : ℤ) → InRange kind.Int model v → InRange kind.Int model (negated n v)
   negated_in true v h = truth_in_range kind.Int model (is_zero v)
   negated_in false v h = h
-
-  compares : (o : Op) (n : Bool) (k : Kind) (at : ℕ) (x y : ℤ) (b : Bool) → is_promoted k ≡ true → InRange k model x → IsRight o k model y → plain o k x y ≡ Ok (truth b) →
-      Alike ℤ (InRange kind.Int model) (λ st. after (computed at (tested o k x y) st) (λ v. give (negated n v))) (λ st. after (computed at (plain o k x y) st) (λ v. give (negated n v)))
-  compares o n k at x y b p h r e =
-      binds ℤ ℤ (InRange kind.Int model) (InRange kind.Int model) (computed at (tested o k x y)) (computed at (plain o k x y)) _ _
-      (computes_in (InRange kind.Int model) o k at x y p h r (subst (λ z. IfOk z (InRange kind.Int model)) (sym e) (truth_in_range kind.Int model b))) (λ v hv. gives ℤ (InRange kind.Int model) (negated n v) (negated_in n v hv))
-
-  operates : (o : Op) (k : Kind) (at : ℕ) (x y : ℤ) → is_promoted k ≡ true → InRange k model x → IsRight o k model y →
-      Alike ℤ (InRange k model) (λ st. after (computed at (tested o k x y) st) (λ v. give v)) (λ st. after (computed at (plain o k x y) st) (λ v. give v))
-  operates o k at x y p h r = binds ℤ ℤ (InRange k model) (InRange k model) (computed at (tested o k x y)) (computed at (plain o k x y)) _ _ (computes o k at x y p h r) (λ v hv. gives ℤ (InRange k model) v hv)
 
   -- an operator on its operands
   abbrev pub applied_by : Compute → ℕ → BinaryOp → Kind → ℤ → ℤ → Run ℤ
@@ -215,26 +203,6 @@ module _ (model : Model) (objects : List Object) where
   pub record RightIs (o : BinaryOp) (k : Kind) (y : ℤ) : Type 0 where
     pub shifting : facts.is_shift o ≡ true → InAny y
     pub other : facts.is_shift o ≡ false → InRange k model y
-
-  pub applies : (o : BinaryOp) (k : Kind) (at : ℕ) (x y : ℤ) → is_promoted k ≡ true → is_logical o ≡ false → InRange k model x → RightIs o k y → Alike ℤ (InRange (when (is_comparison o) kind.Int k) model) (applied_by tested at o k x y) (applied_by plain at o k x y)
-  applies op.OrElse k at x y p l h r = absurd cc
-  applies op.AndAlso k at x y p l h r = absurd cc
-  applies op.BitOr k at x y p l h r = operates arith'.Or k at x y p h (r.other refl)
-  applies op.BitXor k at x y p l h r = operates arith'.Xor k at x y p h (r.other refl)
-  applies op.BitAnd k at x y p l h r = operates arith'.And k at x y p h (r.other refl)
-  applies op.Equal k at x y p l h r = compares arith'.Equal false k at x y (int_le x y && int_le y x) p h (r.other refl) refl
-  applies op.NotEqual k at x y p l h r = compares arith'.Equal true k at x y (int_le x y && int_le y x) p h (r.other refl) refl
-  applies op.Less k at x y p l h r = compares arith'.Less false k at x y (int_lt x y) p h (r.other refl) refl
-  applies op.Greater k at x y p l h r = compares arith'.Less false k at y x (int_lt y x) p (r.other refl) h refl
-  applies op.LessEqual k at x y p l h r = compares arith'.LessEqual false k at x y (int_le x y) p h (r.other refl) refl
-  applies op.GreaterEqual k at x y p l h r = compares arith'.LessEqual false k at y x (int_le y x) p (r.other refl) h refl
-  applies op.ShiftLeft k at x y p l h r = operates arith'.Shl k at x y p h (r.shifting refl)
-  applies op.ShiftRight k at x y p l h r = operates arith'.Shr k at x y p h (r.shifting refl)
-  applies op.Add k at x y p l h r = operates arith'.Add k at x y p h (r.other refl)
-  applies op.Subtract k at x y p l h r = operates arith'.Sub k at x y p h (r.other refl)
-  applies op.Multiply k at x y p l h r = operates arith'.Mul k at x y p h (r.other refl)
-  applies op.Divide k at x y p l h r = operates arith'.Div k at x y p h (r.other refl)
-  applies op.Remainder k at x y p l h r = operates arith'.Rem k at x y p h (r.other refl)
 
   promoted_is : (k : Kind) → is_promoted (promoted k) ≡ true
   promoted_is k = go (is_promoted k) refl
@@ -246,15 +214,56 @@ module _ (model : Model) (objects : List Object) where
   abbrev pub stepped_by : Compute → ℕ → Crement → Kind → Element → ℤ → Run ℤ
   stepped_by c at b k e v st = after (computed at (c (crement_op b) (promoted k) (converted (promoted k) model v) (pos 1)) st) (λ new. write e (converted k model new))
 
-  pub steps : (b : Crement) (k : Kind) (at : ℕ) (e : Element) (v : ℤ) → Within k e → Alike ℤ (InRange k model) (stepped_by tested at b k e v) (stepped_by plain at b k e v)
-  steps b k at e v w =
-      binds ℤ ℤ (InRange (promoted k) model) (InRange k model) (computed at (tested (crement_op b) (promoted k) (converted (promoted k) model v) (pos 1))) (computed at (plain (crement_op b) (promoted k) (converted (promoted k) model v) (pos 1))) _ _
-      (computes (crement_op b) (promoted k) at (converted (promoted k) model v) (pos 1) (promoted_is k) (converted_in_range (promoted k) model v) (one_right b))
-      (λ new h. writes k e (converted k model new) w (converted_in_range k model new))
-    where
-      one_right : (b : Crement) → IsRight (crement_op b) (promoted k) model (pos 1)
-      one_right by.Increment = truth_in_range (promoted k) model true
-      one_right by.Decrement = truth_in_range (promoted k) model true
+  -- the same by each two that agree with C's
+  module _ (compute compute' : Compute) (agrees : Agrees model compute) (agrees' : Agrees model compute') where
+    -- in range of its kind, or of another where the result is
+    computes_in : (P : ℤ → Type 0) (o : Op) (k : Kind) (at : ℕ) (x y : ℤ) → is_promoted k ≡ true → InRange k model x → IsRight o k model y → IfOk (arith_of o k model x y) P → Alike ℤ P (computed at (compute o k x y)) (computed at (compute' o k x y))
+    computes_in P o k at x y p h r f st g =
+        let e : compute' o k x y ≡ arith_of o k model x y = agrees'.same o k x y p h r in
+        (ap (λ z. computed at z st) (agrees.same o k x y p h r ∙ sym e), computed_ranged P at (compute' o k x y) st g (subst (λ z. IfOk z P) (sym e) f))
+
+    pub computes : (o : Op) (k : Kind) (at : ℕ) (x y : ℤ) → is_promoted k ≡ true → InRange k model x → IsRight o k model y → Alike ℤ (InRange k model) (computed at (compute o k x y)) (computed at (compute' o k x y))
+    computes o k at x y p h r = computes_in (InRange k model) o k at x y p h r (arith_fine k model o x y h)
+
+    compares : (o : Op) (n : Bool) (k : Kind) (at : ℕ) (x y : ℤ) (b : Bool) → is_promoted k ≡ true → InRange k model x → IsRight o k model y → arith_of o k model x y ≡ Ok (truth b) →
+        Alike ℤ (InRange kind.Int model) (λ st. after (computed at (compute o k x y) st) (λ v. give (negated n v))) (λ st. after (computed at (compute' o k x y) st) (λ v. give (negated n v)))
+    compares o n k at x y b p h r e =
+        binds ℤ ℤ (InRange kind.Int model) (InRange kind.Int model) (computed at (compute o k x y)) (computed at (compute' o k x y)) _ _
+        (computes_in (InRange kind.Int model) o k at x y p h r (subst (λ z. IfOk z (InRange kind.Int model)) (sym e) (truth_in_range kind.Int model b))) (λ v hv. gives ℤ (InRange kind.Int model) (negated n v) (negated_in n v hv))
+
+    operates : (o : Op) (k : Kind) (at : ℕ) (x y : ℤ) → is_promoted k ≡ true → InRange k model x → IsRight o k model y →
+        Alike ℤ (InRange k model) (λ st. after (computed at (compute o k x y) st) (λ v. give v)) (λ st. after (computed at (compute' o k x y) st) (λ v. give v))
+    operates o k at x y p h r = binds ℤ ℤ (InRange k model) (InRange k model) (computed at (compute o k x y)) (computed at (compute' o k x y)) _ _ (computes o k at x y p h r) (λ v hv. gives ℤ (InRange k model) v hv)
+
+    pub applies : (o : BinaryOp) (k : Kind) (at : ℕ) (x y : ℤ) → is_promoted k ≡ true → is_logical o ≡ false → InRange k model x → RightIs o k y → Alike ℤ (InRange (when (is_comparison o) kind.Int k) model) (applied_by compute at o k x y) (applied_by compute' at o k x y)
+    applies op.OrElse k at x y p l h r = absurd cc
+    applies op.AndAlso k at x y p l h r = absurd cc
+    applies op.BitOr k at x y p l h r = operates arith'.Or k at x y p h (r.other refl)
+    applies op.BitXor k at x y p l h r = operates arith'.Xor k at x y p h (r.other refl)
+    applies op.BitAnd k at x y p l h r = operates arith'.And k at x y p h (r.other refl)
+    applies op.Equal k at x y p l h r = compares arith'.Equal false k at x y (int_le x y && int_le y x) p h (r.other refl) refl
+    applies op.NotEqual k at x y p l h r = compares arith'.Equal true k at x y (int_le x y && int_le y x) p h (r.other refl) refl
+    applies op.Less k at x y p l h r = compares arith'.Less false k at x y (int_lt x y) p h (r.other refl) refl
+    applies op.Greater k at x y p l h r = compares arith'.Less false k at y x (int_lt y x) p (r.other refl) h refl
+    applies op.LessEqual k at x y p l h r = compares arith'.LessEqual false k at x y (int_le x y) p h (r.other refl) refl
+    applies op.GreaterEqual k at x y p l h r = compares arith'.LessEqual false k at y x (int_le y x) p (r.other refl) h refl
+    applies op.ShiftLeft k at x y p l h r = operates arith'.Shl k at x y p h (r.shifting refl)
+    applies op.ShiftRight k at x y p l h r = operates arith'.Shr k at x y p h (r.shifting refl)
+    applies op.Add k at x y p l h r = operates arith'.Add k at x y p h (r.other refl)
+    applies op.Subtract k at x y p l h r = operates arith'.Sub k at x y p h (r.other refl)
+    applies op.Multiply k at x y p l h r = operates arith'.Mul k at x y p h (r.other refl)
+    applies op.Divide k at x y p l h r = operates arith'.Div k at x y p h (r.other refl)
+    applies op.Remainder k at x y p l h r = operates arith'.Rem k at x y p h (r.other refl)
+
+    pub steps : (b : Crement) (k : Kind) (at : ℕ) (e : Element) (v : ℤ) → Within k e → Alike ℤ (InRange k model) (stepped_by compute at b k e v) (stepped_by compute' at b k e v)
+    steps b k at e v w =
+        binds ℤ ℤ (InRange (promoted k) model) (InRange k model) (computed at (compute (crement_op b) (promoted k) (converted (promoted k) model v) (pos 1))) (computed at (compute' (crement_op b) (promoted k) (converted (promoted k) model v) (pos 1))) _ _
+        (computes (crement_op b) (promoted k) at (converted (promoted k) model v) (pos 1) (promoted_is k) (converted_in_range (promoted k) model v) (one_right b))
+        (λ new h. writes k e (converted k model new) w (converted_in_range k model new))
+      where
+        one_right : (b : Crement) → IsRight (crement_op b) (promoted k) model (pos 1)
+        one_right by.Increment = truth_in_range (promoted k) model true
+        one_right by.Decrement = truth_in_range (promoted k) model true
 
   -- ---- Statements
 

@@ -1,2 +1,4 @@
 pub mod Guards
+pub mod Ways
+pub mod Keeping
 pub mod Laws
