@@ -16,3 +16,4 @@ pub mod Trimming
 pub mod Operating
 pub mod Checking
 pub mod Following
+pub mod Putting

@@ -5,7 +5,8 @@ use Rattle.std.proofs.lemmas.Bool.{cases_lt}
 use Rattle.std.proofs.lemmas.List.{length-map, length-replicate, set_past}
 use Rattle.lv_base.specs.declared.kind.Kind.{Kind}
 use Rattle.lv_base.specs.declared.kind.Model.{Model}
-use Rattle.lv_base.specs.Integers.{InRange, InAny, residue, width_of, converted, arith_of, is_shift, is_promoted}
+use Rattle.lv_base.specs.declared.kind.Op.{Op}
+use Rattle.lv_base.specs.Integers.{InRange, InAny, residue, width_of, converted, arith_of, is_shift, is_promoted, IsRight}
 use Rattle.c_run.specs.Run.{padded}
 use Rattle.c_typed.specs.declared.tree.Object.{Object}
 use Rattle.c_typed.specs.Run.{kind_of}
@@ -23,7 +24,7 @@ use Rattle.code_moves.specs.Values.{slot_value}
 use Rattle.code_moves.specs.Deeds.{Sets}
 use Rattle.code_moves.specs.Moves.{fills, writes, index_value, begun, begins_first, begins_in, binds_in}
 use Rattle.layout_laws.specs.Serve.{HasSlot}
-use Rattle.code_move_laws.specs.Ways.{objects_of, trimmed, trimming}
+use Rattle.code_move_laws.specs.Ways.{objects_of, converting, trimmed, trimming}
 use Rattle.code_move_laws.specs.Mirrors.{IsLaid, Mirrors, row}
 use Rattle.code_move_laws.specs.Trims.{TrimmingKeeps, ConvertingAgrees, StoresTrim, BeginsTrim, BindsTrim}
 use Rattle.code_move_laws.proofs.Numbers.{wrapped_same}
@@ -37,7 +38,7 @@ use Rattle.code_move_laws.proofs.Rows.{stored-rows}
 -- ---- Values
 
 pub trimming-keeps : TrimmingKeeps
-trimming-keeps model objects object told v e range = ap (λ o. trimmed (kind_of o) model v) e ∙ wrapped_same told.kind model v range
+trimming-keeps model objects = record { same = λ object told v e range. ap (λ o. trimmed (kind_of o) model v) e ∙ wrapped_same told.kind model v range }
 
 converted-same : (kind : Kind) (model : Model) (v : ℤ) → is_promoted kind ≡ true → InRange kind model v → converted kind model v ≡ v
 converted-same kind model v p h = converted_promoted kind model v p ∙ wrapped_same kind model v h
@@ -46,10 +47,13 @@ right-same : (b : Bool) (kind : Kind) (model : Model) (v : ℤ) → is_promoted 
 right-same true kind model v p h = refl
 right-same false kind model v p h = converted-same kind model v p h
 
-pub converting-agrees : ConvertingAgrees
-converting-agrees model op kind left right p h r =
+operands-same : (model : Model) (op : Op) (kind : Kind) (left right : ℤ) → is_promoted kind ≡ true → InRange kind model left → IsRight op kind model right → converting model op kind left right ≡ arith_of op kind model left right
+operands-same model op kind left right p h r =
     ap (λ (a : ℤ). arith_of op kind model a (if is_shift op then right else converted kind model right)) (converted-same kind model left p h)
     ∙ ap (arith_of op kind model left) (right-same (is_shift op) kind model right p r)
+
+pub converting-agrees : ConvertingAgrees
+converting-agrees model = record { same = operands-same model }
 
 trimmed-bits : (kind : Kind) (model : Model) (v : ℤ) → residue (width_of kind model) v ≡ residue (width_of kind model) (trimmed kind model v)
 trimmed-bits kind model v = sym (wrapped_back kind model (residue (width_of kind model) v) (residue_below (width_of kind model) v))

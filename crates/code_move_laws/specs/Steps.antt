@@ -9,7 +9,7 @@ use Rattle.slot_code.specs.declared.flat.Instruction.{Instruction}
 use Rattle.slot_code.specs.declared.flat.Instruction.TheVariants as i
 use Rattle.slot_code.specs.declared.reply.Ending.TheVariants as ending
 use Rattle.slot_code.specs.Slots.{get}
-use Rattle.slot_code.specs.Machine.{Machine, Next, Goes, Over, act}
+use Rattle.slot_code.specs.Machine.{Machine, Next, Goes, Over, act_with}
 use Rattle.slot_laws.specs.Laws.{IsShaped}
 use Rattle.c_graph.specs.Shape.{widths_of}
 use Rattle.word_laws.specs.Laws.{first_met}
@@ -20,7 +20,7 @@ use Rattle.cfg_build.specs.Steps.{offset_of}
 use Rattle.layout_laws.specs.Serve.{Serves}
 use Rattle.code_move_laws.specs.Mirrors.{IsLaid, Mirrors}
 use Rattle.code_move_laws.specs.Doing.{Reaches}
-use Rattle.code_move_laws.specs.Ways.{objects_of, converting}
+use Rattle.code_move_laws.specs.Ways.{objects_of, converting, trimming}
 
 -- ---- What holds of instructions, and of slots before them
 
@@ -52,9 +52,6 @@ IsReady objects slots _ = Unit {0}
 
 -- an instruction behind which the next one stands
 abbrev pub IsPlain : Instruction → Type 0
-IsPlain (i.Store slot object) = ⊥
-IsPlain (i.Begin slot object count values) = ⊥
-IsPlain (i.Bind slot object) = ⊥
 IsPlain (i.Jump skip) = ⊥
 IsPlain (i.Turn at goal) = ⊥
 IsPlain (i.SkipZero slot skip) = ⊥
@@ -79,7 +76,7 @@ Agrees g inputs x m store (Over (ending.Error kind at taken)) =
 Agrees g inputs x m store (Over _) = Unit {0}
 
 abbrev pub acted : Setting → List ℤ → Instruction → Machine → Next
-acted g inputs x m = act g.model (λ op kind a b. converting g.model op kind a b) inputs x m.place m.slots m.st
+acted g inputs x m = act_with g.model (λ op kind a b. converting g.model op kind a b) inputs (λ object v. trimming g.model (objects_of g) object v) x m.place m.slots m.st
 
 abbrev pub StepsAgree : Type 0
 StepsAgree =

@@ -1,12 +1,10 @@
 -- Instructions that put values of slots into objects: an element gets the low bits of the value, so the object keeps the value of its
 -- kind that has these low bits.
-use Rattle.std.specs.Prelude.{ℕ, suc, ◌≡◌, true, List, [], ◌∷◌, map, Some, slice_get, slice_set, ℤ, unsigned_abs}
-use Rattle.lv_base.specs.declared.kind.Kind.{Kind}
+use Rattle.std.specs.Prelude.{ℕ, suc, List, [], ◌∷◌, map, slice_get, slice_set, ℤ, unsigned_abs}
 use Rattle.lv_base.specs.declared.kind.Model.{Model}
-use Rattle.lv_base.specs.declared.kind.Op.{Op}
-use Rattle.lv_base.specs.Integers.{InRange, IsRight, arith_of, is_promoted}
 use Rattle.c_run.specs.Run.{padded}
 use Rattle.c_typed.specs.Tree.{Object}
+use Rattle.typed_range_laws.specs.Ways.{Agrees, Keeps}
 use Rattle.slot_code.specs.declared.flat.Instruction.{Instruction}
 use Rattle.slot_code.specs.declared.flat.Instruction.TheVariants as i
 use Rattle.slot_code.specs.Slots.{get, put, slots_from}
@@ -22,11 +20,11 @@ use Rattle.code_move_laws.specs.Steps.{IsIndexOf}
 
 -- A value of the object's kind stays as it is.
 abbrev pub TrimmingKeeps : Type 0
-TrimmingKeeps = (model : Model) (objects : List Object) (object : ℕ) (told : Object) (v : ℤ) → slice_get objects object ≡ Some told → InRange told.kind model v → trimming model objects object v ≡ v
+TrimmingKeeps = (model : Model) (objects : List Object) → Keeps model objects (λ object v. trimming model objects object v)
 
 -- Arithmetic that converts its operands first is C's where they are of the kind.
 abbrev pub ConvertingAgrees : Type 0
-ConvertingAgrees = (model : Model) (op : Op) (kind : Kind) (left right : ℤ) → is_promoted kind ≡ true → InRange kind model left → IsRight op kind model right → converting model op kind left right ≡ arith_of op kind model left right
+ConvertingAgrees = (model : Model) → Agrees model (λ op kind a b. converting model op kind a b)
 
 -- the instruction's deeds lead to a store that mirrors these slots and values
 abbrev pub LeadsTo : Setting → Instruction → List ℕ → List ℤ → List (List ℤ) → Type 0
