@@ -50,7 +50,7 @@ IsReady objects slots (i.Update slot o k l at object) = IsIndexOf (slice_get obj
 IsReady objects slots (i.Change slot before by k at object) = IsIndexOf (slice_get objects object) (get slots slot)
 IsReady objects slots _ = Unit {0}
 
--- an instruction behind which the next one stands, and which puts no value of a slot into an object: those are in Trims
+-- an instruction behind which the next one stands
 abbrev pub IsPlain : Instruction → Type 0
 IsPlain (i.Jump skip) = ⊥
 IsPlain (i.Turn at goal) = ⊥
