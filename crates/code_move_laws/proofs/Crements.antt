@@ -26,8 +26,9 @@ use Rattle.code_moves.specs.Deeds.{Sets}
 use Rattle.code_moves.specs.Moves.{moves_of, fills, writes, index_value, old_value, new_value, step_of, changes, kept_in, kept_cell, kept_deeds, kept_value, step_behind}
 use Rattle.layout_laws.specs.Differ.{OfSlot, OfElement, OfIndex}
 use Rattle.layout_laws.specs.Serve.{HasSlot, Serves}
+use Rattle.code_move_laws.specs.Ways.{objects_of}
 use Rattle.code_move_laws.specs.Mirrors.{IsLaid, row, element_of, Mirrors}
-use Rattle.code_move_laws.specs.Steps.{IsIndexOf, objects_of, Agrees, acted}
+use Rattle.code_move_laws.specs.Steps.{IsIndexOf, Agrees, acted}
 use Rattle.cfg_build.specs.Steps.{offset_of}
 use Rattle.code_move_laws.proofs.Stores.{W, beside, free-set, read-put, unread-put, element-same, not-part}
 use Rattle.code_move_laws.proofs.Reaching.{Comes, behind, behind-at, slot-read, fill}

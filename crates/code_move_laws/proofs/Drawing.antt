@@ -24,9 +24,10 @@ use Rattle.code_moves.specs.Deeds.{Draws}
 use Rattle.code_moves.specs.Moves.{fills, draws_to, draws_in, draws_first}
 use Rattle.layout_laws.specs.Differ.{OfElement, OfSlot, OfDraws}
 use Rattle.layout_laws.specs.Serve.{Serves}
+use Rattle.code_move_laws.specs.Ways.{objects_of}
 use Rattle.code_move_laws.specs.Mirrors.{IsLaid, Mirrors}
 use Rattle.code_move_laws.specs.Doing.{did, did_all, Reaches}
-use Rattle.code_move_laws.specs.Steps.{objects_of, Agrees, acted}
+use Rattle.code_move_laws.specs.Steps.{Agrees, acted}
 use Rattle.code_move_laws.proofs.Numbers.{in_draw, modulo_is}
 use Rattle.code_move_laws.proofs.Stores.{W, free-set, element-wide, not-part}
 use Rattle.code_move_laws.proofs.Reaching.{Comes, behind-at, fill, nothing}

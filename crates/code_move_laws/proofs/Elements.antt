@@ -27,8 +27,9 @@ use Rattle.code_moves.specs.Values.{slot_value, element_in, element_value, scala
 use Rattle.code_moves.specs.Deeds.{Sets, SetsAt}
 use Rattle.code_moves.specs.Moves.{writes, writes_in}
 use Rattle.layout_laws.specs.Serve.{HasSlot}
+use Rattle.code_move_laws.specs.Ways.{objects_of}
 use Rattle.code_move_laws.specs.Mirrors.{IsLaid, row, element_of, Holds, Mirrors}
-use Rattle.code_move_laws.specs.Steps.{IsIndexOf, objects_of}
+use Rattle.code_move_laws.specs.Steps.{IsIndexOf}
 use Rattle.code_move_laws.proofs.Numbers.{number_slot, wrapped_same}
 use Rattle.code_move_laws.proofs.Stores.{element-set}
 use Rattle.code_move_laws.proofs.Reaching.{Comes, slot-read}

@@ -12,3 +12,8 @@ pub mod Drawing
 pub mod Skipping
 pub mod Laying
 pub mod Whole
+pub mod Trimming
+pub mod Operating
+pub mod Checking
+pub mod Following
+pub mod Putting

@@ -24,8 +24,9 @@ use Rattle.code_moves.specs.Setting.{Setting}
 use Rattle.code_moves.specs.Values.{slot_value, index_fails, taken}
 use Rattle.code_moves.specs.Moves.{old_value}
 use Rattle.layout_laws.specs.Serve.{HasSlot, Serves}
+use Rattle.code_move_laws.specs.Ways.{objects_of}
 use Rattle.code_move_laws.specs.Mirrors.{IsLaid, element_of, Mirrors}
-use Rattle.code_move_laws.specs.Steps.{objects_of, Agrees, acted}
+use Rattle.code_move_laws.specs.Steps.{Agrees, acted}
 use Rattle.code_move_laws.proofs.Reaching.{nothing}
 use Rattle.code_move_laws.proofs.Elements.{size-few, reached, element-read, element-any}
 use Rattle.code_move_laws.proofs.Plain.{onward, filled-by, says}

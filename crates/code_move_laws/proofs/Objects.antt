@@ -24,8 +24,9 @@ use Rattle.code_moves.specs.Setting.{Setting}
 use Rattle.code_moves.specs.Values.{slot_value, failures_of, applied, tested}
 use Rattle.code_moves.specs.Moves.{moves_of, fills, writes, stores, index_value, old_value, updated_value}
 use Rattle.layout_laws.specs.Serve.{HasSlot, Serves}
+use Rattle.code_move_laws.specs.Ways.{objects_of}
 use Rattle.code_move_laws.specs.Mirrors.{IsLaid, row, element_of, Mirrors}
-use Rattle.code_move_laws.specs.Steps.{IsIndexOf, objects_of, Agrees, acted}
+use Rattle.code_move_laws.specs.Steps.{IsIndexOf, Agrees, acted}
 use Rattle.cfg_build.specs.Steps.{offset_of}
 use Rattle.code_move_laws.proofs.Reaching.{Comes, behind, slot-read, fill}
 use Rattle.code_move_laws.proofs.Elements.{Reached, reached, element-read, element-any, told-kind}

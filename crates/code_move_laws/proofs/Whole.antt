@@ -6,6 +6,7 @@ use Rattle.code_move_laws.proofs.Located.{element-step, locate-step, take-step}
 use Rattle.code_move_laws.proofs.Objects.{load-step, update-step}
 use Rattle.code_move_laws.proofs.Crements.{change-step}
 use Rattle.code_move_laws.proofs.Drawing.{draw-step, fill-step}
+use Rattle.code_move_laws.proofs.Putting.{store-step, begin-step, bind-step}
 
 pub steps : StepsAgree
 steps g inputs (i.Constant slot v) m store laid serves shaped fit plain ready h = constant g inputs m store laid h slot v fit
@@ -13,7 +14,7 @@ steps g inputs (i.Read slot object) m store laid serves shaped fit plain ready h
 steps g inputs (i.Element slot at object count) m store laid serves shaped fit plain ready h = element-step g inputs m store laid h slot at object count fit serves
 steps g inputs (i.Locate slot at object count) m store laid serves shaped fit plain ready h = locate-step g inputs m store laid h slot at object count fit serves
 steps g inputs (i.Load slot object) m store laid serves shaped fit plain ready h = load-step g inputs m store laid h slot object ready serves
-steps g inputs (i.Store slot object) m store laid serves shaped fit plain ready h = absurd plain
+steps g inputs (i.Store slot object) m store laid serves shaped fit plain ready h = store-step g inputs m store laid h slot object ready serves
 steps g inputs (i.Convert slot k) m store laid serves shaped fit plain ready h = convert g inputs m store laid h slot k serves
 steps g inputs (i.Negate slot k at) m store laid serves shaped fit plain ready h = negate g inputs m store laid h slot at k fit serves
 steps g inputs (i.Complement slot k at) m store laid serves shaped fit plain ready h = complements g inputs m store laid h slot at k fit serves
@@ -24,8 +25,8 @@ steps g inputs (i.Update slot o k l at object) m store laid serves shaped fit pl
 steps g inputs (i.Change slot before by k at object) m store laid serves shaped fit plain ready h = change-step g inputs m store laid h slot at object before by k fit ready serves
 steps g inputs (i.Draw slot k) m store laid serves shaped fit plain ready h = draw-step g inputs m store laid h slot k serves
 steps g inputs (i.Fill object k count) m store laid serves shaped fit plain ready h = fill-step g inputs m store laid h object count k shaped fit
-steps g inputs (i.Begin slot object count values) m store laid serves shaped fit plain ready h = absurd plain
-steps g inputs (i.Bind slot object) m store laid serves shaped fit plain ready h = absurd plain
+steps g inputs (i.Begin slot object count values) m store laid serves shaped fit plain ready h = begin-step g inputs m store laid h slot object count values serves shaped
+steps g inputs (i.Bind slot object) m store laid serves shaped fit plain ready h = bind-step g inputs m store laid h slot object serves shaped
 steps g inputs (i.Take slot at from needed) m store laid serves shaped fit plain ready h = take-step g inputs m store laid h slot at from needed serves
 steps g inputs (i.Jump skip) m store laid serves shaped fit plain ready h = absurd plain
 steps g inputs (i.Turn at goal) m store laid serves shaped fit plain ready h = absurd plain

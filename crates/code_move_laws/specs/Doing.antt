@@ -1,7 +1,9 @@
 -- What deeds do to a store, with the values that they draw.
 use Rattle.std.specs.Prelude.{ℕ, ◌≡◌, List, [], ◌∷◌, Option, None, Some, slice_set, ℤ}
-use Rattle.c_graph.specs.Steps.{Moment, moment, stored_at, drawn}
-use Rattle.code_moves.specs.Deeds.{Deed, Sets, SetsAt, Draws}
+use Rattle.bv_term.specs.WellFormed.{Table}
+use Rattle.c_graph.specs.declared.graph.Operation.{Operation}
+use Rattle.c_graph.specs.Steps.{Moment, moment, stored_at, drawn, operated_all}
+use Rattle.code_moves.specs.Deeds.{Deed, Sets, SetsAt, Draws, AreDeeds}
 
 -- over cells of these widths
 abbrev pub did : List ℕ → Deed → Moment → Option Moment
@@ -18,3 +20,9 @@ did_all widths (d ∷ ds) (Some m) = did_all widths ds (did widths d m)
 -- the deeds lead from a store to another, and leave these of the values that are still to be drawn
 abbrev pub Reaches : List ℕ → List Deed → List ℕ → List ℤ → List ℕ → List ℤ → Type 0
 Reaches widths ds store inputs after rest = did_all widths ds (Some (moment store inputs)) ≡ Some (moment after rest)
+
+-- Operations that do these deeds lead there too.
+abbrev pub DeedsAreDone : Type 0
+DeedsAreDone =
+    (table : Table) (ops : List Operation) (ds : List Deed) (store : List ℕ) (inputs : List ℤ) (after : List ℕ) (rest : List ℤ) → AreDeeds table ops ds → Reaches table.cells ds store inputs after rest
+    → operated_all table ops (Some (moment store inputs)) ≡ Some (moment after rest)

@@ -1,5 +1,9 @@
 pub mod Mirrors
 pub mod Doing
+pub mod Ways
 pub mod Steps
 pub mod Skips
 pub mod Laid
+pub mod Trims
+pub mod Paths
+pub mod Stepping

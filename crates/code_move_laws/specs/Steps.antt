@@ -1,20 +1,18 @@
 -- What one instruction does to the machine and to the cells.
-use Rattle.std.specs.Prelude.{ℕ, suc, ◌<◌, ◌≡◌, true, false, List, [], ◌++◌, map, take, Option, None, Some, slice_get, ℤ, pos}
+use Rattle.std.specs.Prelude.{ℕ, suc, ◌<◌, ◌≡◌, true, false, List, [], ◌++◌, take, Option, None, Some, slice_get, ℤ, pos}
 use Rattle.lv_base.specs.declared.kind.Model.{Model}
 use Rattle.lv_base.specs.Integers.{InAny, is_promoted}
-use Rattle.c_run.specs.Run.{Compute}
 use Rattle.c_run.specs.Operators.{is_logical}
 use Rattle.c_typed.specs.Tree.{Object}
 use Rattle.c_typed.specs.Run.{size_of, kind_of}
-use Rattle.c_typed.specs.View.{object_of}
 use Rattle.slot_code.specs.declared.flat.Instruction.{Instruction}
 use Rattle.slot_code.specs.declared.flat.Instruction.TheVariants as i
 use Rattle.slot_code.specs.declared.reply.Ending.TheVariants as ending
 use Rattle.slot_code.specs.Slots.{get}
-use Rattle.slot_code.specs.Machine.{Machine, Next, Goes, Over, act}
+use Rattle.slot_code.specs.Machine.{Machine, Next, Goes, Over, act_with}
 use Rattle.slot_laws.specs.Laws.{IsShaped}
 use Rattle.c_graph.specs.Shape.{widths_of}
-use Rattle.word_laws.specs.Laws.{done, first_met}
+use Rattle.word_laws.specs.Laws.{first_met}
 use Rattle.code_moves.specs.Setting.{Setting}
 use Rattle.code_moves.specs.Values.{failures_of}
 use Rattle.code_moves.specs.Moves.{moves_of}
@@ -22,16 +20,9 @@ use Rattle.cfg_build.specs.Steps.{offset_of}
 use Rattle.layout_laws.specs.Serve.{Serves}
 use Rattle.code_move_laws.specs.Mirrors.{IsLaid, Mirrors}
 use Rattle.code_move_laws.specs.Doing.{Reaches}
-
--- the arithmetic of the graph: operands are converted to the operation's kind first
-abbrev pub converting : Model → Compute
-converting model op kind x y = done op kind model x y
+use Rattle.code_move_laws.specs.Ways.{objects_of, converting, trimming}
 
 -- ---- What holds of instructions, and of slots before them
-
--- the objects of the setting, as those of a typed tree
-abbrev pub objects_of : Setting → List Object
-objects_of g = map object_of g.objects
 
 -- Constants are of some kind, operations are in promoted kinds, an index is tested against the elements of its object, and what is
 -- drawn or computed for an object is of its kind.
@@ -61,9 +52,6 @@ IsReady objects slots _ = Unit {0}
 
 -- an instruction behind which the next one stands
 abbrev pub IsPlain : Instruction → Type 0
-IsPlain (i.Store slot object) = ⊥
-IsPlain (i.Begin slot object count values) = ⊥
-IsPlain (i.Bind slot object) = ⊥
 IsPlain (i.Jump skip) = ⊥
 IsPlain (i.Turn at goal) = ⊥
 IsPlain (i.SkipZero slot skip) = ⊥
@@ -88,7 +76,7 @@ Agrees g inputs x m store (Over (ending.Error kind at taken)) =
 Agrees g inputs x m store (Over _) = Unit {0}
 
 abbrev pub acted : Setting → List ℤ → Instruction → Machine → Next
-acted g inputs x m = act g.model (λ op kind a b. converting g.model op kind a b) inputs x m.place m.slots m.st
+acted g inputs x m = act_with g.model (λ op kind a b. converting g.model op kind a b) inputs (λ object v. trimming g.model (objects_of g) object v) x m.place m.slots m.st
 
 abbrev pub StepsAgree : Type 0
 StepsAgree =
