@@ -118,9 +118,18 @@ fn instructions_and_cells() {
     layout_laws::cells_differ();
     layout_laws::cells_serve();
     code_move_laws::code_is_laid();
+    code_move_laws::trimming_keeps();
+    code_move_laws::converting_agrees();
+    code_move_laws::stores_trim();
+    code_move_laws::begins_trim();
+    code_move_laws::binds_trim();
     code_move_laws::steps_agree();
     code_move_laws::zero_skips_agree();
     code_move_laws::equal_skips_agree();
+    code_move_laws::deeds_are_done();
+    code_move_laws::checks_pass();
+    code_move_laws::checks_fail();
+    code_move_laws::steps_run();
 }
 
 #[test]
