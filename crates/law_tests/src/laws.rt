@@ -130,6 +130,7 @@ fn instructions_and_cells() {
     code_move_laws::checks_pass();
     code_move_laws::checks_fail();
     code_move_laws::steps_run();
+    code_flow_laws::flat_errors_follow();
 }
 
 #[test]

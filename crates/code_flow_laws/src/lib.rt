@@ -1,0 +1,12 @@
+//! A run of flat code that ends in an error has its run over the graphs of functions. The law is the contract of a function that does
+//! nothing: a caller cites what it ensures.
+#![tactic(auto)]
+
+ghost use Rattle.code_flow_laws.specs.Followed.{FlatErrorsFollow};
+
+/// Where each step of the machine agrees with what its instruction does to the cells, and the opening gives a store that mirrors the
+/// machine, a run of flat code that ends in an error has a run over the graphs of functions to a node of that error, which draws what
+/// the code drew.
+pub fn flat_errors_follow()
+    ensures { FlatErrorsFollow }
+{}
