@@ -16,8 +16,9 @@ import sys
 HERE = pathlib.Path(__file__).resolve().parent
 ROOT = HERE.parent.parent
 RUSTC = ["rustc", "--edition", "2021", "-O", "-g"]
-# Crates of the kit that are written anew here.
+# Crates of the kit that are written anew here, and crates of the repository that stand on others of the kit.
 KIT = ("sha2", "hex")
+OWN = ("work_claims",)
 CLAUSE = re.compile(r"^[ \t]*(?:requires|ensures)\b[^{\n]*\{", re.M)
 MODEL = re.compile(r"^[ \t]*impl(?:<[^>]*>)? (?:std::marker::)?Model for [^{]*\{", re.M)
 GHOST = re.compile(r"^[ \t]*(?:pub(?:\([a-z]+\))? )?ghost \w+(?: =|:) \{", re.M)
@@ -132,9 +133,10 @@ def main(out, program, *libraries):
     for crate in in_order(crates, libraries if is_sketch else [program]):
         is_main = (ROOT / "crates" / crate / "src" / "main.rt").exists()
         to = out / (crate if is_main else f"lib{crate}.rlib")
+        root = HERE / f"{crate}.rs" if crate in OWN else out / "src" / crate / ("main.rs" if is_main else "lib.rs")
         if written(crate, out) or not to.exists() or fresh.intersection(["rstd", *crates[crate]]):
             fresh.add(crate)
-            compile_one(out / "src" / crate / ("main.rs" if is_main else "lib.rs"), to, "bin" if is_main else "rlib", crate, crates[crate], out)
+            compile_one(root, to, "bin" if is_main else "rlib", crate, crates[crate], out)
             print(f"compiled {crate}", flush=True)
     if is_sketch:
         name = pathlib.Path(program).stem

@@ -484,6 +484,20 @@ pub mod time {
     }
     pub use std::time::{Duration, Instant};
 }
+pub mod thread {
+    use super::{AllocError, HostRuntime, Vec};
+    pub trait Threads {}
+    impl Threads for HostRuntime {}
+    pub fn map_vec<R, T: Send, U: Send, F: Fn(T) -> U + Sync>(_: &R, items: Vec<T>, f: &F) -> Result<Vec<U>, AllocError> {
+        Ok(Vec::of(std::thread::scope(|scope| {
+            let started: std::vec::Vec<_> = items.into_inner().into_iter().map(|it| scope.spawn(move || f(it))).collect();
+            started.into_iter().map(|it| it.join().unwrap()).collect()
+        })))
+    }
+}
+pub mod sync {
+    pub use std::sync::*;
+}
 pub mod marker {
     pub use std::marker::*;
     pub trait Model {}

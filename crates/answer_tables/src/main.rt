@@ -16,15 +16,17 @@ use crate::trying::tried;
 use std::alloc::Global;
 use std::process::ExitCode;
 use std::str;
+use std::thread::Threads;
 use table_rows::{Flaw, Table, run_tables};
 
-/// Tables of answers.
-#[derive(Clone, Copy)]
-struct AnswerRows;
+/// Tables of answers, and what starts the threads of workers.
+struct AnswerRows<'a, R> {
+    rt: &'a R,
+}
 
-impl Table for AnswerRows {
+impl<R: Threads + Sync> Table for AnswerRows<'_, R> {
     fn other(&self, alloc: Global, row: &str) -> Result<Option<String>, Flaw> {
-        let answered = tried(alloc, row_of(alloc, row)?)?;
+        let answered = tried(self.rt, alloc, row_of(alloc, row)?)?;
         if answered.holds {
             return Ok(None);
         }
@@ -35,5 +37,5 @@ impl Table for AnswerRows {
 }
 
 fn main(rt: HostRuntime) -> ExitCode {
-    run_tables(&rt, &AnswerRows)
+    run_tables(&rt, &AnswerRows { rt: &rt })
 }

@@ -6,6 +6,7 @@ use lv_base::Text;
 use lv_outside::{FreeGate, MemFolder, MemSink, NoFaultFolder, NoFaultSink, names_differ};
 use std::alloc::Global;
 use std::str;
+use std::thread::Threads;
 use table_rows::Flaw;
 
 /// What came of a row: whether it is what the row says, the status, and the text that was printed.
@@ -51,7 +52,8 @@ fn compared(
 }
 
 // Over files that never fail.
-fn over_no_faults(
+fn over_no_faults<R: Threads + Sync>(
+    rt: &R,
     alloc: Global,
     asked: &Asked<'_>,
     files: Vec<(Text, Vec<u8>)>,
@@ -63,6 +65,7 @@ fn over_no_faults(
     let mut folder = NoFaultFolder::new(files);
     let mut out = NoFaultSink::new(alloc, room)?;
     let report = run_words(
+        rt,
         alloc,
         asked.words,
         &mut folder,
@@ -75,7 +78,8 @@ fn over_no_faults(
 }
 
 // Over files of which some calls fail.
-fn over_faults(
+fn over_faults<R: Threads + Sync>(
+    rt: &R,
     alloc: Global,
     asked: &Asked<'_>,
     files: Vec<(Text, Vec<u8>)>,
@@ -87,6 +91,7 @@ fn over_faults(
     }
     let mut folder = MemFolder::new(files, reads);
     let report = run_words(
+        rt,
         alloc,
         asked.words,
         &mut folder,
@@ -101,7 +106,7 @@ fn over_faults(
 /// What comes of a row.
 ///
 /// Fails with `Form` where a word is no text, or two files have one name, or with `Memory`.
-pub fn tried(alloc: Global, row: Row) -> Result<Answered, Flaw> {
+pub fn tried<R: Threads + Sync>(rt: &R, alloc: Global, row: Row) -> Result<Answered, Flaw> {
     let Row {
         status,
         text,
@@ -118,8 +123,8 @@ pub fn tried(alloc: Global, row: Row) -> Result<Answered, Flaw> {
         words: &words,
     };
     if outside.never {
-        return over_no_faults(alloc, &asked, files, outside.room);
+        return over_no_faults(rt, alloc, &asked, files, outside.room);
     }
     let out = MemSink::new(alloc, outside.room, outside.puts)?;
-    over_faults(alloc, &asked, files, outside.reads, out)
+    over_faults(rt, alloc, &asked, files, outside.reads, out)
 }

@@ -1,24 +1,38 @@
-ghost use Rattle.std.specs.Prelude.{◌≡◌};
+ghost use Rattle.std.specs.Prelude.{◌≡◌, ◌≤◌};
 ghost use Rattle.sha2.specs.Sha256.{sha256};
 ghost use Rattle.cert_verdicts.specs.Judged.{IsCertJudged, IsJudged, misfit_for, rejected_for, unread_for};
 
 use c_graph::Graph;
-use cert_check::{CheckFail, MapFault, check};
+use cert_check::{CheckFail, MapFault};
 use cert_check_laws::accepted_is_safe;
 use cert_text::{Cert, read_cert};
+use check_workers::check_beside;
 use lv_base::Model;
+use lv_outside::Gate;
 use sha2::{Digest, Sha256};
 use std::alloc::Global;
+use std::thread::Threads;
 use stored_text::StoredFail;
 use verdicts::{Rejection, Verdict};
 
 /// The answer to a certificate's bytes, for a source, a data model, and the graph that was made of the source. The form comes first, then
-/// the hash of the source, then the model, then the map, the number of logs, and the obligations, the lowest first.
-pub fn judge(alloc: Global, graph: &Graph, source: &[u8], model: Model, bytes: &[u8]) -> Verdict
+/// the hash of the source, then the model, then the map, the number of logs, and the obligations, the lowest first. So many workers share
+/// the obligations, beside each other, and each enters the gate before its first one; how many there are changes no answer.
+pub fn judge<R: Threads + Sync, G: Gate>(
+    rt: &R,
+    alloc: Global,
+    graph: &Graph,
+    source: &[u8],
+    model: Model,
+    bytes: &[u8],
+    workers: u32,
+    gate: &G,
+) -> Verdict
+    requires workers { (1 ≤ workers) × (workers ≤ 64) }
     ensures { IsJudged graph.now source.now model bytes.now result }
 {
     match read_cert(alloc, bytes) {
-        Ok(cert) => judge_cert(alloc, graph, source, model, &cert),
+        Ok(cert) => judge_cert(rt, alloc, graph, source, model, &cert, workers, gate),
         Err(fail) => unread(fail),
     }
 }
@@ -34,7 +48,17 @@ fn unread(fail: StoredFail) -> Verdict
     }
 }
 
-fn judge_cert(alloc: Global, graph: &Graph, source: &[u8], model: Model, cert: &Cert) -> Verdict
+fn judge_cert<R: Threads + Sync, G: Gate>(
+    rt: &R,
+    alloc: Global,
+    graph: &Graph,
+    source: &[u8],
+    model: Model,
+    cert: &Cert,
+    workers: u32,
+    gate: &G,
+) -> Verdict
+    requires workers { (1 ≤ workers) × (workers ≤ 64) }
     ensures { IsCertJudged graph.now source.now model cert.now result }
 {
     let hash = Sha256::digest(source);
@@ -44,18 +68,28 @@ fn judge_cert(alloc: Global, graph: &Graph, source: &[u8], model: Model, cert: &
     if cert.model != model {
         return Verdict::Rejected(Rejection::OtherModel(cert.model, model));
     }
-    judge_map(alloc, graph, source, model, cert)
+    judge_map(rt, alloc, graph, source, model, cert, workers, gate)
 }
 
 // The answer to a certificate of this source and model.
-fn judge_map(alloc: Global, graph: &Graph, source: &[u8], model: Model, cert: &Cert) -> Verdict
+fn judge_map<R: Threads + Sync, G: Gate>(
+    rt: &R,
+    alloc: Global,
+    graph: &Graph,
+    source: &[u8],
+    model: Model,
+    cert: &Cert,
+    workers: u32,
+    gate: &G,
+) -> Verdict
+    requires workers { (1 ≤ workers) × (workers ≤ 64) }
     requires hash { cert.now.hash ≡ sha256 source.now }
     requires model { cert.now.model ≡ model }
     ensures { IsCertJudged graph.now source.now model cert.now result }
 {
     accepted_is_safe();
     let _entry = graph.entry();
-    match check(alloc, graph, cert) {
+    match check_beside(rt, alloc, graph, cert, workers, gate) {
         Ok(()) => Verdict::Accepted,
         Err(fail) => refused(fail),
     }

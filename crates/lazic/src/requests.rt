@@ -5,22 +5,25 @@ ghost use Rattle.request_words.specs.Views.{asked_by};
 ghost use Rattle.lazic.specs.Told.{ToldOf, kept_in, kept_when};
 
 use crate::report::{Kept, Report};
-use lv_outside::{Folder, Sink};
+use lv_outside::{Folder, Gate, Sink};
 use request_answers::{Told, answer};
 use request_words::Asked;
 use std::alloc::Global;
+use std::thread::Threads;
 use verdicts::Verdict;
 
-/// Answers what is asked, over these files, and prints one line.
-pub(crate) fn answer_asked<F: Folder, S: Sink>(
+/// Answers what is asked, over these files, and prints one line. A check's workers enter the gate.
+pub(crate) fn answer_asked<R: Threads + Sync, F: Folder, S: Sink, G: Gate>(
+    rt: &R,
     alloc: Global,
     asked: Asked<'_>,
     folder: &mut F,
     out: &mut S,
+    gate: &G,
 ) -> Report
     ensures { ToldOf (F.tells folder.old) (S.tells out.new) (Rose (F.read_faults folder.old) (F.read_faults folder.new)) (Rose (F.write_faults folder.old) (F.write_faults folder.new)) (Rose (S.faults out.old) (S.faults out.new)) (F.file folder.old) (F.file folder.new) (S.text out.old) (S.text out.new) result.status result.kept (asked_by asked.entry) }
 {
-    let told = answer(alloc, asked, folder, out);
+    let told = answer(rt, alloc, asked, folder, out, gate);
     reported(told)
 }
 

@@ -17,16 +17,19 @@ use crate::requests::answer_asked;
 use lv_outside::{Folder, Gate, Sink};
 use request_words::{numbers_are_read, request};
 use std::alloc::Global;
+use std::thread::Threads;
 
-/// Answers the words, over these files, and prints one line.
-pub fn run_words<F: Folder, S: Sink, G: Gate>(
+/// Answers the words, over these files, and prints one line. Each worker of a check has a thread of its own, and enters the gate before
+/// its first obligation; no answer depends on how many there are.
+pub fn run_words<R: Threads + Sync, F: Folder, S: Sink, G: Gate>(
+    rt: &R,
     alloc: Global,
     words: &[&str],
     folder: &mut F,
     out: &mut S,
     moment: i64,
     _random: [u8; 16],
-    _gate: &G,
+    gate: &G,
 ) -> Report
     requires from { pos 0 ≤ℤ moment }
     requires to { moment ≤ℤ pos 253370764799 }
@@ -65,7 +68,7 @@ pub fn run_words<F: Folder, S: Sink, G: Gate>(
 {
     all_words();
     match request(words) {
-        Some(asked) => answer_asked(alloc, asked, folder, out),
+        Some(asked) => answer_asked(rt, alloc, asked, folder, out, gate),
         None => replay_words(alloc, words, folder, out),
     }
 }

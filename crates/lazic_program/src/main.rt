@@ -9,6 +9,7 @@ use std::alloc::AllocError;
 use std::process::ExitCode;
 use std::random::RandomSource;
 use std::rt::{Clock, Env, Files};
+use std::thread::Threads;
 use std::time::SystemTime;
 use std::{env, io};
 
@@ -21,7 +22,7 @@ fn main(rt: HostRuntime) -> ExitCode {
 // The status that the program ends with.
 fn run_host<R>(rt: &R) -> u8
 where
-    R: AllocGlobal + Env + Clock + Files + Print + RandomSource + Clone + Drop,
+    R: AllocGlobal + Env + Clock + Files + Print + RandomSource + Threads + Sync + Clone + Drop,
 {
     let alloc = rt.alloc();
     let args = match env::args(rt) {
@@ -52,6 +53,7 @@ where
     let mut folder = HostFolder::new(files);
     let mut out = HostSink::new(prints);
     run_words(
+        rt,
         alloc,
         &words,
         &mut folder,

@@ -6,7 +6,7 @@ use Rattle.lv_base.specs.declared.kind.Model.{Model}
 use Rattle.lv_base.specs.declared.fault.ErrorKind.{ErrorKind}
 use Rattle.lv_base.specs.declared.place.Place.{Place}
 use Rattle.c_tree.specs.Tree.{Items}
-use Rattle.c_meaning.specs.Program.{Reaches}
+use Rattle.c_meaning.specs.Program.{Reaches, Secure}
 use Rattle.c_graph.specs.Shape.{Flow, IsFlow}
 use Rattle.cert_text.specs.declared.Cert.{Cert}
 use Rattle.cert_text.specs.Content.{content_of}
@@ -31,6 +31,18 @@ abbrev pub SafeIsProved : Type 0
 SafeIsProved =
     (before behind : ℕ) (model : Model) (units learn : ℕ) (source text : List ℕ) → IsVerifyAnswer (Rose before behind) model units learn source (Safe text)
     → (tree : Items) × (source_read model source ≡ Ok tree) × ((g : Flow) × IsFlow g × IsProved g source model text)
+
+-- A certificate is accepted only of a source that is secure: no run of it meets an error, with whatever inputs.
+abbrev pub AcceptedIsSecure : Type 0
+AcceptedIsSecure =
+    (before behind : ℕ) (model : Model) (source bytes : List ℕ) → IsCheckAnswer (Rose before behind) model source bytes Accepted
+    → (tree : Items) × (source_read model source ≡ Ok tree) × Secure tree model
+
+-- A source is called safe only where it is secure.
+abbrev pub SafeIsSecure : Type 0
+SafeIsSecure =
+    (before behind : ℕ) (model : Model) (units learn : ℕ) (source text : List ℕ) → IsVerifyAnswer (Rose before behind) model units learn source (Safe text)
+    → (tree : Items) × (source_read model source ≡ Ok tree) × Secure tree model
 
 -- A source is called unsafe only with values that reach the error at its place in it.
 abbrev pub UnsafeReaches : Type 0

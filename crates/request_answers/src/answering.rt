@@ -9,9 +9,10 @@ ghost use Rattle.request_answers.specs.Stored.{IsOther, IsStored, file_for};
 use crate::deciding::decide;
 use crate::printing::{no_memory, print};
 use crate::storing::store;
-use lv_outside::{FileFail, Folder, Sink};
+use lv_outside::{FileFail, Folder, Gate, Sink};
 use request_words::Asked;
 use std::alloc::Global;
+use std::thread::Threads;
 use verdicts::Verdict;
 
 /// An answer, and the status with which it was told.
@@ -22,11 +23,13 @@ pub struct Told {
 }
 
 /// Answers what is asked, over these files: what is to be stored of the answer is written, and then its line is printed.
-pub fn answer<F: Folder, S: Sink>(
+pub fn answer<R: Threads + Sync, F: Folder, S: Sink, G: Gate>(
+    rt: &R,
     alloc: Global,
     asked: Asked<'_>,
     folder: &mut F,
     out: &mut S,
+    gate: &G,
 ) -> Told
     ensures answer { F.tells folder.old → IsAnswer (Rose (F.read_faults folder.old) (F.read_faults folder.new)) (asked_by asked.entry) (F.file folder.old) result.verdict }
     ensures read_fault { result.verdict ≡ Verdict.ReadFault → Rose (F.read_faults folder.old) (F.read_faults folder.new) }
@@ -37,7 +40,7 @@ pub fn answer<F: Folder, S: Sink>(
     ensures stored { F.tells folder.old → result.status ≢ 14 → result.status ≢ 15 → IsStored (F.file folder.new) (file_for (asked_by asked.entry) result.verdict) }
     ensures others { (n : List ℕ) → IsOther (file_for (asked_by asked.entry) result.verdict) n → F.file folder.new n ≡ F.file folder.old n }
 {
-    let verdict = decide(alloc, folder, asked);
+    let verdict = decide(rt, alloc, folder, asked, gate);
     match store(alloc, folder, asked, &verdict) {
         Ok(()) => {
             let status = print(alloc, &verdict, out);

@@ -2,6 +2,7 @@ ghost use Rattle.std.specs.Prelude.{◌≡◌, ◌≤◌, ◌<◌, ◌^◌, ℕ,
 ghost use Rattle.lv_outside.specs.Counts.{Rose};
 ghost use Rattle.c_typed.specs.Parts.{tree_of};
 ghost use Rattle.source_reading.specs.Reading.{IsReplay};
+ghost use Rattle.source_graph_laws.specs.Standing.{StandsFor};
 ghost use Rattle.request_words.specs.Views.{asked_by};
 ghost use Rattle.request_answers.specs.Answers.{IsAnswer, IsCheckAnswer, IsVerifyAnswer};
 
@@ -10,16 +11,23 @@ use c_graph::Graph;
 use cert_text::MOST_BYTES;
 use cert_verdicts::judge;
 use lv_base::Model;
-use lv_outside::{FileFail, Folder, Got};
+use lv_outside::{FileFail, Folder, Gate, Got};
 use request_words::{Asked, Checking, Verifying};
 use source_verdicts::{Budget, verify};
 use std::alloc::Global;
+use std::thread::Threads;
 use verdicts::Verdict;
 
 const MOST_SOURCE: usize = 1_048_576;
 
 /// The answer to what is asked.
-pub(crate) fn decide<F: Folder>(alloc: Global, folder: &mut F, asked: Asked<'_>) -> Verdict
+pub(crate) fn decide<R: Threads + Sync, F: Folder, G: Gate>(
+    rt: &R,
+    alloc: Global,
+    folder: &mut F,
+    asked: Asked<'_>,
+    gate: &G,
+) -> Verdict
     ensures answer { F.tells folder.old → IsAnswer (Rose (F.read_faults folder.old) (F.read_faults folder.new)) (asked_by asked.entry) (F.file folder.old) result }
     ensures read_fault { result ≡ Verdict.ReadFault → Rose (F.read_faults folder.old) (F.read_faults folder.new) }
     ensures tells { F.tells folder.old → F.tells folder.new }
@@ -28,12 +36,18 @@ pub(crate) fn decide<F: Folder>(alloc: Global, folder: &mut F, asked: Asked<'_>)
     ensures writes { F.write_faults folder.new ≡ F.write_faults folder.old }
 {
     match asked {
-        Asked::Check(checking) => decide_check(alloc, folder, checking),
+        Asked::Check(checking) => decide_check(rt, alloc, folder, checking, gate),
         Asked::Verify(verifying) => decide_verify(alloc, folder, verifying),
     }
 }
 
-fn decide_check<F: Folder>(alloc: Global, folder: &mut F, checking: Checking<'_>) -> Verdict
+fn decide_check<R: Threads + Sync, F: Folder, G: Gate>(
+    rt: &R,
+    alloc: Global,
+    folder: &mut F,
+    checking: Checking<'_>,
+    gate: &G,
+) -> Verdict
     ensures answer { F.tells folder.old → IsCheckAnswer (Rose (F.read_faults folder.old) (F.read_faults folder.new)) checking.entry.model (F.file folder.old checking.entry.source.now) (F.file folder.old checking.entry.cert.now) result }
     ensures read_fault { result ≡ Verdict.ReadFault → Rose (F.read_faults folder.old) (F.read_faults folder.new) }
     ensures tells { F.tells folder.old → F.tells folder.new }
@@ -42,18 +56,20 @@ fn decide_check<F: Folder>(alloc: Global, folder: &mut F, checking: Checking<'_>
     ensures writes { F.write_faults folder.new ≡ F.write_faults folder.old }
 {
     match folder.read(alloc, checking.source, MOST_SOURCE) {
-        Ok(Got::Bytes(bytes)) => check_source(alloc, folder, &bytes, checking),
+        Ok(Got::Bytes(bytes)) => check_source(rt, alloc, folder, &bytes, checking, gate),
         Ok(Got::Longer) => Verdict::Over(1, 1_048_577),
         Err(FileFail::Failed) => Verdict::ReadFault,
         Err(FileFail::Memory) => Verdict::NoMemory,
     }
 }
 
-fn check_source<F: Folder>(
+fn check_source<R: Threads + Sync, F: Folder, G: Gate>(
+    rt: &R,
     alloc: Global,
     folder: &mut F,
     source: &[u8],
     checking: Checking<'_>,
+    gate: &G,
 ) -> Verdict
     requires small { length source.now ≤ 2 ^ 20 }
     ensures answer { F.tells folder.old → IsCheckAnswer (Rose (F.read_faults folder.old) (F.read_faults folder.new)) checking.entry.model source.now (F.file folder.old checking.entry.cert.now) result }
@@ -64,19 +80,22 @@ fn check_source<F: Folder>(
     ensures writes { F.write_faults folder.new ≡ F.write_faults folder.old }
 {
     match load_source(alloc, source, checking.model) {
-        Ok(parts) => check_cert(alloc, folder, source, &parts, checking),
+        Ok(parts) => check_cert(rt, alloc, folder, source, &parts, checking, gate),
         Err(verdict) => verdict,
     }
 }
 
-fn check_cert<F: Folder>(
+fn check_cert<R: Threads + Sync, F: Folder, G: Gate>(
+    rt: &R,
     alloc: Global,
     folder: &mut F,
     source: &[u8],
     parts: &Loaded,
     checking: Checking<'_>,
+    gate: &G,
 ) -> Verdict
     requires replay { IsReplay checking.model source.now (tree_of parts.now.examined.typed) }
+    requires stands { StandsFor parts.now.graph (tree_of parts.now.examined.typed) }
     ensures answer { F.tells folder.old → IsCheckAnswer (Rose (F.read_faults folder.old) (F.read_faults folder.new)) checking.entry.model source.now (F.file folder.old checking.entry.cert.now) result }
     ensures read_fault { result ≡ Verdict.ReadFault → Rose (F.read_faults folder.old) (F.read_faults folder.new) }
     ensures tells { F.tells folder.old → F.tells folder.new }
@@ -86,11 +105,27 @@ fn check_cert<F: Folder>(
 {
     let _entry = parts.graph.entry();
     match folder.read(alloc, checking.cert, MOST_BYTES) {
-        Ok(Got::Bytes(bytes)) => judge(alloc, &parts.graph, source, checking.model, &bytes),
+        Ok(Got::Bytes(bytes)) => judge(
+            rt,
+            alloc,
+            &parts.graph,
+            source,
+            checking.model,
+            &bytes,
+            team_of(checking.workers),
+            gate,
+        ),
         Ok(Got::Longer) => Verdict::Over(8, 67_108_865),
         Err(FileFail::Failed) => Verdict::ReadFault,
         Err(FileFail::Memory) => Verdict::NoMemory,
     }
+}
+
+// So many workers, and no other number than a request may ask for.
+fn team_of(workers: u64) -> u32
+    ensures { (1 ≤ result) × (result ≤ 64) }
+{
+    workers.max(1).min(64) as u32
 }
 
 fn decide_verify<F: Folder>(alloc: Global, folder: &mut F, verifying: Verifying<'_>) -> Verdict
@@ -123,6 +158,7 @@ fn verify_source(alloc: Global, source: &[u8], verifying: Verifying<'_>) -> Verd
 fn verify_loaded(alloc: Global, source: &[u8], parts: &Loaded, verifying: Verifying<'_>) -> Verdict
     requires small { length source.now ≤ 2 ^ 20 }
     requires replay { IsReplay verifying.model source.now (tree_of parts.now.examined.typed) }
+    requires stands { StandsFor parts.now.graph (tree_of parts.now.examined.typed) }
     ensures answer { IsVerifyAnswer ⊥ verifying.entry.model verifying.entry.units verifying.entry.learn source.now result }
     ensures no_fault { result ≡ Verdict.ReadFault → ⊥ }
 {

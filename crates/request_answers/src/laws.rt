@@ -1,5 +1,5 @@
 //! What the answers mean, each law as the contract of a function that does nothing.
-ghost use Rattle.request_answers.specs.Laws.{AcceptedIsCertified, SafeIsProved, UnsafeReaches};
+ghost use Rattle.request_answers.specs.Laws.{AcceptedIsCertified, AcceptedIsSecure, SafeIsProved, SafeIsSecure, UnsafeReaches};
 
 /// A certificate is accepted only with what makes the source's graph safe.
 pub fn accepted_is_certified()
@@ -9,6 +9,16 @@ pub fn accepted_is_certified()
 /// A source is called safe only with a certificate that is accepted.
 pub fn safe_is_proved()
     ensures { SafeIsProved }
+{}
+
+/// A certificate is accepted only of a source no run of which meets an error.
+pub fn accepted_is_secure()
+    ensures { AcceptedIsSecure }
+{}
+
+/// A source is called safe only where no run of it meets an error.
+pub fn safe_is_secure()
+    ensures { SafeIsSecure }
 {}
 
 /// A source is called unsafe only with values that reach the error.
