@@ -1,5 +1,5 @@
 -- What holds of each instruction of a program's code, and of its calls.
-use Rattle.std.specs.Prelude.{ℕ, ◌≡◌, ◌⊎◌, true, false, List, [], ◌∷◌, Some, slice_get, ℤ}
+use Rattle.std.specs.Prelude.{ℕ, ◌≡◌, ◌⊎◌, true, false, List, [], ◌∷◌, Some, slice_get}
 use Rattle.lv_base.specs.declared.kind.Model.{Model}
 use Rattle.lv_base.specs.Integers.{InAny, is_promoted}
 use Rattle.c_run.specs.Operators.{is_logical}
@@ -32,6 +32,11 @@ abbrev pub IsEntry : List Link → ℕ → Type 0
 IsEntry [] place = ⊥
 IsEntry (l ∷ ls) place = (l.entry ≡ place) ⊎ IsEntry ls place
 
--- each call goes to the entry of a function
+-- a call goes to the entry of a function
+abbrev pub Enters : List Link → Instruction → Type 0
+Enters links (i.Call at goal slot) = IsEntry links goal
+Enters links _ = Unit {0}
+
+-- each call does
 abbrev pub CallsEnter : List Link → List Instruction → Type 0
 CallsEnter links code = (place at goal slot : ℕ) → slice_get code place ≡ Some (i.Call at goal slot) → IsEntry links goal
