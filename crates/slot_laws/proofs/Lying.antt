@@ -107,7 +107,7 @@ module _ (c : Frame) where
   unfolding from
   acts p s st x l =
       goes_on c.model c.compute c.inputs c.way c.code (machine p s st)
-      ∙ ap (λ o. onward c.model c.compute c.inputs c.code (act_at_with c.model c.compute c.inputs c.way.keep o (machine p s st)) (run_from_with c.model c.compute c.inputs c.way c.code)) l.there
+      ∙ ap (λ o. onward c.model c.compute c.inputs c.code (act_at_with c.model c.compute c.inputs c.way o (machine p s st)) (run_from_with c.model c.compute c.inputs c.way c.code)) l.there
 
   -- goes to a place
   pub leads : (p goal : ℕ) (s s' : List ℤ) (st st' : State) (x : Instruction) → Lies p x → act_with c.model c.compute c.inputs c.way x p s st ≡ Goes (machine goal s' st') → from p s st ≡ from goal s' st'
