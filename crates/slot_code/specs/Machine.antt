@@ -1,5 +1,5 @@
 -- What instructions do, one after the other.
-use Rattle.std.specs.Prelude.{ℕ, zero, suc, ◌+◌, ◌-◌, ◌*◌, max, Bool, true, false, ◌&&◌, if◌then◌else◌, List, [], ◌∷◌, length, Option, Some, None, slice_get, ℤ, pos, negsuc, int_le, unsigned_abs}
+use Rattle.std.specs.Prelude.{ℕ, zero, suc, ◌+◌, ◌-◌, ◌*◌, max, Bool, true, false, if◌then◌else◌, List, [], ◌∷◌, length, Option, Some, None, slice_get, ℤ, pos, negsuc, unsigned_abs}
 use Rattle.lv_base.specs.declared.kind.Model.{Model}
 use Rattle.lv_base.specs.declared.kind.Kind.{Kind}
 use Rattle.lv_base.specs.declared.kind.Op.TheVariants as arith
@@ -12,7 +12,7 @@ use Rattle.c_run.specs.Operators.{op_of, is_turned, is_negated, negated, crement
 use Rattle.c_typed.specs.Tree.{Program}
 use Rattle.c_typed.specs.Run.{promoted, start_store, main_number}
 use Rattle.typed_range_laws.specs.Guards.{guarded}
-use Rattle.typed_range_laws.specs.Ways.{Keep, as_it_is, write_kept}
+use Rattle.typed_range_laws.specs.Ways.{Way, as_it_is, write_kept}
 use Rattle.slot_code.specs.declared.flat.Instruction.{Instruction}
 use Rattle.slot_code.specs.declared.flat.Instruction.TheVariants as i
 use Rattle.slot_code.specs.declared.reply.Ending.{Ending}
@@ -114,30 +114,31 @@ module _ (model : Model) (compute : Compute) (inputs : List ℤ) where
     abbrev pub rank : Machine → ℕ
     rank m = suc ((m.st).turns * suc (length code) + (length code - m.place))
 
-  module _ (keep : Keep) where
-    -- the instruction at this place, where a value that `Store`, `Begin` or `Bind` puts into an object is kept so
+  module _ (way : Way) where
+    -- The instruction at this place: a value that `Store`, `Begin` or `Bind` puts into an object is kept so, `Load`, `Store`,
+    -- `Update` and `Change` work on the element that is picked so, and `SkipEqual` tells so whether a value is that of its case.
     abbrev pub act_with : Instruction → ℕ → List ℤ → State → Next
     act_with (i.Constant slot v) place slots st = fills place slots slot (Value v st)
     act_with (i.Read slot object) place slots st = fills place slots slot (read (scalar object) st)
     act_with (i.Element slot at object count) place slots st = fills place slots slot (element_read at object count (get slots slot) st)
     act_with (i.Locate slot at object count) place slots st = fills place slots slot (index_found at object count (get slots slot) st)
-    act_with (i.Load slot object) place slots st = fills place slots (suc slot) (read (element_in slots slot object) st)
-    act_with (i.Store slot object) place slots st = fills place slots slot (write_kept keep (element_in slots slot object) (get slots (suc slot)) st)
+    act_with (i.Load slot object) place slots st = fills place slots (suc slot) (read (way.pick object (get slots slot)) st)
+    act_with (i.Store slot object) place slots st = fills place slots slot (write_kept way object (get slots slot) (get slots (suc slot)) st)
     act_with (i.Convert slot k) place slots st = fills place slots slot (Value (converted k model (get slots slot)) st)
     act_with (i.Negate slot k at) place slots st = fills place slots slot (computed at (compute arith.Sub k (pos 0) (get slots slot)) st)
     act_with (i.Complement slot k at) place slots st = fills place slots slot (computed at (compute arith.Xor k (get slots slot) (converted k model (negsuc 0))) st)
     act_with (i.Not slot) place slots st = fills place slots slot (Value (truth (is_zero (get slots slot))) st)
     act_with (i.Truth slot) place slots st = fills place slots slot (Value (truth (is_true (get slots slot))) st)
     act_with (i.Binary slot o k at) place slots st = fills place slots slot (applied at o k (get slots slot) (get slots (suc slot)) st)
-    act_with (i.Update slot o k l at object) place slots st = fills place slots slot (updated at o k l (element_in slots slot object) (get slots (suc slot)) (get slots (suc (suc slot))) st)
-    act_with (i.Change slot before by k at object) place slots st = fills place slots slot (changed at before by k (element_in slots slot object) st)
+    act_with (i.Update slot o k l at object) place slots st = fills place slots slot (updated at o k l (way.pick object (get slots slot)) (get slots (suc slot)) (get slots (suc (suc slot))) st)
+    act_with (i.Change slot before by k at object) place slots st = fills place slots slot (changed at before by k (way.pick object (get slots slot)) st)
     act_with (i.Draw slot k) place slots st = fills place slots slot (draw inputs model k st)
     act_with (i.Fill object k count) place slots st = goes (suc place) slots (filled object k count st)
-    act_with (i.Begin slot object count values) place slots st = goes (suc place) slots (store_all object (padded count (slots_through (keep object) slots slot values)) st)
-    act_with (i.Bind slot object) place slots st = goes (suc place) slots (store_all object (keep object (get slots slot) ∷ []) st)
+    act_with (i.Begin slot object count values) place slots st = goes (suc place) slots (store_all object (padded count (slots_through (way.keep object) slots slot values)) st)
+    act_with (i.Bind slot object) place slots st = goes (suc place) slots (store_all object (way.keep object (get slots slot) ∷ []) st)
     act_with (i.Jump skip) place slots st = Goes (machine (suc place + skip) slots st)
     act_with (i.SkipZero slot skip) place slots st = Goes (machine (choose (is_true (get slots slot)) (suc place) (suc place + skip)) slots st)
-    act_with (i.SkipEqual slot v skip) place slots st = Goes (machine (choose (int_le (get slots slot) v && int_le v (get slots slot)) (suc place + skip) (suc place)) slots st)
+    act_with (i.SkipEqual slot v skip) place slots st = Goes (machine (choose (way.same (get slots slot) v) (suc place + skip) (suc place)) slots st)
     act_with (i.Turn at goal) place slots st = goes goal slots (turn at st)
     act_with (i.Call at goal slot) place slots st = goes goal (put slots slot (pos (suc place))) (turn at st)
     act_with (i.Take slot at from needed) place slots st = fills place slots slot (taken_of needed at (returned_in slots from) st)
@@ -162,7 +163,7 @@ module _ (model : Model) (compute : Compute) (inputs : List ℤ) where
       abbrev pub run_from_with : Machine → Ending
       run_from_with m = walk_with (rank code m) m
 
-  -- the same where values are kept as they are
+  -- the same where values are kept as they are, and elements and cases are those of equal numbers
   abbrev pub act : Instruction → ℕ → List ℤ → State → Next
   act = act_with as_it_is
 
@@ -182,18 +183,18 @@ module _ (model : Model) (compute : Compute) (inputs : List ℤ) where
 -- ---- Whole runs
 
 -- `main` returns to the end of the code
-abbrev pub run_code_with : Compute → Keep → Program → Code → List ℤ → Option Link → List ℤ → ℕ → Ending
-run_code_with compute keep program code slots None inputs turns = ending.Ended
-run_code_with compute keep program code slots (Some l) inputs turns =
-    run_from_with program.model compute inputs keep code.instructions (machine l.entry (put slots l.slot (pos (length code.instructions))) (record { store = start_store program.objects; taken = 0; turns = turns }))
+abbrev pub run_code_with : Compute → Way → Program → Code → List ℤ → Option Link → List ℤ → ℕ → Ending
+run_code_with compute way program code slots None inputs turns = ending.Ended
+run_code_with compute way program code slots (Some l) inputs turns =
+    run_from_with program.model compute inputs way code.instructions (machine l.entry (put slots l.slot (pos (length code.instructions))) (record { store = start_store program.objects; taken = 0; turns = turns }))
 
 abbrev pub main_link : Option ℕ → Code → Option Link
 main_link None code = None
 main_link (Some main) code = link_of main code.links
 
--- the run of a program in this order that computes so and keeps values so, whatever the slots held before
-abbrev pub run_with : Compute → Keep → Program → List ℕ → List ℤ → List ℤ → ℕ → Ending
-run_with compute keep program order slots inputs turns = run_code_with compute keep program (code_of program order) slots (main_link (main_number program.functions) (code_of program order)) inputs turns
+-- the run of a program in this order that computes so, in such a way, whatever the slots held before
+abbrev pub run_with : Compute → Way → Program → List ℕ → List ℤ → List ℤ → ℕ → Ending
+run_with compute way program order slots inputs turns = run_code_with compute way program (code_of program order) slots (main_link (main_number program.functions) (code_of program order)) inputs turns
 
 -- the same where operations test their operands, and values are kept as they are
 abbrev pub run_code : Program → Code → List ℤ → Option Link → List ℤ → ℕ → Ending

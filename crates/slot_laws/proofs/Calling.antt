@@ -4,7 +4,7 @@ use Rattle.std.specs.Prelude.{map}
 use Rattle.lv_base.specs.declared.kind.Kind.{Kind}
 use Rattle.c_run.specs.Run.{State, Value, after, with_store}
 use Rattle.c_run.specs.Operators.{Use, used, dropped, called_value}
-use Rattle.typed_range_laws.specs.Ways.{Keep}
+use Rattle.typed_range_laws.specs.Ways.{Way}
 use Rattle.typed_range_laws.specs.Keeping.{bind_kept}
 use Rattle.c_typed.specs.Rules.{Call}
 use Rattle.slot_code.specs.declared.flat.Instruction.{Instruction}
@@ -44,27 +44,27 @@ held_through f d (suc n) s (v ∷ vs) e h = ap (λ x. f x ∷ slots_through f s 
 -- ---- Parameters
 
 -- the store in which these objects have what is kept of these values
-abbrev pub bound_store : Keep → List ℕ → List ℤ → List (List ℤ) → List (List ℤ)
-bound_store keep (o ∷ os) (v ∷ vs) store = bound_store keep os vs (slice_set store o (keep o v ∷ []))
-bound_store keep _ _ store = store
+abbrev pub bound_store : Way → List ℕ → List ℤ → List (List ℤ) → List (List ℤ)
+bound_store way (o ∷ os) (v ∷ vs) store = bound_store way os vs (slice_set store o (way.keep o v ∷ []))
+bound_store way _ _ store = store
 
-pub bound : (keep : Keep) (os : List ℕ) (vs : List ℤ) (st : State) → bind_kept keep os vs st ≡ Value tt (with_store st (bound_store keep os vs st.store))
-bound keep [] vs st = refl
-bound keep (o ∷ os) [] st = refl
-bound keep (o ∷ os) (v ∷ vs) st = bound keep os vs (with_store st (slice_set st.store o (keep o v ∷ [])))
+pub bound : (way : Way) (os : List ℕ) (vs : List ℤ) (st : State) → bind_kept way os vs st ≡ Value tt (with_store st (bound_store way os vs st.store))
+bound way [] vs st = refl
+bound way (o ∷ os) [] st = refl
+bound way (o ∷ os) (v ∷ vs) st = bound way os vs (with_store st (slice_set st.store o (way.keep o v ∷ [])))
 
 module _ (c : Frame) where
   pub binds : (os : List ℕ) (vs : List ℤ) (n d m : ℕ) (s : List ℤ) (st : State) → At c m (bind_code d os n) → length vs ≡ n → Holds d s vs →
-      from c m s st ≡ from c (m + length (bind_code d os n)) s (with_store st (bound_store c.keep os vs st.store))
+      from c m s st ≡ from c (m + length (bind_code d os n)) s (with_store st (bound_store c.way os vs st.store))
   binds [] vs n d m s st l e h = ap (λ x. from c x s st) (omega arith)
   binds (o ∷ os) [] zero d m s st l e h = ap (λ x. from c x s st) (omega arith)
   binds (o ∷ os) [] (suc n) d m s st l e h = absurd (omega (arith, e))
   binds (o ∷ os) (v ∷ vs) zero d m s st l e h = absurd (omega (arith, e))
   binds (o ∷ os) (v ∷ vs) (suc n) d m s st l e h =
-      leads c m (suc m) s s st (with_store st (slice_set st.store o (c.keep o (get s d) ∷ []))) (i.Bind d o) l.0 refl
-      ∙ ap (λ x. from c (suc m) s (with_store st (slice_set st.store o (c.keep o x ∷ [])))) h.0
-      ∙ binds os vs n (suc d) (suc m) s (with_store st (slice_set st.store o (c.keep o v ∷ []))) l.1 (omega (arith, e)) h.1
-      ∙ ap (λ x. from c x s (with_store st (bound_store c.keep os vs (slice_set st.store o (c.keep o v ∷ []))))) (omega arith)
+      leads c m (suc m) s s st (with_store st (slice_set st.store o (c.way.keep o (get s d) ∷ []))) (i.Bind d o) l.0 refl
+      ∙ ap (λ x. from c (suc m) s (with_store st (slice_set st.store o (c.way.keep o x ∷ [])))) h.0
+      ∙ binds os vs n (suc d) (suc m) s (with_store st (slice_set st.store o (c.way.keep o v ∷ []))) l.1 (omega (arith, e)) h.1
+      ∙ ap (λ x. from c x s (with_store st (bound_store c.way os vs (slice_set st.store o (c.way.keep o v ∷ []))))) (omega arith)
 
 -- ---- Calls
 
@@ -77,7 +77,7 @@ unfoldable pub Called : Frame → ℕ → Type 0
 Called c t =
     (f at : ℕ) (l : Link) (vs : List ℤ) → link_of f c.links ≡ Some l → (p : ℕ) (s : List ℤ) (st : State) (k : Option ℤ → State → Ending) → Lies c p (i.Call at l.entry l.slot) → st.turns ≤ t →
     ((r : Option ℤ) (s' : List ℤ) (st' : State) → st'.turns ≤ t → Above c s s' → returned_in s' l.slot ≡ r → from c (suc p) s' st' ≡ k r st') →
-    from c p s (with_store st (bound_store c.keep (parameters_of (slice_get c.functions f)) vs st.store)) ≡ ends (c.call f at vs st) k
+    from c p s (with_store st (bound_store c.way (parameters_of (slice_get c.functions f)) vs st.store)) ≡ ends (c.call f at vs st) k
 
 -- the functions that are called stand there
 abbrev pub Linked : List Link → List Call → Type 0

@@ -1,6 +1,5 @@
 -- Pieces of code that are entered where a place is sought; switches, rows of statements, and statements without parts.
 use Rattle.std.proofs.Common.{◌≡◌, ℕ, zero, suc, ◌+◌, ◌-◌, ◌≤◌, Bool, true, false, List, [], ◌∷◌, ◌++◌, length, Option, Some, None, ℤ, pos, refl, sym, ap, ◌∙◌, subst, arith}
-use Rattle.std.specs.Prelude.{int_le, ◌&&◌}
 use Rattle.lv_base.specs.declared.kind.Kind.{Kind}
 use Rattle.lv_base.specs.Integers.{converted}
 use Rattle.c_run.specs.Run.{State, Got, Value, Run, give, after, choose, turn, is_true}
@@ -21,13 +20,13 @@ module _ (c : Frame) (s0 : List ℤ) (end : ℕ) (labels : List ℕ → ℕ) whe
 
   -- ---- Places that are sought
 
-  moved_o : (k : Exit → State → Ending) (p p' n : ℕ) (o : Option ℕ) (g : Got Exit) (s : List ℤ) (st : State) → p' ≡ p + n → Sought c s0 end labels k p' o g s st → Sought c s0 end labels k p (plus c.model n o) g s st
+  moved_o : (k : Exit → State → Ending) (p p' n : ℕ) (o : Option ℕ) (g : Got Exit) (s : List ℤ) (st : State) → p' ≡ p + n → Sought c s0 end labels k p' o g s st → Sought c s0 end labels k p (plus c.model c.way n o) g s st
   moved_o k p p' n None g s st e h = h
   moved_o k p p' n (Some m) g s st e h = there_from c (p' + m) (p + (n + m)) s st (ends g k) (omega (arith, e)) h
 
-  pub moved_at : (k : Exit → State → Ending) (pl : Place) (p p' n : ℕ) (ms : List Mark) (g : Got Exit) (s : List ℤ) (st : State) → p' ≡ p + n → Sought c s0 end labels k p' (sought c.model pl ms) g s st →
-      Sought c s0 end labels k p (sought c.model pl (moved n ms)) g s st
-  moved_at k pl p p' n ms g s st e h = subst (λ o. Sought c s0 end labels k p o g s st) (sym (sought_moved c.model pl n ms)) (moved_o k p p' n (sought c.model pl ms) g s st e h)
+  pub moved_at : (k : Exit → State → Ending) (pl : Place) (p p' n : ℕ) (ms : List Mark) (g : Got Exit) (s : List ℤ) (st : State) → p' ≡ p + n → Sought c s0 end labels k p' (sought c.model c.way pl ms) g s st →
+      Sought c s0 end labels k p (sought c.model c.way pl (moved n ms)) g s st
+  moved_at k pl p p' n ms g s st e h = subst (λ o. Sought c s0 end labels k p o g s st) (sym (sought_moved c.model c.way pl n ms)) (moved_o k p p' n (sought c.model c.way pl ms) g s st e h)
 
   -- what is made of the exit
   pub sought_pass : (k : Exit → State → Ending) (p : ℕ) (o : Option ℕ) (g : Got Exit) (f : Exit → Run Exit) (s : List ℤ) (st : State) → f Absent st ≡ Value Absent st → Sought c s0 end labels (through c s0 end labels f k) p o g s st → Sought c s0 end labels k p o (after g f) s st
@@ -36,13 +35,13 @@ module _ (c : Frame) (s0 : List ℤ) (end : ℕ) (labels : List ℕ → ℕ) whe
 
   -- one part, and where it isn't there another
   pub sought_then : (k : Exit → State → Ending) (p : ℕ) (o o' : Option ℕ) (g g' : Got Exit) (f : Exit → Run Exit) (s : List ℤ) (st : State) → f Absent st ≡ g' → Sought c s0 end labels (through c s0 end labels f k) p o g s st → Sought c s0 end labels k p o' g' s st →
-      Sought c s0 end labels k p (first_of c.model o o') (after g f) s st
+      Sought c s0 end labels k p (first_of c.model c.way o o') (after g f) s st
   sought_then k p None o' g g' f s st e h h' = subst (λ x. Sought c s0 end labels k p o' x s st) (sym (ap (λ x. after x f) h ∙ e)) h'
   sought_then k p (Some m) o' g g' f s st e h h' = seq Exit Exit g f k (from c (p + m) s st) h
 
-  pub both_at : (k : Exit → State → Ending) (pl : Place) (p : ℕ) (ms ms' : List Mark) (g : Got Exit) (s : List ℤ) (st : State) → Sought c s0 end labels k p (first_of c.model (sought c.model pl ms) (sought c.model pl ms')) g s st →
-      Sought c s0 end labels k p (sought c.model pl (ms ++ ms')) g s st
-  both_at k pl p ms ms' g s st h = subst (λ o. Sought c s0 end labels k p o g s st) (sym (sought_both c.model pl ms ms')) h
+  pub both_at : (k : Exit → State → Ending) (pl : Place) (p : ℕ) (ms ms' : List Mark) (g : Got Exit) (s : List ℤ) (st : State) → Sought c s0 end labels k p (first_of c.model c.way (sought c.model c.way pl ms) (sought c.model c.way pl ms')) g s st →
+      Sought c s0 end labels k p (sought c.model c.way pl (ms ++ ms')) g s st
+  both_at k pl p ms ms' g s st h = subst (λ o. Sought c s0 end labels k p o g s st) (sym (sought_both c.model c.way pl ms ms')) h
 
   pub mark_at : (x : Bool) (k : Exit → State → Ending) (p : ℕ) (o : Option ℕ) (f g : Run Exit) (s : List ℤ) (st : State) → from c p s st ≡ ends (f st) k → Sought c s0 end labels k p o (g st) s st → Sought c s0 end labels k p (choose x (Some 0) o) (choose x f g st) s st
   mark_at true k p o f g s st h h' = there_from c p (p + 0) s st (ends (f st) k) (omega arith) h
@@ -65,20 +64,20 @@ module _ (c : Frame) (s0 : List ℤ) (end : ℕ) (labels : List ℕ → ℕ) whe
 
   tried : (kind : Kind) (v : ℤ) (x : Name) (place m : ℕ) (s : List ℤ) (st : State) (cs : List Instruction) (o : Option ℕ) → get s d ≡ v → ((m' : ℕ) → At c m' cs → from c m' s st ≡ from c (goal_of m' (length cs) o) s st) →
       let code : List Instruction = elim x [ aLabel l ↦ cs | aCase w ↦ i.SkipEqual d (converted kind c.model w) (length cs + 1 + place) ∷ cs | aDefault ↦ cs ] in
-      At c m code → from c m s st ≡ from c (goal_of m (length code) (choose (is_mark c.model (toCase kind v) x) (Some place) o)) s st
+      At c m code → from c m s st ≡ from c (goal_of m (length code) (choose (is_mark c.model c.way (toCase kind v) x) (Some place) o)) s st
   tried kind v (aLabel l) place m s st cs o e h lies = h m lies
   tried kind v aDefault place m s st cs o e h lies = h m lies
   tried kind v (aCase w) place m s st cs o e h lies =
       let u : ℤ = converted kind c.model w in
       let skip : ℕ = length cs + 1 + place in
-      leads c m (choose (int_le (get s d) u && int_le u (get s d)) (suc m + skip) (suc m)) s s st st (i.SkipEqual d u skip) lies.0 refl
-      ∙ ap (λ z. from c (choose (int_le z u && int_le u z) (suc m + skip) (suc m)) s st) e
-      ∙ case_does (int_le v u && int_le u v) m place s st cs o (h (suc m) lies.1)
+      leads c m (choose (c.way.same (get s d) u) (suc m + skip) (suc m)) s s st st (i.SkipEqual d u skip) lies.0 refl
+      ∙ ap (λ z. from c (choose (c.way.same z u) (suc m + skip) (suc m)) s st) e
+      ∙ case_does (c.way.same v u) m place s st cs o (h (suc m) lies.1)
 
   pub cases_do : (kind : Kind) (v : ℤ) (ms : List Mark) (m : ℕ) (s : List ℤ) (st : State) → get s d ≡ v → At c m (cases_code c.model d kind ms) →
-      from c m s st ≡ from c (goal_of m (length (cases_code c.model d kind ms)) (sought c.model (toCase kind v) ms)) s st
+      from c m s st ≡ from c (goal_of m (length (cases_code c.model d kind ms)) (sought c.model c.way (toCase kind v) ms)) s st
   cases_do kind v [] m s st e l = ap (λ x. from c x s st) (omega arith)
-  cases_do kind v (x ∷ ms) m s st e l = tried kind v x.name x.place m s st (cases_code c.model d kind ms) (sought c.model (toCase kind v) ms) e (λ m' l'. cases_do kind v ms m' s st e l') l
+  cases_do kind v (x ∷ ms) m s st e l = tried kind v x.name x.place m s st (cases_code c.model d kind ms) (sought c.model c.way (toCase kind v) ms) e (λ m' l'. cases_do kind v ms m' s st e l') l
 
   module _ (n : ℕ) where
     -- ---- Switches
@@ -124,22 +123,22 @@ module _ (c : Frame) (s0 : List ℤ) (end : ℕ) (labels : List ℕ → ℕ) whe
         let ly : At c P ys = at_moved c P' P ys (sym same) r.third.1 in
         let l1 = leaves_inner c s0 end labels t k f1 b e E e (λ x y. refl) (λ x y. refl) (pass c s0 end labels t k f1 E Broke Normal (λ y. refl) nb') (pass c s0 end labels t k f1 e Continued Continued (λ y. refl) lv.goes) lv in
         let l2 = leaves_inner c s0 end labels t k f2 b e E e (λ x y. refl) (λ x y. refl) (pass c s0 end labels t k f2 E Broke Normal (λ y. refl) nb') (pass c s0 end labels t k f2 e Continued Continued (λ y. refl) lv.goes) lv in
-        let h1 : Sought c s0 end labels (through c s0 end labels f1 k) P (sought c.model (toCase kind v) ms) (f (Seek (toCase kind v)) st1) s1 st1 =
+        let h1 : Sought c s0 end labels (through c s0 end labels f1 k) P (sought c.model c.way (toCase kind v) ms) (f (Seek (toCase kind v)) st1) s1 st1 =
         body (toCase kind v) t E s1 st1 (through c s0 end labels f1 k) tn (omega arith) ly room tu1 ke1 (pass c s0 end labels t k f1 E Normal Normal (λ y. refl) nb') l1 in
-        let h2 : Sought c s0 end labels (through c s0 end labels f2 k) P (sought c.model toDefault ms) (f (Seek toDefault) st1) s1 st1 =
+        let h2 : Sought c s0 end labels (through c s0 end labels f2 k) P (sought c.model c.way toDefault ms) (f (Seek toDefault) st1) s1 st1 =
         body toDefault t E s1 st1 (through c s0 end labels f2 k) tn (omega arith) ly room tu1 ke1 (pass c s0 end labels t k f2 E Normal Normal (λ y. refl) nb') l2 in
         cases_do kind v ms (p + length xs) s1 st1 is1 r.second
-        ∙ case_or_default t (p + length xs) (length cs) size q f kind v (sought c.model (toCase kind v) ms) (default_in ms) s1 st1 k (omega (arith, eq)) tu1 ke1 nb r.third.0
-        (subst (λ x. Sought c s0 end labels (through c s0 end labels f1 k) x (sought c.model (toCase kind v) ms) (f (Seek (toCase kind v)) st1) s1 st1) same h1)
-        (subst (λ o. Sought c s0 end labels (through c s0 end labels f2 k) P' o (f (Seek toDefault) st1) s1 st1) (sym (default_sought c.model ms))
-        (subst (λ x. Sought c s0 end labels (through c s0 end labels f2 k) x (sought c.model toDefault ms) (f (Seek toDefault) st1) s1 st1) same h2)))
+        ∙ case_or_default t (p + length xs) (length cs) size q f kind v (sought c.model c.way (toCase kind v) ms) (default_in ms) s1 st1 k (omega (arith, eq)) tu1 ke1 nb r.third.0
+        (subst (λ x. Sought c s0 end labels (through c s0 end labels f1 k) x (sought c.model c.way (toCase kind v) ms) (f (Seek (toCase kind v)) st1) s1 st1) same h1)
+        (subst (λ o. Sought c s0 end labels (through c s0 end labels f2 k) P' o (f (Seek toDefault) st1) s1 st1) (sym (default_sought c.model c.way ms))
+        (subst (λ x. Sought c s0 end labels (through c s0 end labels f2 k) x (sought c.model c.way toDefault ms) (f (Seek toDefault) st1) s1 st1) same h2)))
 
     -- a label in a switch
     pub switch_seeks : (l : List ℕ) (b e p size : ℕ) (xs ys : List Instruction) (ms : List Mark) (kind : Kind) (f : From → Run Exit) →
         Seeks c s0 end labels n (p + (length xs + length (cases_code c.model d kind ms) + 1 + size)) e (p + (length xs + length (cases_code c.model d kind ms) + 1)) ys size ms (λ pl. f (Seek pl)) →
         (t q : ℕ) (s : List ℤ) (st : State) (k : Exit → State → Ending) → t ≤ n → q ≡ p + (length xs + length (cases_code c.model d kind ms) + 1 + size) → At c p (xs ++ cases_code c.model d kind ms ++ i.Jump (or_place size (default_in ms)) ∷ ys) → Room c s0 end labels q b e → st.turns ≤ t → Keeps c d s0 s →
         Behind c s0 end labels t k q Normal → Leaves c s0 end labels t k b e →
-        Sought c s0 end labels k p (sought c.model (toLabel l) (labels_alone (moved (length xs + length (cases_code c.model d kind ms) + 1) ms))) (after (f (Seek (toLabel l)) st) (λ x. give (leave_switch x))) s st
+        Sought c s0 end labels k p (sought c.model c.way (toLabel l) (labels_alone (moved (length xs + length (cases_code c.model d kind ms) + 1) ms))) (after (f (Seek (toLabel l)) st) (λ x. give (leave_switch x))) s st
     switch_seeks l b e p size xs ys ms kind f body t q s st k tn eq lies ro tu ke nb lv =
         let cs : List Instruction = cases_code c.model d kind ms in
         let r = parts c p xs cs (i.Jump (or_place size (default_in ms)) ∷ ys) lies in
@@ -152,14 +151,14 @@ module _ (c : Frame) (s0 : List ℤ) (end : ℕ) (labels : List ℕ → ℕ) whe
         let room : Room c s0 end labels E E e = record { before_broke = omega arith; before_continued = omega (arith, ro.before_continued, eq); before_end = omega (arith, ro.before_end, eq) } in
         let ly : At c P ys = at_moved c P' P ys (sym same) r.third.1 in
         let l1 = leaves_inner c s0 end labels t k f1 b e E e (λ x y. refl) (λ x y. refl) (pass c s0 end labels t k f1 E Broke Normal (λ y. refl) nb') (pass c s0 end labels t k f1 e Continued Continued (λ y. refl) lv.goes) lv in
-        let h1 : Sought c s0 end labels (through c s0 end labels f1 k) P (sought c.model (toLabel l) ms) (f (Seek (toLabel l)) st) s st =
+        let h1 : Sought c s0 end labels (through c s0 end labels f1 k) P (sought c.model c.way (toLabel l) ms) (f (Seek (toLabel l)) st) s st =
         body (toLabel l) t E s st (through c s0 end labels f1 k) tn (omega arith) ly room tu ke (pass c s0 end labels t k f1 E Normal Normal (λ y. refl) nb') l1 in
-        subst (λ o. Sought c s0 end labels k p o (after (f (Seek (toLabel l)) st) f1) s st) (sym (labels_sought c.model l (moved (length xs + length cs + 1) ms)))
-        (moved_at k (toLabel l) p P (length xs + length cs + 1) ms (after (f (Seek (toLabel l)) st) f1) s st refl (sought_pass k P (sought c.model (toLabel l) ms) (f (Seek (toLabel l)) st) f1 s st refl h1))
+        subst (λ o. Sought c s0 end labels k p o (after (f (Seek (toLabel l)) st) f1) s st) (sym (labels_sought c.model c.way l (moved (length xs + length cs + 1) ms)))
+        (moved_at k (toLabel l) p P (length xs + length cs + 1) ms (after (f (Seek (toLabel l)) st) f1) s st refl (sought_pass k P (sought c.model c.way (toLabel l) ms) (f (Seek (toLabel l)) st) f1 s st refl h1))
 
     -- nothing else is sought in it
-    pub none_sought : (pl : Place) (k : Exit → State → Ending) (p : ℕ) (ms : List Mark) (s : List ℤ) (st : State) → ((x : List ℕ) → is_mark c.model pl (aLabel x) ≡ false) → Sought c s0 end labels k p (sought c.model pl (labels_alone ms)) (Value Absent st) s st
-    none_sought pl k p ms s st h = subst (λ o. Sought c s0 end labels k p o (Value Absent st) s st) (sym (no_label c.model pl ms h)) refl
+    pub none_sought : (pl : Place) (k : Exit → State → Ending) (p : ℕ) (ms : List Mark) (s : List ℤ) (st : State) → ((x : List ℕ) → is_mark c.model c.way pl (aLabel x) ≡ false) → Sought c s0 end labels k p (sought c.model c.way pl (labels_alone ms)) (Value Absent st) s st
+    none_sought pl k p ms s st h = subst (λ o. Sought c s0 end labels k p o (Value Absent st) s st) (sym (no_label c.model c.way pl ms h)) refl
 
     -- ---- Statements in a row
 
@@ -180,7 +179,7 @@ module _ (c : Frame) (s0 : List ℤ) (end : ℕ) (labels : List ℕ → ℕ) whe
         let g : Exit → Run Exit = λ x. found x f' (fs' pl) in
         let ly : At c (p + m) ys = at_moved c (p + length xs) (p + m) ys (omega (arith, len)) r.1 in
         both_at k pl p ms (moved m ms') (after (fs pl st) g) s st
-        (sought_then k p (sought c.model pl ms) (sought c.model pl (moved m ms')) (fs pl st) (fs' pl st) g s st refl
+        (sought_then k p (sought c.model c.way pl ms) (sought c.model c.way pl (moved m ms')) (fs pl st) (fs' pl st) g s st refl
         (first pl t (p + m) s st (through c s0 end labels g k) tn refl r.0 (room_less c s0 end labels q (p + m) b e (omega (arith, eq)) ro) tu ke
         (λ s1 st1 tu1 ke1. second t q s1 st1 k tn (omega (arith, eq)) ly ro tu1 ke1 nb lv) (leaves_pass c s0 end labels t k g b e (λ x. refl) (λ x. refl) (λ x y. refl) (λ x y. refl) lv))
         (moved_at k pl p (p + m) m ms' (fs' pl st) s st refl (other pl t q s st k tn (omega (arith, eq)) ly ro tu ke nb lv)))
@@ -201,7 +200,7 @@ module _ (c : Frame) (s0 : List ℤ) (end : ℕ) (labels : List ℕ → ℕ) whe
         let g : Exit → Run Exit = λ x. or_else x (fs' pl) in
         let w : ℕ = p + length xs + suc (length ys) in
         both_at k pl p (moved (length xs + 1) ms) (moved (length xs + 1 + m + 1) ms') (after (fs pl st) g) s st
-        (sought_then k p (sought c.model pl (moved (length xs + 1) ms)) (sought c.model pl (moved (length xs + 1 + m + 1) ms')) (fs pl st) (fs' pl st) g s st refl
+        (sought_then k p (sought c.model c.way pl (moved (length xs + 1) ms)) (sought c.model c.way pl (moved (length xs + 1 + m + 1) ms')) (fs pl st) (fs' pl st) g s st refl
         (moved_at (through c s0 end labels g k) pl p (p + (length xs + 1)) (length xs + 1) ms (fs pl st) s st refl
         (body pl t w s st (through c s0 end labels g k) tn (omega (arith, len)) (at_moved c (suc (p + length xs)) (p + (length xs + 1)) ys (omega arith) r.second.1) (room_less c s0 end labels q w b e (omega (arith, eq, len)) ro) tu ke
         (λ s1 st1 tu1 ke1. leads c w (suc w + m') s1 s1 st1 st1 (i.Jump m') r.third.0 refl ∙ there_from c q (suc w + m') s1 st1 _ (omega (arith, eq, len)) (nb s1 st1 tu1 ke1 ∙ sym (ends_value Normal st1 k)))
@@ -228,11 +227,11 @@ module _ (c : Frame) (s0 : List ℤ) (end : ℕ) (labels : List ℕ → ℕ) whe
           seq Exit Exit (f st) o k (from c B s st) (body t C s st (through c s0 end labels o k) tn r.step_at r.body inner_room tu ke ar.normal ar.leaves)
 
       pub body_seeks : (ms : List Mark) (fs : Place → Run Exit) → Seeks c s0 end labels n E C B ys (length ys) ms fs → (pl : Place) (t : ℕ) (s : List ℤ) (st : State) (k : Exit → State → Ending) → t ≤ n → st.turns ≤ t → Keeps c d s0 s → Behind c s0 end labels t k E Normal → Leaves c s0 end labels t k b e →
-          Sought c s0 end labels k B (sought c.model pl ms) (after (fs pl st) (again c s0 end labels n h (loop at n g f h))) s st
+          Sought c s0 end labels k B (sought c.model c.way pl ms) (after (fs pl st) (again c s0 end labels n h (loop at n g f h))) s st
       body_seeks ms fs seeks pl t s st k tn tu ke nb lv =
           let ar = goes_round t k tn nb lv in
           let o : Exit → Run Exit = again c s0 end labels n h (loop at n g f h) in
-          sought_pass k B (sought c.model pl ms) (fs pl st) o s st refl (seeks pl t C s st (through c s0 end labels o k) tn r.step_at r.body inner_room tu ke ar.normal ar.leaves)
+          sought_pass k B (sought c.model c.way pl ms) (fs pl st) o s st refl (seeks pl t C s st (through c s0 end labels o k) tn r.step_at r.body inner_room tu ke ar.normal ar.leaves)
 
       -- from a turn before
       pub turn_starts : (w t : ℕ) (s : List ℤ) (st : State) (k : Exit → State → Ending) → t ≤ n → Lies c w (i.Turn at T) → st.turns ≤ t → Keeps c d s0 s → Behind c s0 end labels t k E Normal → Leaves c s0 end labels t k b e → from c w s st ≡ ends (loop at n g f h st) k

@@ -8,7 +8,7 @@ use Rattle.c_run.specs.Loops.{toLabel, From, Start, Seek, Exit, Normal, Broke, C
 use Rattle.c_typed.specs.Tree.{Steps, Function, Program}
 use Rattle.c_typed.specs.Rules.{all_of_all, calls_of}
 use Rattle.typed_range_laws.specs.Keeping as keeping
-use Rattle.typed_range_laws.specs.Ways.{Keep}
+use Rattle.typed_range_laws.specs.Ways.{Way}
 use Rattle.slot_code.specs.declared.flat.Instruction.{Instruction}
 use Rattle.slot_code.specs.declared.flat.Instruction.TheVariants as i
 use Rattle.slot_code.specs.declared.reply.Ending.{Ending}
@@ -44,7 +44,7 @@ module _ (c : Frame) (s0 : List ℤ) (n : ℕ) (hc : (t : ℕ) → t ≤ n → C
   code = steps_code c.model c.objects c.functions c.links result (suc c.low) end labels end end place body
 
   abbrev run : From → Run Exit
-  run from' = keeping.exec_all c.model c.objects c.compute c.keep c.inputs c.call result n body from'
+  run from' = keeping.exec_all c.model c.objects c.compute c.way c.inputs c.call result n body from'
 
   -- where the call goes on, at so many turns
   abbrev pub Back : ℕ → (Option ℤ → State → Ending) → Type 0
@@ -92,9 +92,9 @@ module _ (c : Frame) (s0 : List ℤ) (n : ℕ) (hc : (t : ℕ) → t ≤ n → C
     jump_runs (suc m) l s st k lt tn ke h =
         let f : List ℕ → Run (Option ℤ) = λ x. enter m run (Seek (toLabel x)) in
         let lv = leaves st.turns k f h (λ x s1 st1 lt1 ke1. jump_runs m x s1 st1 k (omega (arith, lt, lt1)) (omega (arith, tn, lt1)) ke1 (back_less st.turns st1.turns k (omega (arith, lt1)) h)) in
-        let e : Sought c s0 end labels (behind f k) place (sought c.model (toLabel l) marks) (run (Seek (toLabel l)) st) s st =
+        let e : Sought c s0 end labels (behind f k) place (sought c.model c.way (toLabel l) marks) (run (Seek (toLabel l)) st) s st =
         seek_all c s0 end labels n hc result body end end place li (toLabel l) st.turns end s st (behind f k) tn refl lies room (omega arith) ke (ended st.turns k f Normal (λ x. refl) h) lv in
-        ap (λ o. from c (or_place end (moved_place o)) s st) (label_sought c.model l marks) ∙ sought_left st.turns k f (sought c.model (toLabel l) marks) (run (Seek (toLabel l)) st) s st h (omega arith) ke e
+        ap (λ o. from c (or_place end (moved_place o)) s st) (label_sought c.model c.way l marks) ∙ sought_left st.turns k f (sought c.model c.way (toLabel l) marks) (run (Seek (toLabel l)) st) s st h (omega arith) ke e
 
     pub enter_runs : (m : ℕ) (s : List ℤ) (st : State) (k : Option ℤ → State → Ending) → st.turns ≤ m → st.turns ≤ n → Keeps c (suc c.low) s0 s → Back st.turns k → from c place s st ≡ ends (enter (suc m) run Start st) k
     enter_runs m s st k le tn ke h =
@@ -108,14 +108,14 @@ same_number a b e = ⊎_elim (λ p. p.1) (λ p. absurd cc) (eqb_tells a b)
 
 -- ---- Functions that stand before others
 
-module _ (program : Program) (compute : Compute) (keep : Keep) (inputs : List ℤ) (code : List Instruction) where
+module _ (program : Program) (compute : Compute) (way : Way) (inputs : List ℤ) (code : List Instruction) where
   abbrev pub frame : List Link → Calls → (low top start : ℕ) → Frame
   frame links call low top start = record {
     model = program.model;
     objects = program.objects;
     functions = program.functions;
     compute = compute;
-    keep = keep;
+    way = way;
     inputs = inputs;
     links = links;
     code = code;

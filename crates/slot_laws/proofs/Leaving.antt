@@ -88,7 +88,7 @@ module _ (c : Frame) (s0 : List ℤ) (end : ℕ) (labels : List ℕ → ℕ) whe
     abbrev pub Seeks : (broke continued place : ℕ) → List Instruction → ℕ → List Mark → (Place → Run Exit) → Type 0
     Seeks b e p xs m ms g =
         (pl : Place) (t q : ℕ) (s : List ℤ) (st : State) (k : Exit → State → Ending) → t ≤ n → q ≡ p + m → At c p xs → Room q b e → st.turns ≤ t → Keeps c d s0 s → Behind t k q Normal → Leaves t k b e →
-        Sought k p (sought c.model pl ms) (g pl st) s st
+        Sought k p (sought c.model c.way pl ms) (g pl st) s st
 
     -- a value
     abbrev pub Gives : List Instruction → Run ℤ → Type 0

@@ -4,7 +4,7 @@ use Rattle.lv_base.specs.declared.kind.Model.{Model}
 use Rattle.c_run.specs.Run.{State, Got, Value, Stop, Run, after, Compute}
 use Rattle.c_run.specs.Loops.{Calls}
 use Rattle.c_typed.specs.Tree.{Object, Function}
-use Rattle.typed_range_laws.specs.Ways.{Keep}
+use Rattle.typed_range_laws.specs.Ways.{Way}
 use Rattle.slot_code.specs.declared.flat.Instruction.{Instruction}
 use Rattle.slot_code.specs.declared.reply.Ending.{Ending}
 use Rattle.slot_code.specs.Slots.{get, put, slots_of}
@@ -54,7 +54,7 @@ pub record Frame : Type 0 where
   pub objects : List Object
   pub functions : List Function
   pub compute : Compute
-  pub keep : Keep
+  pub way : Way
   pub inputs : List ℤ
   pub links : List Link
   pub code : List Instruction
@@ -97,33 +97,33 @@ module _ (c : Frame) where
 
   -- the run from a place
   unfoldable pub from : ℕ → List ℤ → State → Ending
-  from place slots st = run_from_with c.model c.compute c.inputs c.keep c.code (machine place slots st)
+  from place slots st = run_from_with c.model c.compute c.inputs c.way c.code (machine place slots st)
 
   pub there_from : (p q : ℕ) (s : List ℤ) (st : State) (x : Ending) → q ≡ p → from p s st ≡ x → from q s st ≡ x
   there_from p q s st x e h = ap (λ n. from n s st) e ∙ h
 
   acts : (p : ℕ) (s : List ℤ) (st : State) (x : Instruction) → Lies p x →
-      from p s st ≡ onward c.model c.compute c.inputs c.code (act_with c.model c.compute c.inputs c.keep x p s st) (run_from_with c.model c.compute c.inputs c.keep c.code)
+      from p s st ≡ onward c.model c.compute c.inputs c.code (act_with c.model c.compute c.inputs c.way x p s st) (run_from_with c.model c.compute c.inputs c.way c.code)
   unfolding from
   acts p s st x l =
-      goes_on c.model c.compute c.inputs c.keep c.code (machine p s st)
-      ∙ ap (λ o. onward c.model c.compute c.inputs c.code (act_at_with c.model c.compute c.inputs c.keep o (machine p s st)) (run_from_with c.model c.compute c.inputs c.keep c.code)) l.there
+      goes_on c.model c.compute c.inputs c.way c.code (machine p s st)
+      ∙ ap (λ o. onward c.model c.compute c.inputs c.code (act_at_with c.model c.compute c.inputs c.way o (machine p s st)) (run_from_with c.model c.compute c.inputs c.way c.code)) l.there
 
   -- goes to a place
-  pub leads : (p goal : ℕ) (s s' : List ℤ) (st st' : State) (x : Instruction) → Lies p x → act_with c.model c.compute c.inputs c.keep x p s st ≡ Goes (machine goal s' st') → from p s st ≡ from goal s' st'
+  pub leads : (p goal : ℕ) (s s' : List ℤ) (st st' : State) (x : Instruction) → Lies p x → act_with c.model c.compute c.inputs c.way x p s st ≡ Goes (machine goal s' st') → from p s st ≡ from goal s' st'
   unfolding from
-  leads p goal s s' st st' x l e = acts p s st x l ∙ ap (λ n. onward c.model c.compute c.inputs c.code n (run_from_with c.model c.compute c.inputs c.keep c.code)) e
+  leads p goal s s' st st' x l e = acts p s st x l ∙ ap (λ n. onward c.model c.compute c.inputs c.code n (run_from_with c.model c.compute c.inputs c.way c.code)) e
 
   -- ends the run
-  pub stops : (p : ℕ) (s : List ℤ) (st : State) (x : Instruction) (e : Ending) → Lies p x → act_with c.model c.compute c.inputs c.keep x p s st ≡ Over e → from p s st ≡ e
-  stops p s st x e l h = acts p s st x l ∙ ap (λ n. onward c.model c.compute c.inputs c.code n (run_from_with c.model c.compute c.inputs c.keep c.code)) h
+  pub stops : (p : ℕ) (s : List ℤ) (st : State) (x : Instruction) (e : Ending) → Lies p x → act_with c.model c.compute c.inputs c.way x p s st ≡ Over e → from p s st ≡ e
+  stops p s st x e l h = acts p s st x l ∙ ap (λ n. onward c.model c.compute c.inputs c.code n (run_from_with c.model c.compute c.inputs c.way c.code)) h
 
-  fills_ends : (p d : ℕ) (s : List ℤ) (g : Got ℤ) → onward c.model c.compute c.inputs c.code (fills p s d g) (run_from_with c.model c.compute c.inputs c.keep c.code) ≡ ends g (λ v st. from (suc p) (put s d v) st)
+  fills_ends : (p d : ℕ) (s : List ℤ) (g : Got ℤ) → onward c.model c.compute c.inputs c.code (fills p s d g) (run_from_with c.model c.compute c.inputs c.way c.code) ≡ ends g (λ v st. from (suc p) (put s d v) st)
   unfolding from ends
   fills_ends p d s (Value v st) = refl
   fills_ends p d s (Stop e) = refl
 
-  goes_ends : (goal : ℕ) (s : List ℤ) (g : Got (Unit {0})) → onward c.model c.compute c.inputs c.code (goes goal s g) (run_from_with c.model c.compute c.inputs c.keep c.code) ≡ ends g (λ v st. from goal s st)
+  goes_ends : (goal : ℕ) (s : List ℤ) (g : Got (Unit {0})) → onward c.model c.compute c.inputs c.code (goes goal s g) (run_from_with c.model c.compute c.inputs c.way c.code) ≡ ends g (λ v st. from goal s st)
   unfolding from ends
   goes_ends goal s (Value v st) = refl
   goes_ends goal s (Stop e) = refl
@@ -173,15 +173,15 @@ module _ (c : Frame) where
     still_ends A st (Stop e) k k' x le h = refl
 
     -- one instruction that leaves a value in a slot
-    pub one : (p q d slot : ℕ) (s : List ℤ) (st : State) (x : Instruction) (g : Got ℤ) (k : ℤ → State → Ending) → q ≡ suc p → Lies p x → act_with c.model c.compute c.inputs c.keep x p s st ≡ fills p s slot g → d ≤ slot → slot < c.top → Still st g → st.turns ≤ t →
+    pub one : (p q d slot : ℕ) (s : List ℤ) (st : State) (x : Instruction) (g : Got ℤ) (k : ℤ → State → Ending) → q ≡ suc p → Lies p x → act_with c.model c.compute c.inputs c.way x p s st ≡ fills p s slot g → d ≤ slot → slot < c.top → Still st g → st.turns ≤ t →
         Then ℤ (In slot) d q s k → from p s st ≡ ends g k
     one p q d slot s st x g k e l a le lt still tu h =
-        acts p s st x l ∙ ap (λ n. onward c.model c.compute c.inputs c.code n (run_from_with c.model c.compute c.inputs c.keep c.code)) a ∙ fills_ends p slot s g
+        acts p s st x l ∙ ap (λ n. onward c.model c.compute c.inputs c.code n (run_from_with c.model c.compute c.inputs c.way c.code)) a ∙ fills_ends p slot s g
         ∙ still_ends ℤ st g _ k still tu (λ v st' le'. sym (ap (λ n. from n (put s slot v) st') e) ∙ h v (put s slot v) st' le' (keeps_put d s slot v le lt) (put_same s slot v))
 
     -- one instruction that leaves the slots
-    pub plain : (p q d : ℕ) (s : List ℤ) (st : State) (x : Instruction) (g : Got (Unit {0})) (k : Unit {0} → State → Ending) → q ≡ suc p → Lies p x → act_with c.model c.compute c.inputs c.keep x p s st ≡ goes (suc p) s g → Still st g → st.turns ≤ t →
+    pub plain : (p q d : ℕ) (s : List ℤ) (st : State) (x : Instruction) (g : Got (Unit {0})) (k : Unit {0} → State → Ending) → q ≡ suc p → Lies p x → act_with c.model c.compute c.inputs c.way x p s st ≡ goes (suc p) s g → Still st g → st.turns ≤ t →
         Then (Unit {0}) Nothing d q s k → from p s st ≡ ends g k
     plain p q d s st x g k e l a still tu h =
-        acts p s st x l ∙ ap (λ n. onward c.model c.compute c.inputs c.code n (run_from_with c.model c.compute c.inputs c.keep c.code)) a ∙ goes_ends (suc p) s g
+        acts p s st x l ∙ ap (λ n. onward c.model c.compute c.inputs c.code n (run_from_with c.model c.compute c.inputs c.way c.code)) a ∙ goes_ends (suc p) s g
         ∙ still_ends (Unit {0}) st g _ k still tu (λ v st' le'. sym (ap (λ n. from n s st') e) ∙ h v s st' le' (keeps_same d s) tt)

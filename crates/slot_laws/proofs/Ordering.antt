@@ -5,7 +5,7 @@ use Rattle.std.proofs.lemmas.Bool.Decides.{eqb_tells}
 use Rattle.c_run.specs.Run.{Compute}
 use Rattle.c_typed.specs.Tree.{Function, Program}
 use Rattle.c_typed.specs.Rules.{has, Call, calls_of, all_of_all}
-use Rattle.typed_range_laws.specs.Ways.{Keep}
+use Rattle.typed_range_laws.specs.Ways.{Way}
 use Rattle.slot_code.specs.declared.flat.Instruction.{Instruction}
 use Rattle.slot_code.specs.declared.flat.Instruction.TheVariants as i
 use Rattle.slot_code.specs.Slots.{slots_in}
@@ -80,10 +80,10 @@ pub slots_both : (xs ys : List Instruction) → slots_in (xs ++ ys) ≡ max (slo
 slots_both [] ys = omega arith
 slots_both (x ∷ xs) ys = let h = slots_both xs ys in omega (arith, h)
 
-module _ (program : Program) (compute : Compute) (keep : Keep) (inputs : List ℤ) (code : List Instruction) where
+module _ (program : Program) (compute : Compute) (way : Way) (inputs : List ℤ) (code : List Instruction) where
   -- the functions that were added stand there
   pub record Grown (b : Code) (before : List ℕ) : Type 0 where
-    pub stands : Stands program compute keep inputs code b.links (length b.instructions) (slots_in b.instructions)
+    pub stands : Stands program compute way inputs code b.links (length b.instructions) (slots_in b.instructions)
     pub numbers : numbers_of b.links ≡ before
 
   function_stands : (b : Code) (before : List ℕ) (number : ℕ) (f : Function) (rest : List Instruction) → Grown b before → slice_get program.functions number ≡ Some f → CallsAmong before (calls_of (all_of_all f.body)) →
@@ -112,7 +112,7 @@ module _ (program : Program) (compute : Compute) (keep : Keep) (inputs : List �
             slot_in = omega (arith, m1, m2);
             entry_in = omega (arith, n2);
             before = omega (arith, n1, n2, len);
-            lies = λ call. at_within (frame program compute keep inputs code b.links call slot (slots_in fc) entry) fc b.instructions rest entry e refl (omega arith) (omega arith);
+            lies = λ call. at_within (frame program compute way inputs code b.links call slot (slots_in fc) entry) fc b.instructions rest entry e refl (omega arith) (omega arith);
             linked = calls_linked b.links (calls_of (all_of_all f.body)) (subst (λ x. CallsAmong x (calls_of (all_of_all f.body))) (sym g.numbers) calls);
           },
           g.stands,

@@ -15,12 +15,12 @@ use Rattle.slot_laws.proofs.Lying.{ends, ends_value, seq, Frame, Lies, At, split
 
 module _ (c : Frame) (t : ℕ) where
   -- one instruction
-  pub single : (d : ℕ) (x : Instruction) (f : Run ℤ) → ((p : ℕ) (s : List ℤ) (st : State) → act_with c.model c.compute c.inputs c.keep x p s st ≡ fills p s d (f st)) → d < slots_of x → ((st : State) → Still st (f st)) → Does c t ℤ (In c t d) d (x ∷ []) f
+  pub single : (d : ℕ) (x : Instruction) (f : Run ℤ) → ((p : ℕ) (s : List ℤ) (st : State) → act_with c.model c.compute c.inputs c.way x p s st ≡ fills p s d (f st)) → d < slots_of x → ((st : State) → Still st (f st)) → Does c t ℤ (In c t d) d (x ∷ []) f
   single d x f a b still p q s st k e l tu h = one c t p q d d s st x (f st) k (omega (arith, e)) l.0 (a p s st) (omega arith) (omega (arith, b, l.0.below)) (still st) tu h
 
   -- an operator with one operand
   pub unary : (d : ℕ) (xs : List Instruction) (g : Run ℤ) (x : Instruction) (f : ℤ → Run ℤ) → Does c t ℤ (In c t d) d xs g →
-      ((p : ℕ) (s : List ℤ) (st : State) → act_with c.model c.compute c.inputs c.keep x p s st ≡ fills p s d (f (get s d) st)) → d < slots_of x → ((v : ℤ) (st : State) → Still st (f v st)) →
+      ((p : ℕ) (s : List ℤ) (st : State) → act_with c.model c.compute c.inputs c.way x p s st ≡ fills p s d (f (get s d) st)) → d < slots_of x → ((v : ℤ) (st : State) → Still st (f v st)) →
       Does c t ℤ (In c t d) d (xs ++ x ∷ []) (λ st. after (g st) f)
   unary d xs g x f runs a b still p q s st k e l tu h =
       let r = split c p xs (x ∷ []) l in
@@ -32,7 +32,7 @@ module _ (c : Frame) (t : ℕ) where
 
   -- an operator with two operands
   pub binary : (d : ℕ) (xs ys : List Instruction) (g g' : Run ℤ) (x : Instruction) (f : ℤ → ℤ → Run ℤ) → c.low ≤ d → Does c t ℤ (In c t d) d xs g → Does c t ℤ (In c t (suc d)) (suc d) ys g' →
-      ((p : ℕ) (s : List ℤ) (st : State) → act_with c.model c.compute c.inputs c.keep x p s st ≡ fills p s d (f (get s d) (get s (suc d)) st)) → d < slots_of x → ((v w : ℤ) (st : State) → Still st (f v w st)) →
+      ((p : ℕ) (s : List ℤ) (st : State) → act_with c.model c.compute c.inputs c.way x p s st ≡ fills p s d (f (get s d) (get s (suc d)) st)) → d < slots_of x → ((v w : ℤ) (st : State) → Still st (f v w st)) →
       Does c t ℤ (In c t d) d ((xs ++ ys) ++ x ∷ []) (λ st. after (g st) (λ v st1. after (g' st1) (f v)))
   binary d xs ys g g' x f lo runs runs' a b still p q s st k e l tu h =
       let r = parts c p xs ys (x ∷ []) l in

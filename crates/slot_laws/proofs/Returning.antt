@@ -6,7 +6,7 @@ use Rattle.c_run.specs.Loops.{Start, Calls, enter}
 use Rattle.c_typed.specs.Tree.{Function, Program}
 use Rattle.c_typed.specs.Rules.{all_of_all}
 use Rattle.typed_range_laws.specs.Keeping as keeping
-use Rattle.typed_range_laws.specs.Ways.{Keep}
+use Rattle.typed_range_laws.specs.Ways.{Way}
 use Rattle.slot_code.specs.declared.flat.Instruction.{Instruction}
 use Rattle.slot_code.specs.declared.flat.Instruction.TheVariants as i
 use Rattle.slot_code.specs.declared.reply.Ending.{Ending}
@@ -22,35 +22,35 @@ use Rattle.slot_laws.proofs.Sizes.{steps_length}
 use Rattle.slot_laws.proofs.Linking.{values_linked}
 use Rattle.slot_laws.proofs.Functioning.{enter_runs, same_number, frame, StandsFor, Stands, One, one_less}
 
-module _ (program : Program) (compute : Compute) (keep : Keep) (inputs : List ℤ) (code : List Instruction) where
-  looked_up : (number : ℕ) (l x : Link) (xs : List Link) (place slots : ℕ) (b : Bool) → nat_eq x.function number ≡ b → Stands program compute keep inputs code (x ∷ xs) place slots →
-      (link_of number xs ≡ Some l → One program compute keep inputs code number l x.entry x.slot) → (if b then Some x else link_of number xs) ≡ Some l → One program compute keep inputs code number l place slots
+module _ (program : Program) (compute : Compute) (way : Way) (inputs : List ℤ) (code : List Instruction) where
+  looked_up : (number : ℕ) (l x : Link) (xs : List Link) (place slots : ℕ) (b : Bool) → nat_eq x.function number ≡ b → Stands program compute way inputs code (x ∷ xs) place slots →
+      (link_of number xs ≡ Some l → One program compute way inputs code number l x.entry x.slot) → (if b then Some x else link_of number xs) ≡ Some l → One program compute way inputs code number l place slots
   looked_up number l x xs place slots true b h later e =
       let same : x ≡ l = cc in
-      subst (λ y. One program compute keep inputs code number y place slots) same
-      (record { links = xs; this = subst (λ m. StandsFor program compute keep inputs code m x xs place slots) (same_number x.function number b) h.0; others = h.1 })
-  looked_up number l x xs place slots false b h later e = one_less program compute keep inputs code number l x.entry place x.slot slots h.0.entry_in (omega (arith, h.0.slot_in)) (later e)
+      subst (λ y. One program compute way inputs code number y place slots) same
+      (record { links = xs; this = subst (λ m. StandsFor program compute way inputs code m x xs place slots) (same_number x.function number b) h.0; others = h.1 })
+  looked_up number l x xs place slots false b h later e = one_less program compute way inputs code number l x.entry place x.slot slots h.0.entry_in (omega (arith, h.0.slot_in)) (later e)
 
   -- the function that is looked up stands there
-  pub stands_one : (number : ℕ) (l : Link) (links : List Link) (place slots : ℕ) → Stands program compute keep inputs code links place slots → link_of number links ≡ Some l → One program compute keep inputs code number l place slots
+  pub stands_one : (number : ℕ) (l : Link) (links : List Link) (place slots : ℕ) → Stands program compute way inputs code links place slots → link_of number links ≡ Some l → One program compute way inputs code number l place slots
   stands_one number l [] place slots h e = absurd cc
   stands_one number l (x ∷ xs) place slots h e = looked_up number l x xs place slots (nat_eq x.function number) refl h (λ e'. stands_one number l xs x.entry x.slot h.1 e') e
 
   -- the run from a place, whatever function it is in
   unfoldable pub run_at : ℕ → List ℤ → State → Ending
-  run_at place slots st = run_from_with program.model compute inputs keep code (machine place slots st)
+  run_at place slots st = run_from_with program.model compute inputs way code (machine place slots st)
 
-  pub run_is : (links : List Link) (call : Calls) (low top start p : ℕ) (s : List ℤ) (st : State) → from (frame program compute keep inputs code links call low top start) p s st ≡ run_at p s st
+  pub run_is : (links : List Link) (call : Calls) (low top start p : ℕ) (s : List ℤ) (st : State) → from (frame program compute way inputs code links call low top start) p s st ≡ run_at p s st
   unfolding from run_at
   run_is links call low top start p s st = refl
 
   -- a function from its first place on, until it returns
-  pub function_runs : (n : ℕ) (call : Calls) (number : ℕ) (l : Link) (links : List Link) (place slots : ℕ) (this : StandsFor program compute keep inputs code number l links place slots) →
-      ((t : ℕ) → t ≤ n → Called (frame program compute keep inputs code links call l.slot this.top l.entry) t) → (s : List ℤ) (st : State) (k : Option ℤ → State → Ending) (goal : ℕ) → st.turns ≤ n → get s l.slot ≡ pos goal → place ≤ goal →
+  pub function_runs : (n : ℕ) (call : Calls) (number : ℕ) (l : Link) (links : List Link) (place slots : ℕ) (this : StandsFor program compute way inputs code number l links place slots) →
+      ((t : ℕ) → t ≤ n → Called (frame program compute way inputs code links call l.slot this.top l.entry) t) → (s : List ℤ) (st : State) (k : Option ℤ → State → Ending) (goal : ℕ) → st.turns ≤ n → get s l.slot ≡ pos goal → place ≤ goal →
       ((r : Option ℤ) (s' : List ℤ) (st' : State) → st'.turns ≤ st.turns → ((x : ℕ) → slots ≤ x → get s' x ≡ get s x) → returned_in s' l.slot ≡ r → run_at goal s' st' ≡ k r st') →
-      run_at l.entry s st ≡ ends (enter (suc n) (keeping.exec_all program.model program.objects compute keep inputs call this.f.result n this.f.body) Start st) k
+      run_at l.entry s st ≡ ends (enter (suc n) (keeping.exec_all program.model program.objects compute way inputs call this.f.result n this.f.body) Start st) k
   function_runs n call number l links place slots this hc s st k goal le is past h =
-      let c : Frame = frame program compute keep inputs code links call l.slot this.top l.entry in
+      let c : Frame = frame program compute way inputs code links call l.slot this.top l.entry in
       let f : Function = this.f in
       let end : ℕ = body_end program links l.slot l.entry f in
       let labels : List ℕ → ℕ = label_place program links l.slot l.entry f in
@@ -71,49 +71,49 @@ module _ (program : Program) (compute : Compute) (keep : Keep) (inputs : List �
   -- ---- Calls, with so many turns
 
   abbrev calls : ℕ → Calls
-  calls n = keeping.call_at program compute keep inputs n
+  calls n = keeping.call_at program compute way inputs n
 
-  bound_in : (number : ℕ) (f : Function) (vs : List ℤ) (store : List (List ℤ)) → slice_get program.functions number ≡ Some f → bound_store keep (parameters_of (slice_get program.functions number)) vs store ≡ bound_store keep f.parameters vs store
-  bound_in number f vs store e = ap (λ o. bound_store keep (parameters_of o) vs store) e
+  bound_in : (number : ℕ) (f : Function) (vs : List ℤ) (store : List (List ℤ)) → slice_get program.functions number ≡ Some f → bound_store way (parameters_of (slice_get program.functions number)) vs store ≡ bound_store way f.parameters vs store
+  bound_in number f vs store e = ap (λ o. bound_store way (parameters_of o) vs store) e
 
-  call_spent : (n number at place slots : ℕ) (l : Link) (links : List Link) (low top start p : ℕ) (vs s : List ℤ) (store : List (List ℤ)) (taken : ℕ) (k : Option ℤ → State → Ending) → Lies (frame program compute keep inputs code links (calls n) low top start) p (i.Call at l.entry l.slot) →
-      from (frame program compute keep inputs code links (calls n) low top start) p s (record { store = bound_store keep (parameters_of (slice_get program.functions number)) vs store; taken = taken; turns = zero })
+  call_spent : (n number at place slots : ℕ) (l : Link) (links : List Link) (low top start p : ℕ) (vs s : List ℤ) (store : List (List ℤ)) (taken : ℕ) (k : Option ℤ → State → Ending) → Lies (frame program compute way inputs code links (calls n) low top start) p (i.Call at l.entry l.slot) →
+      from (frame program compute way inputs code links (calls n) low top start) p s (record { store = bound_store way (parameters_of (slice_get program.functions number)) vs store; taken = taken; turns = zero })
       ≡ ends (calls n number at vs (record { store = store; taken = taken; turns = zero })) k
   unfolding ends
   call_spent zero number at place slots l links low top start p vs s store taken k lies =
-      stops (frame program compute keep inputs code links (calls zero) low top start) p s (record { store = bound_store keep (parameters_of (slice_get program.functions number)) vs store; taken = taken; turns = zero }) (i.Call at l.entry l.slot) ending.Spent lies refl
+      stops (frame program compute way inputs code links (calls zero) low top start) p s (record { store = bound_store way (parameters_of (slice_get program.functions number)) vs store; taken = taken; turns = zero }) (i.Call at l.entry l.slot) ending.Spent lies refl
   call_spent (suc n) number at place slots l links low top start p vs s store taken k lies =
-      stops (frame program compute keep inputs code links (calls (suc n)) low top start) p s (record { store = bound_store keep (parameters_of (slice_get program.functions number)) vs store; taken = taken; turns = zero }) (i.Call at l.entry l.slot) ending.Spent lies refl
+      stops (frame program compute way inputs code links (calls (suc n)) low top start) p s (record { store = bound_store way (parameters_of (slice_get program.functions number)) vs store; taken = taken; turns = zero }) (i.Call at l.entry l.slot) ending.Spent lies refl
 
-  call_more : (n number at : ℕ) (l : Link) (place slots : ℕ) (one : One program compute keep inputs code number l place slots) → ((t : ℕ) → t ≤ n → Called (frame program compute keep inputs code one.links (calls n) l.slot one.this.top l.entry) t) →
+  call_more : (n number at : ℕ) (l : Link) (place slots : ℕ) (one : One program compute way inputs code number l place slots) → ((t : ℕ) → t ≤ n → Called (frame program compute way inputs code one.links (calls n) l.slot one.this.top l.entry) t) →
       (links : List Link) (low top start : ℕ) → place ≤ start → slots ≤ low → (p : ℕ) (vs s : List ℤ) (store : List (List ℤ)) (taken left : ℕ) (k : Option ℤ → State → Ending) →
-      Lies (frame program compute keep inputs code links (calls (suc n)) low top start) p (i.Call at l.entry l.slot) → left ≤ n →
-      ((r : Option ℤ) (s' : List ℤ) (st' : State) → st'.turns ≤ suc left → ((x : ℕ) → low ≤ x → get s' x ≡ get s x) → returned_in s' l.slot ≡ r → from (frame program compute keep inputs code links (calls (suc n)) low top start) (suc p) s' st' ≡ k r st') →
-      from (frame program compute keep inputs code links (calls (suc n)) low top start) p s (record { store = bound_store keep (parameters_of (slice_get program.functions number)) vs store; taken = taken; turns = suc left })
+      Lies (frame program compute way inputs code links (calls (suc n)) low top start) p (i.Call at l.entry l.slot) → left ≤ n →
+      ((r : Option ℤ) (s' : List ℤ) (st' : State) → st'.turns ≤ suc left → ((x : ℕ) → low ≤ x → get s' x ≡ get s x) → returned_in s' l.slot ≡ r → from (frame program compute way inputs code links (calls (suc n)) low top start) (suc p) s' st' ≡ k r st') →
+      from (frame program compute way inputs code links (calls (suc n)) low top start) p s (record { store = bound_store way (parameters_of (slice_get program.functions number)) vs store; taken = taken; turns = suc left })
       ≡ ends (calls (suc n) number at vs (record { store = store; taken = taken; turns = suc left })) k
   call_more n number at l place slots one hc links low top start a b p vs s store taken left k lies le h =
-      let c : Frame = frame program compute keep inputs code links (calls (suc n)) low top start in
+      let c : Frame = frame program compute way inputs code links (calls (suc n)) low top start in
       let f : Function = one.this.f in
       let s1 : List ℤ = put s l.slot (pos (suc p)) in
       let st : State = record { store = store; taken = taken; turns = left } in
-      let st1 : State = record { store = bound_store keep f.parameters vs store; taken = taken; turns = left } in
-      let body : Run (Option ℤ) = enter (suc n) (keeping.exec_all program.model program.objects compute keep inputs (calls n) f.result n f.body) Start in
+      let st1 : State = record { store = bound_store way f.parameters vs store; taken = taken; turns = left } in
+      let body : Run (Option ℤ) = enter (suc n) (keeping.exec_all program.model program.objects compute way inputs (calls n) f.result n f.body) Start in
       ap (λ x. from c p s (record { store = x; taken = taken; turns = suc left })) (bound_in number f vs store one.this.there)
-      ∙ leads c p l.entry s s1 (record { store = bound_store keep f.parameters vs store; taken = taken; turns = suc left }) st1 (i.Call at l.entry l.slot) lies refl
+      ∙ leads c p l.entry s s1 (record { store = bound_store way f.parameters vs store; taken = taken; turns = suc left }) st1 (i.Call at l.entry l.slot) lies refl
       ∙ run_is links (calls (suc n)) low top start l.entry s1 st1
       ∙ function_runs n (calls n) number l one.links place slots one.this hc s1 st1 k (suc p) le (put_same s l.slot (pos (suc p))) (omega (arith, a, lies.behind))
       (λ r s2 st2 tu2 ab is2.
       sym (run_is links (calls (suc n)) low top start (suc p) s2 st2)
       ∙ h r s2 st2 (omega (arith, tu2)) (λ x lo. ab x (omega (arith, b, lo)) ∙ put_other s l.slot (pos (suc p)) x (λ e. absurd (omega (arith, e, lo, b, one.this.slot_in)))) is2)
-      ∙ sym (ap (λ g. ends (after g (λ v. body)) k) (bound keep f.parameters vs st))
-      ∙ sym (ap (λ o. ends (keeping.body_of program compute keep inputs (calls n) n o vs st) k) one.this.there)
+      ∙ sym (ap (λ g. ends (after g (λ v. body)) k) (bound way f.parameters vs st))
+      ∙ sym (ap (λ o. ends (keeping.body_of program compute way inputs (calls n) n o vs st) k) one.this.there)
 
   -- with turns that are counted
-  call_turns : (n number at : ℕ) (l : Link) (place slots : ℕ) (one : One program compute keep inputs code number l place slots) → ((m : ℕ) → n ≡ suc m → (t : ℕ) → t ≤ m → Called (frame program compute keep inputs code one.links (calls m) l.slot one.this.top l.entry) t) →
+  call_turns : (n number at : ℕ) (l : Link) (place slots : ℕ) (one : One program compute way inputs code number l place slots) → ((m : ℕ) → n ≡ suc m → (t : ℕ) → t ≤ m → Called (frame program compute way inputs code one.links (calls m) l.slot one.this.top l.entry) t) →
       (links : List Link) (low top start : ℕ) → place ≤ start → slots ≤ low → (p : ℕ) (vs s : List ℤ) (store : List (List ℤ)) (taken turns : ℕ) (k : Option ℤ → State → Ending) →
-      Lies (frame program compute keep inputs code links (calls n) low top start) p (i.Call at l.entry l.slot) → turns ≤ n →
-      ((r : Option ℤ) (s' : List ℤ) (st' : State) → st'.turns ≤ turns → ((x : ℕ) → low ≤ x → get s' x ≡ get s x) → returned_in s' l.slot ≡ r → from (frame program compute keep inputs code links (calls n) low top start) (suc p) s' st' ≡ k r st') →
-      from (frame program compute keep inputs code links (calls n) low top start) p s (record { store = bound_store keep (parameters_of (slice_get program.functions number)) vs store; taken = taken; turns = turns })
+      Lies (frame program compute way inputs code links (calls n) low top start) p (i.Call at l.entry l.slot) → turns ≤ n →
+      ((r : Option ℤ) (s' : List ℤ) (st' : State) → st'.turns ≤ turns → ((x : ℕ) → low ≤ x → get s' x ≡ get s x) → returned_in s' l.slot ≡ r → from (frame program compute way inputs code links (calls n) low top start) (suc p) s' st' ≡ k r st') →
+      from (frame program compute way inputs code links (calls n) low top start) p s (record { store = bound_store way (parameters_of (slice_get program.functions number)) vs store; taken = taken; turns = turns })
       ≡ ends (calls n number at vs (record { store = store; taken = taken; turns = turns })) k
   call_turns n number at l place slots one hc links low top start a b p vs s store taken zero k lies le h = call_spent n number at place slots l links low top start p vs s store taken k lies
   call_turns zero number at l place slots one hc links low top start a b p vs s store taken (suc left) k lies le h = absurd (omega (arith, le))
@@ -121,14 +121,14 @@ module _ (program : Program) (compute : Compute) (keep : Keep) (inputs : List �
       call_more n number at l place slots one (hc n refl) links low top start a b p vs s store taken left k lies (omega (arith, le)) h
 
   -- each call of a function that stands there does what the typed run says
-  pub calls_run : (n : ℕ) (links : List Link) (place slots low top start : ℕ) → Stands program compute keep inputs code links place slots → place ≤ start → slots ≤ low → (t : ℕ) → t ≤ n → Called (frame program compute keep inputs code links (calls n) low top start) t
+  pub calls_run : (n : ℕ) (links : List Link) (place slots low top start : ℕ) → Stands program compute way inputs code links place slots → place ≤ start → slots ≤ low → (t : ℕ) → t ≤ n → Called (frame program compute way inputs code links (calls n) low top start) t
   unfolding Called
   calls_run zero links place slots low top start stands a b t tn f at l vs e p s st k lies tu h =
       call_turns zero f at l place slots (stands_one f l links place slots stands e) (λ m em. absurd cc) links low top start a b p vs s st.store st.taken st.turns k lies (omega (arith, tu, tn))
       (λ r s1 st1 tu1 ab is1. h r s1 st1 (omega (arith, tu1, tu)) ab is1)
   calls_run (suc n) links place slots low top start stands a b t tn f at l vs e p s st k lies tu h =
-      let one : One program compute keep inputs code f l place slots = stands_one f l links place slots stands e in
+      let one : One program compute way inputs code f l place slots = stands_one f l links place slots stands e in
       call_turns (suc n) f at l place slots one
-      (λ m em. subst (λ x. (t' : ℕ) → t' ≤ x → Called (frame program compute keep inputs code one.links (calls x) l.slot one.this.top l.entry) t') (omega (arith, em))
+      (λ m em. subst (λ x. (t' : ℕ) → t' ≤ x → Called (frame program compute way inputs code one.links (calls x) l.slot one.this.top l.entry) t') (omega (arith, em))
       (calls_run n one.links l.entry l.slot l.slot one.this.top l.entry one.others (omega arith) (omega arith)))
       links low top start a b p vs s st.store st.taken st.turns k lies (omega (arith, tu, tn)) (λ r s1 st1 tu1 ab is1. h r s1 st1 (omega (arith, tu1, tu)) ab is1)

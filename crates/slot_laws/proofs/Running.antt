@@ -11,11 +11,11 @@ use Rattle.c_tree.specs.declared.symbol.Crement.{Crement}
 use Rattle.c_run.specs.Run.{State, Got, Value, Stop, Run, give, fail, after, choose, turn, drawn, draw, draw_all, computed, located, Element, element, scalar, values_of, write, padded, is_true, Compute, store_all}
 use Rattle.c_run.specs.Operators.{op_of, is_turned, crement_op}
 use Rattle.c_typed.specs.Run.{promoted}
-use Rattle.typed_range_laws.specs.Ways.{Keep, write_kept}
+use Rattle.typed_range_laws.specs.Ways.{Way, write_kept}
 use Rattle.slot_code.specs.declared.flat.Instruction.{Instruction}
 use Rattle.slot_code.specs.declared.flat.Instruction.TheVariants as i
 use Rattle.slot_code.specs.Slots.{get, put, slots_through}
-use Rattle.slot_code.specs.Machine.{Machine, machine, element_in, Next, Goes, Over, goes, fills, taken_of, applied, stepped, updated, changed, element_read, index_found, filled, act_with, act_at_with, step_with, onward, walk_with, rank, run_from_with}
+use Rattle.slot_code.specs.Machine.{Machine, machine, Next, Goes, Over, goes, fills, taken_of, applied, stepped, updated, changed, element_read, index_found, filled, act_with, act_at_with, step_with, onward, walk_with, rank, run_from_with}
 use Rattle.slot_laws.specs.Laws.{CodeGoesOn, RanksFall, Falls as FallsIn}
 
 -- ---- What keeps the turns
@@ -81,9 +81,9 @@ pub still_write : (st : State) (e : Element) (v : ℤ) → Still st (write e v s
 unfolding Still
 still_write st e v = refl
 
-pub still_write_kept : (st : State) (keep : Keep) (e : Element) (v : ℤ) → Still st (write_kept keep e v st)
+pub still_write_kept : (st : State) (way : Way) (object : ℕ) (n v : ℤ) → Still st (write_kept way object n v st)
 unfolding Still
-still_write_kept st keep e v = refl
+still_write_kept st way object n v = refl
 
 pub still_store : (st : State) (object : ℕ) (vs : List ℤ) → Still st (store_all object vs st)
 unfolding Still
@@ -123,7 +123,7 @@ module _ (model : Model) (compute : Compute) (inputs : List ℤ) where
   turned : (t n p q : ℕ) → suc (t * suc n + (n - q)) < suc (suc t * suc n + (n - p))
   turned t n p q = omega arith
 
-  module _ (keep : Keep) (code : List Instruction) where
+  module _ (way : Way) (code : List Instruction) where
     abbrev Falls : Machine → Next → Type 0
     Falls m n = FallsIn model compute inputs code m n
 
@@ -152,13 +152,13 @@ module _ (model : Model) (compute : Compute) (inputs : List ℤ) where
     chosen_falls true place a c slots st x y lt = on place a slots slots st st refl x lt
     chosen_falls false place a c slots st x y lt = on place c slots slots st st refl y lt
 
-    act_falls : (x : Instruction) (place : ℕ) (slots : List ℤ) (st : State) → place < length code → Falls (machine place slots st) (act_with model compute inputs keep x place slots st)
+    act_falls : (x : Instruction) (place : ℕ) (slots : List ℤ) (st : State) → place < length code → Falls (machine place slots st) (act_with model compute inputs way x place slots st)
     act_falls (i.Constant slot v) place slots st lt = fills_falls place slot slots st _ (still_here st v) lt
     act_falls (i.Read slot object) place slots st lt = fills_falls place slot slots st _ (still_here st (value_in st (scalar object))) lt
     act_falls (i.Element slot at object count) place slots st lt = fills_falls place slot slots st _ (still_element at object count (get slots slot) st) lt
     act_falls (i.Locate slot at object count) place slots st lt = fills_falls place slot slots st _ (still_index at object count (get slots slot) st) lt
-    act_falls (i.Load slot object) place slots st lt = fills_falls place (suc slot) slots st _ (still_here st (value_in st (element_in slots slot object))) lt
-    act_falls (i.Store slot object) place slots st lt = fills_falls place slot slots st _ (still_write_kept st keep (element_in slots slot object) (get slots (suc slot))) lt
+    act_falls (i.Load slot object) place slots st lt = fills_falls place (suc slot) slots st _ (still_here st (value_in st (way.pick object (get slots slot)))) lt
+    act_falls (i.Store slot object) place slots st lt = fills_falls place slot slots st _ (still_write_kept st way object (get slots slot) (get slots (suc slot))) lt
     act_falls (i.Convert slot k) place slots st lt = fills_falls place slot slots st _ (still_here st (converted k model (get slots slot))) lt
     act_falls (i.Negate slot k at) place slots st lt = fills_falls place slot slots st _ (still_computed at _ st) lt
     act_falls (i.Complement slot k at) place slots st lt = fills_falls place slot slots st _ (still_computed at _ st) lt
@@ -169,8 +169,8 @@ module _ (model : Model) (compute : Compute) (inputs : List ℤ) where
     act_falls (i.Change slot before by k at object) place slots st lt = fills_falls place slot slots st _ (still_changed at before by k _ st) lt
     act_falls (i.Draw slot k) place slots st lt = fills_falls place slot slots st _ (still_drawn k model _ st) lt
     act_falls (i.Fill object k count) place slots st lt = goes_falls place (suc place) slots st _ (still_filled object k count st) (omega arith) lt
-    act_falls (i.Begin slot object count values) place slots st lt = goes_falls place (suc place) slots st _ (still_store st object (padded count (slots_through (keep object) slots slot values))) (omega arith) lt
-    act_falls (i.Bind slot object) place slots st lt = goes_falls place (suc place) slots st _ (still_store st object (keep object (get slots slot) ∷ [])) (omega arith) lt
+    act_falls (i.Begin slot object count values) place slots st lt = goes_falls place (suc place) slots st _ (still_store st object (padded count (slots_through (way.keep object) slots slot values))) (omega arith) lt
+    act_falls (i.Bind slot object) place slots st lt = goes_falls place (suc place) slots st _ (still_store st object (way.keep object (get slots slot) ∷ [])) (omega arith) lt
     act_falls (i.Jump skip) place slots st lt = on place (suc place + skip) slots slots st st refl (omega arith) lt
     act_falls (i.SkipZero slot skip) place slots st lt = chosen_falls _ place (suc place) (suc place + skip) slots st (omega arith) (omega arith) lt
     act_falls (i.SkipEqual slot v skip) place slots st lt = chosen_falls _ place (suc place + skip) (suc place) slots st (omega arith) (omega arith) lt
@@ -186,31 +186,31 @@ module _ (model : Model) (compute : Compute) (inputs : List ℤ) where
     there_below (y ∷ xs) zero x e = omega arith
     there_below (y ∷ xs) (suc n) x e = omega (arith, there_below xs n x e)
 
-    act_at_falls : (o : Option Instruction) (m : Machine) → slice_get code m.place ≡ o → Falls m (act_at_with model compute inputs keep o m)
+    act_at_falls : (o : Option Instruction) (m : Machine) → slice_get code m.place ≡ o → Falls m (act_at_with model compute inputs way o m)
     act_at_falls None m e = tt
     act_at_falls (Some x) m e = act_falls x m.place m.slots m.st (there_below code m.place x e)
 
-    step_falls : (m : Machine) → Falls m (step_with model compute inputs keep code m)
+    step_falls : (m : Machine) → Falls m (step_with model compute inputs way code m)
     step_falls m = act_at_falls (slice_get code m.place) m refl
 
     walk_on : (j k : ℕ) (m : Machine) (n : Next) → Falls m n →
-        ((s : Machine) → rank model compute inputs code s ≤ j → rank model compute inputs code s ≤ k → walk_with model compute inputs keep code j s ≡ walk_with model compute inputs keep code k s) →
+        ((s : Machine) → rank model compute inputs code s ≤ j → rank model compute inputs code s ≤ k → walk_with model compute inputs way code j s ≡ walk_with model compute inputs way code k s) →
         rank model compute inputs code m ≤ suc j → rank model compute inputs code m ≤ suc k →
-        onward model compute inputs code n (walk_with model compute inputs keep code j) ≡ onward model compute inputs code n (walk_with model compute inputs keep code k)
+        onward model compute inputs code n (walk_with model compute inputs way code j) ≡ onward model compute inputs code n (walk_with model compute inputs way code k)
     walk_on j k m (Goes s) f h a b = h s (omega (arith, f, a)) (omega (arith, f, b))
     walk_on j k m (Over e) f h a b = refl
 
-    walk_same : (j k : ℕ) (m : Machine) → rank model compute inputs code m ≤ j → rank model compute inputs code m ≤ k → walk_with model compute inputs keep code j m ≡ walk_with model compute inputs keep code k m
+    walk_same : (j k : ℕ) (m : Machine) → rank model compute inputs code m ≤ j → rank model compute inputs code m ≤ k → walk_with model compute inputs way code j m ≡ walk_with model compute inputs way code k m
     walk_same zero k m a b = absurd (omega (arith, a))
     walk_same (suc j) zero m a b = absurd (omega (arith, b))
-    walk_same (suc j) (suc k) m a b = walk_on j k m (step_with model compute inputs keep code m) (step_falls m) (λ s. walk_same j k s) a b
+    walk_same (suc j) (suc k) m a b = walk_on j k m (step_with model compute inputs way code m) (step_falls m) (λ s. walk_same j k s) a b
 
-    run_on : (r : ℕ) (m : Machine) (n : Next) → Falls m n → rank model compute inputs code m ≡ suc r → onward model compute inputs code n (walk_with model compute inputs keep code r) ≡ onward model compute inputs code n (run_from_with model compute inputs keep code)
+    run_on : (r : ℕ) (m : Machine) (n : Next) → Falls m n → rank model compute inputs code m ≡ suc r → onward model compute inputs code n (walk_with model compute inputs way code r) ≡ onward model compute inputs code n (run_from_with model compute inputs way code)
     run_on r m (Goes s) f e = walk_same r (rank model compute inputs code s) s (omega (arith, f, e)) (omega arith)
     run_on r m (Over x) f e = refl
 
 pub goes_on : CodeGoesOn
-goes_on model compute inputs keep code m = run_on model compute inputs keep code _ m (step_with model compute inputs keep code m) (step_falls model compute inputs keep code m) refl
+goes_on model compute inputs way code m = run_on model compute inputs way code _ m (step_with model compute inputs way code m) (step_falls model compute inputs way code m) refl
 
 pub ranks_fall : RanksFall
-ranks_fall model compute inputs keep code m = step_falls model compute inputs keep code m
+ranks_fall model compute inputs way code m = step_falls model compute inputs way code m

@@ -1,16 +1,17 @@
 -- The marks of a statement, and the first one that is sought among them.
 use Rattle.std.proofs.Common.{◌≡◌, ℕ, ◌+◌, Bool, true, false, List, [], ◌∷◌, ◌++◌, Option, Some, None, ℤ, refl, ap, ◌∙◌}
-use Rattle.std.specs.Prelude.{bytes_eq, int_le, ◌&&◌, if◌then◌else◌}
+use Rattle.std.specs.Prelude.{bytes_eq, if◌then◌else◌}
 use Rattle.lv_base.specs.declared.kind.Model.{Model}
 use Rattle.lv_base.specs.Integers.{converted}
 use Rattle.c_run.specs.Run.{choose}
 use Rattle.c_run.specs.Loops.{Place, toLabel, toCase, toDefault}
 use Rattle.c_typed.specs.Run.{is_this_label, is_default}
+use Rattle.typed_range_laws.specs.Ways.{Way}
 use Rattle.slot_code.specs.Statements.{Name, aLabel, aCase, aDefault, Mark, moved, labels_alone, label_in, default_in}
 
-module _ (model : Model) where
+module _ (model : Model) (way : Way) where
   abbrev pub is_case : Place → ℤ → Bool
-  is_case (toCase k v) w = int_le v (converted k model w) && int_le (converted k model w) v
+  is_case (toCase k v) w = way.same v (converted k model w)
   is_case _ w = false
 
   abbrev pub is_mark : Place → Name → Bool

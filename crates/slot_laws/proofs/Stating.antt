@@ -41,17 +41,17 @@ module _ (c : Frame) (s0 : List ℤ) (end : ℕ) (labels : List ℕ → ℕ) (n 
       ∙ ap (λ x. ends x k) (after_both (List ℤ) (Unit {0}) Exit (draw_all c.inputs c.model kind count st) (λ vs. store_all object vs) (λ v. give Normal))
 
   begin_starts : (b e p object count m : ℕ) (xs : List Instruction) (g : Run (List ℤ)) → ((t : ℕ) → t ≤ n → Does c t (List ℤ) (HoldsAll m d) d xs g) →
-      Starts c s0 end labels n b e p (xs ++ i.Begin d object count m ∷ []) (length xs + 1) (λ st. after (g st) (λ vs st1. after (store_all object (padded count (map (c.keep object) vs)) st1) (λ v. give Normal)))
+      Starts c s0 end labels n b e p (xs ++ i.Begin d object count m ∷ []) (length xs + 1) (λ st. after (g st) (λ vs st1. after (store_all object (padded count (map (c.way.keep object) vs)) st1) (λ v. give Normal)))
   begin_starts b e p object count m xs g runs t q s st k tn eq l ro tu ke nb lv =
       let r = split c p xs (i.Begin d object count m ∷ []) l in
-      let f : List ℤ → Run Exit = λ vs st1. after (store_all object (padded count (map (c.keep object) vs)) st1) (λ v. give Normal) in
+      let f : List ℤ → Run Exit = λ vs st1. after (store_all object (padded count (map (c.way.keep object) vs)) st1) (λ v. give Normal) in
       seq (List ℤ) Exit (g st) f k (from c p s st) (runs t tn p (p + length xs) s st (λ vs st1. ends (f vs st1) k) refl r.0 tu
       (λ vs s1 st1 tu1 k1 is1.
       let done : List ℤ → Got (Unit {0}) = λ ws. store_all object (padded count ws) st1 in
-      seq (Unit {0}) Exit (done (map (c.keep object) vs)) (λ v. give Normal) k (from c (p + length xs) s1 st1)
-      (plain c t (p + length xs) q d s1 st1 (i.Begin d object count m) (done (slots_through (c.keep object) s1 d m)) (λ v st2. ends (Value Normal st2) k) (omega (arith, eq)) r.1.0 refl (still_store st1 object (padded count (slots_through (c.keep object) s1 d m))) tu1
+      seq (Unit {0}) Exit (done (map (c.way.keep object) vs)) (λ v. give Normal) k (from c (p + length xs) s1 st1)
+      (plain c t (p + length xs) q d s1 st1 (i.Begin d object count m) (done (slots_through (c.way.keep object) s1 d m)) (λ v st2. ends (Value Normal st2) k) (omega (arith, eq)) r.1.0 refl (still_store st1 object (padded count (slots_through (c.way.keep object) s1 d m))) tu1
       (λ v s2 st2 tu2 k2 is2. nb s2 st2 tu2 (keeps_on c d s0 s1 s2 (keeps_on c d s0 s s1 ke k1) k2) ∙ sym (ends_value Normal st2 k))
-      ∙ ap (λ ws. ends (done ws) (λ v st2. ends (Value Normal st2) k)) (held_through (c.keep object) d m s1 vs is1.0 is1.1))))
+      ∙ ap (λ ws. ends (done ws) (λ v st2. ends (Value Normal st2) k)) (held_through (c.way.keep object) d m s1 vs is1.0 is1.1))))
 
   -- nothing is sought in a statement without parts
   absent : (b e p m : ℕ) (xs : List Instruction) → Seeks c s0 end labels n b e p xs m [] (λ pl. give Absent)
@@ -86,7 +86,7 @@ module _ (c : Frame) (s0 : List ℤ) (end : ℕ) (labels : List ℕ → ℕ) (n 
         (subst (λ x. Behind c s0 end labels t k x Normal) eq nb) lv
 
     round_seeks : (ms : List Mark) (fs : Place → Run Exit) → Seeks c s0 end labels n E C B ys m ms fs → (pl : Place) (t q : ℕ) (s : List ℤ) (st : State) (k : Exit → State → Ending) → t ≤ n → q ≡ E → At c (suc w) (loop_code at (suc w) d xs ys zs) → q ≤ end → st.turns ≤ t → Keeps c d s0 s →
-        Behind c s0 end labels t k q Normal → Leaves c s0 end labels t k b e → Sought c s0 end labels k B (sought c.model pl ms) (after (fs pl st) (again c s0 end labels n h (loop at n g f h))) s st
+        Behind c s0 end labels t k q Normal → Leaves c s0 end labels t k b e → Sought c s0 end labels k B (sought c.model c.way pl ms) (after (fs pl st) (again c s0 end labels n h (loop at n g f h))) s st
     round_seeks ms fs seeks pl t q s st k tn eq l ro tu ke nb lv =
         enter.body_seeks c s0 end labels n at (suc w) E C B (C + length zs) b e xs ys zs g f h (rounds l) gives sized_body runs (omega (arith, eq, ro)) ms fs (resized_seeks E C B m (length ys) ys ms fs (sym len) seeks) pl t s st k tn tu ke
         (subst (λ x. Behind c s0 end labels t k x Normal) eq nb) lv
@@ -101,13 +101,13 @@ module _ (c : Frame) (s0 : List ℤ) (end : ℕ) (labels : List ℕ → ℕ) (n 
   code u e = value_code c.objects c.functions c.links u slot e
 
   abbrev value : Use → Val → Run ℤ
-  value u e = keeping.value c.model c.objects c.compute c.keep c.inputs c.call u e
+  value u e = keeping.value c.model c.objects c.compute c.way c.inputs c.call u e
 
   abbrev run : Step → From → Run Exit
-  run s from = keeping.exec c.model c.objects c.compute c.keep c.inputs c.call result n s from
+  run s from = keeping.exec c.model c.objects c.compute c.way c.inputs c.call result n s from
 
   abbrev run_all : Steps → From → Run Exit
-  run_all ss from = keeping.exec_all c.model c.objects c.compute c.keep c.inputs c.call result n ss from
+  run_all ss from = keeping.exec_all c.model c.objects c.compute c.way c.inputs c.call result n ss from
 
   abbrev size : Step → ℕ
   size s = size_of c.model c.objects c.functions c.links result slot s
@@ -139,11 +139,11 @@ module _ (c : Frame) (s0 : List ℤ) (end : ℕ) (labels : List ℕ → ℕ) (n 
   alone : (e : Val) (es : List Val) → ValuesLinked c.links (e ∷ es) → ValuesLinked c.links (e ∷ [])
   alone e es li = (li.0, tt)
 
-  test_gives : (e : Option Val) → ValuesLinked c.links (all_option e) → Gives c s0 end labels n (test_code c.objects c.functions c.links slot e) (keeping.test_of c.model c.objects c.compute c.keep c.inputs c.call e)
+  test_gives : (e : Option Val) → ValuesLinked c.links (all_option e) → Gives c s0 end labels n (test_code c.objects c.functions c.links slot e) (keeping.test_of c.model c.objects c.compute c.way c.inputs c.call e)
   test_gives None li t tn = single c t slot (i.Constant slot (pos 1)) (give (pos 1)) (λ p s st. refl) (omega arith) (λ st. still_here st (pos 1))
   test_gives (Some e) li t tn = gives used e li t tn
 
-  step_leads : (e : Option Val) → ValuesLinked c.links (all_option e) → Leads c s0 end labels n (effect_code c.objects c.functions c.links slot e) (keeping.effect_of c.model c.objects c.compute c.keep c.inputs c.call e)
+  step_leads : (e : Option Val) → ValuesLinked c.links (all_option e) → Leads c s0 end labels n (effect_code c.objects c.functions c.links slot e) (keeping.effect_of c.model c.objects c.compute c.way c.inputs c.call e)
   step_leads None li t tn = no_drops_do c t (hc t tn) slot
   step_leads (Some e) li t tn = drop c t slot (code dropped e) (value dropped e) (gives dropped e li t tn)
 
@@ -152,7 +152,7 @@ module _ (c : Frame) (s0 : List ℤ) (end : ℕ) (labels : List ℕ → ℕ) (n 
 
   return_starts : (b e p : ℕ) (r : Option Kind) (v : Option Val) → ValuesLinked c.links (all_option v) →
       let xs : List Instruction = return_value c.model c.objects c.functions c.links r slot v in
-      Starts c s0 end labels n b e p (return_code slot p end r xs v) (return_size r (length xs) v) (keeping.returned c.model c.objects c.compute c.keep c.inputs c.call r v)
+      Starts c s0 end labels n b e p (return_code slot p end r xs v) (return_size r (length xs) v) (keeping.returned c.model c.objects c.compute c.way c.inputs c.call r v)
   return_starts b e p r None li = enter.return_void c s0 end labels n b e p
   return_starts b e p None (Some v) li = enter.return_dropped c s0 end labels n b e p (code dropped v) (value dropped v) (gives dropped v li)
   return_starts b e p (Some kind) (Some v) li = enter.return_value c s0 end labels n b e p (code used v) (value used v) (gives used v li)
@@ -169,7 +169,7 @@ module _ (c : Frame) (s0 : List ℤ) (end : ℕ) (labels : List ℕ → ℕ) (n 
     pub start_does : (s : Step) (b e p : ℕ) → ValuesLinked c.links (all_values s) → Starts c s0 end labels n b e p (coded b e p s) (size s) (run s Start)
     start_does (pDraw object) b e p li = fill_starts c s0 end labels n b e p object (count_of c.objects c.functions c.links object) (typed.kind_of (slice_get c.objects object))
     start_does (pBegin object es) b e p li =
-        begin_starts c s0 end labels n b e p object (count_of c.objects c.functions c.links object) (number_of es) (values_code c.objects c.functions c.links slot es) (keeping.values c.model c.objects c.compute c.keep c.inputs c.call es)
+        begin_starts c s0 end labels n b e p object (count_of c.objects c.functions c.links object) (number_of es) (values_code c.objects c.functions c.links slot es) (keeping.values c.model c.objects c.compute c.way c.inputs c.call es)
         (λ t tn. values_do c t (hc t tn) slot es (omega arith) (parts_linked c.links es li))
     start_does (pBlock ss) b e p li = start_all ss b e p li
     start_does pEmpty b e p li = enter.empty_starts c s0 end labels n b e p
@@ -204,12 +204,12 @@ module _ (c : Frame) (s0 : List ℤ) (end : ℕ) (labels : List ℕ → ℕ) (n 
         let B : ℕ = p + (first + 1 + length xs + 1) in
         let l3 = values_first c.links (all_of_all start ++ all_option v ++ all_option step) (all_values s) li in
         let l2 = values_first c.links (all_of_all start ++ all_option v) (all_option step) l3 in
-        let next : Run Exit = loop at n (keeping.test_of c.model c.objects c.compute c.keep c.inputs c.call v) (run s Start) (keeping.effect_of c.model c.objects c.compute c.keep c.inputs c.call step) in
+        let next : Run Exit = loop at n (keeping.test_of c.model c.objects c.compute c.way c.inputs c.call v) (run s Start) (keeping.effect_of c.model c.objects c.compute c.way c.inputs c.call step) in
         let loop_instructions : List Instruction = i.Turn at (suc (p + first)) ∷ loop_code at (suc (p + first)) slot xs (coded E C B s) zs in
         resized c s0 end labels n b e p (first + (1 + loop_size (length xs) (size s) (length zs))) (size (pFor at start v step s)) (coded b e p (pFor at start v step s)) (run (pFor at start v step s) Start) (omega arith)
         (enter.row_starts c s0 end labels n b e p first (1 + loop_size (length xs) (size s) (length zs)) (coded_all b e p start) loop_instructions (run_all start Start) next (length_all start b e p)
         (start_all start b e p (values_first c.links (all_of_all start) (all_option v) l2))
-        (loop_starts c s0 end labels n b e (p + first) (size s) at E C B xs (coded E C B s) zs (keeping.test_of c.model c.objects c.compute c.keep c.inputs c.call v) (run s Start) (keeping.effect_of c.model c.objects c.compute c.keep c.inputs c.call step) (length_of s E C B) (omega arith) (omega arith) (omega arith)
+        (loop_starts c s0 end labels n b e (p + first) (size s) at E C B xs (coded E C B s) zs (keeping.test_of c.model c.objects c.compute c.way c.inputs c.call v) (run s Start) (keeping.effect_of c.model c.objects c.compute c.way c.inputs c.call step) (length_of s E C B) (omega arith) (omega arith) (omega arith)
         (test_gives v (values_last c.links (all_of_all start) (all_option v) l2)) (start_does s E C B (values_last c.links (all_of_all start ++ all_option v ++ all_option step) (all_values s) li))
         (step_leads step (values_last c.links (all_of_all start ++ all_option v) (all_option step) l3))))
     start_does (pSwitch at kind v s) b e p li =
@@ -272,17 +272,17 @@ module _ (c : Frame) (s0 : List ℤ) (end : ℕ) (labels : List ℕ → ℕ) (n 
         let r = split c p (coded_all b e p start) loop_instructions l in
         let w = at_moved c (p + length (coded_all b e p start)) (p + first) loop_instructions (omega (arith, length_all start b e p)) r.1 in
         enter.moved_at c s0 end labels k pl p B (first + 1 + length xs + 1) (marks s) (run (pFor at start v step s) (Seek pl) st) s1 st refl
-        (round_seeks c s0 end labels n b e (p + first) (size s) at E C B xs (coded E C B s) zs (keeping.test_of c.model c.objects c.compute c.keep c.inputs c.call v) (run s Start) (keeping.effect_of c.model c.objects c.compute c.keep c.inputs c.call step) (length_of s E C B) (omega arith) (omega arith) (omega arith)
+        (round_seeks c s0 end labels n b e (p + first) (size s) at E C B xs (coded E C B s) zs (keeping.test_of c.model c.objects c.compute c.way c.inputs c.call v) (run s Start) (keeping.effect_of c.model c.objects c.compute c.way c.inputs c.call step) (length_of s E C B) (omega arith) (omega arith) (omega arith)
         (test_gives v (values_last c.links (all_of_all start) (all_option v) l2)) (start_does s E C B l4) (step_leads step (values_last c.links (all_of_all start ++ all_option v) (all_option step) l3)) (marks s) (λ x. run s (Seek x)) (seek_does s E C B l4)
         pl t q s1 st k tn eq w.1 ro.before_end tu ke nb lv)
     seek_does (pSwitch at kind v s) b e p li =
         switch_sought at kind v s b e p (seek_does s (p + size (pSwitch at kind v s)) e (p + (length (code used v) + length (enter_cases kind s) + 1)) li.1)
     seek_does (pCase at v s) b e p li = λ pl t q s1 st k tn eq l ro tu ke nb lv.
-        enter.mark_at c s0 end labels (is_mark c.model pl (aCase v)) k p (sought c.model pl (marks s)) (run s Start) (run s (Seek pl)) s1 st (start_does s b e p li t q s1 st k tn eq l ro tu ke nb lv) (seek_does s b e p li pl t q s1 st k tn eq l ro tu ke nb lv)
+        enter.mark_at c s0 end labels (is_mark c.model c.way pl (aCase v)) k p (sought c.model c.way pl (marks s)) (run s Start) (run s (Seek pl)) s1 st (start_does s b e p li t q s1 st k tn eq l ro tu ke nb lv) (seek_does s b e p li pl t q s1 st k tn eq l ro tu ke nb lv)
     seek_does (pDefault at s) b e p li = λ pl t q s1 st k tn eq l ro tu ke nb lv.
-        enter.mark_at c s0 end labels (is_mark c.model pl aDefault) k p (sought c.model pl (marks s)) (run s Start) (run s (Seek pl)) s1 st (start_does s b e p li t q s1 st k tn eq l ro tu ke nb lv) (seek_does s b e p li pl t q s1 st k tn eq l ro tu ke nb lv)
+        enter.mark_at c s0 end labels (is_mark c.model c.way pl aDefault) k p (sought c.model c.way pl (marks s)) (run s Start) (run s (Seek pl)) s1 st (start_does s b e p li t q s1 st k tn eq l ro tu ke nb lv) (seek_does s b e p li pl t q s1 st k tn eq l ro tu ke nb lv)
     seek_does (pLabel name at s) b e p li = λ pl t q s1 st k tn eq l ro tu ke nb lv.
-        enter.mark_at c s0 end labels (is_mark c.model pl (aLabel name)) k p (sought c.model pl (marks s)) (run s Start) (run s (Seek pl)) s1 st (start_does s b e p li t q s1 st k tn eq l ro tu ke nb lv) (seek_does s b e p li pl t q s1 st k tn eq l ro tu ke nb lv)
+        enter.mark_at c s0 end labels (is_mark c.model c.way pl (aLabel name)) k p (sought c.model c.way pl (marks s)) (run s Start) (run s (Seek pl)) s1 st (start_does s b e p li t q s1 st k tn eq l ro tu ke nb lv) (seek_does s b e p li pl t q s1 st k tn eq l ro tu ke nb lv)
     seek_does (pGoto at l x) b e p li = absent c s0 end labels n b e p 1 (coded b e p (pGoto at l x))
     seek_does (pBreak at) b e p li = absent c s0 end labels n b e p 1 (coded b e p (pBreak at))
     seek_does (pContinue at) b e p li = absent c s0 end labels n b e p 1 (coded b e p (pContinue at))

@@ -10,7 +10,7 @@ use Rattle.c_run.specs.Run.{State, Got, Value, Stop, Error, Ended, Run, give, af
 use Rattle.c_run.specs.Operators.{Use, used, dropped, called_value}
 use Rattle.c_typed.specs.Tree.{Val, vConstant, vRead, vElement, vWhole, vNothing, vConvert, vDiscard, vNegate, vComplement, vNot, vBinary, vBoth, vEither, vCond, vAssign, vUpdate, vChange, vCall, vReach, vAbort, vDraw, vComma, Goal, gObject, gElement, Vals, no_values, values_and}
 use Rattle.c_typed.specs.Rules.{object_in, calls, calls_in, calls_of_goal}
-use Rattle.typed_range_laws.specs.Ways.{write_kept}
+use Rattle.typed_range_laws.specs.Ways.{picked, write_kept}
 use Rattle.typed_range_laws.specs.Keeping as keeping
 use Rattle.slot_code.specs.declared.flat.Instruction.{Instruction}
 use Rattle.slot_code.specs.declared.flat.Instruction.TheVariants as i
@@ -45,10 +45,10 @@ module _ (c : Frame) (t : ℕ) where
   -- `op=`: the index, the old value, the right side
   pub update : (d : ℕ) (xs ys : List Instruction) (g g' : Run ℤ) (o : BinaryOp) (kind kind' : Kind) (at object : ℕ) → c.low ≤ d → Does c t ℤ (In c t d) d xs g → Does c t ℤ (In c t (suc (suc d))) (suc (suc d)) ys g' →
       Does c t ℤ (In c t d) d ((xs ++ (i.Load d object ∷ ys)) ++ i.Update d o kind kind' at object ∷ [])
-      (λ st. after (g st) (λ v st1. after (g' st1) (updated c.model c.compute c.inputs at o kind kind' (element object (unsigned_abs v)) (value_in st1 (element object (unsigned_abs v))))))
+      (λ st. after (g st) (λ v st1. after (g' st1) (updated c.model c.compute c.inputs at o kind kind' (c.way.pick object v) (value_in st1 (c.way.pick object v)))))
   update d xs ys g g' o kind kind' at object lo runs runs' p q s st k e l tu h =
       let r = parts c p xs (i.Load d object ∷ ys) (i.Update d o kind kind' at object ∷ []) l in
-      let el : ℤ → Element = λ v. element object (unsigned_abs v) in
+      let el : ℤ → Element = λ v. c.way.pick object v in
       let up : Element → ℤ → ℤ → Run ℤ = λ a x y. updated c.model c.compute c.inputs at o kind kind' a x y in
       let m : ℕ = p + length xs in
       let m2 : ℕ = p + length xs + suc (length ys) in
@@ -70,7 +70,7 @@ module _ (c : Frame) (t : ℕ) where
 
 module _ (c : Frame) (t : ℕ) (hc : Called c t) where
   abbrev value : Use → Val → Run ℤ
-  value u e = keeping.value c.model c.objects c.compute c.keep c.inputs c.call u e
+  value u e = keeping.value c.model c.objects c.compute c.way c.inputs c.call u e
 
   abbrev code : Use → ℕ → Val → List Instruction
   code u d e = value_code c.objects c.functions c.links u d e
@@ -83,25 +83,22 @@ module _ (c : Frame) (t : ℕ) (hc : Called c t) where
   index_of (gObject object) = give (pos 0)
   index_of (gElement at object e) = λ st. after (value used e st) (index_found c.model c.compute c.inputs at object (count object))
 
-  found_is : (object : ℕ) (v : ℤ) (b : Bool) (at : ℕ) (st : State) →
-      choose b (give (element object (unsigned_abs v))) (λ (s : State). Stop (Error error.Index at s.taken)) st
-      ≡ after (after (choose b (give (element object (unsigned_abs v))) (λ (s : State). Stop (Error error.Index at s.taken)) st) (λ a. give (pos a.index))) (λ n. give (element object (unsigned_abs n)))
-  found_is object v true at st = refl
-  found_is object v false at st = refl
+  found_after : (object : ℕ) (v : ℤ) (b : Bool) (at : ℕ) (st : State) (f : Element → Run ℤ) (f' : ℤ → Run ℤ) → ((n : ℕ) (st1 : State) → f (element object n) st1 ≡ f' (pos n) st1) →
+      after (choose b (give (element object (unsigned_abs v))) (λ (s : State). Stop (Error error.Index at s.taken)) st) f
+      ≡ after (after (choose b (give (element object (unsigned_abs v))) (λ (s : State). Stop (Error error.Index at s.taken)) st) (λ a. give (pos a.index))) f'
+  found_after object v true at st f f' h = h (unsigned_abs v) st
+  found_after object v false at st f f' h = refl
 
-  element_is : (at object : ℕ) (g : Got ℤ) →
-      after g (λ v. located at object (count object) v) ≡ after (after g (index_found c.model c.compute c.inputs at object (count object))) (λ v. give (element object (unsigned_abs v)))
-  element_is at object (Value v st) = found_is object v (int_le (pos 0) v && int_lt v (pos (count object))) at st
-  element_is at object (Stop e) = refl
-
-  goal_is : (g : Goal) (st : State) → keeping.target_of c.model c.objects c.compute c.keep c.inputs c.call g st ≡ after (index_of g st) (λ v. give (element (object_in g) (unsigned_abs v)))
-  goal_is (gObject object) st = refl
-  goal_is (gElement at object e) st = element_is at object (value used e st)
+  element_after : (at object : ℕ) (g : Got ℤ) (f : Element → Run ℤ) (f' : ℤ → Run ℤ) → ((n : ℕ) (st1 : State) → f (element object n) st1 ≡ f' (pos n) st1) →
+      after (after g (λ v. located at object (count object) v)) f ≡ after (after g (index_found c.model c.compute c.inputs at object (count object))) f'
+  element_after at object (Value v st) f f' h = found_after object v (int_le (pos 0) v && int_lt v (pos (count object))) at st f f' h
+  element_after at object (Stop e) f f' h = refl
 
   -- what is done with an element is done with its index
-  goal_after : (g : Goal) (st : State) (f : Element → Run ℤ) →
-      after (keeping.target_of c.model c.objects c.compute c.keep c.inputs c.call g st) f ≡ after (index_of g st) (λ v. f (element (object_in g) (unsigned_abs v)))
-  goal_after g st f = ap (λ x. after x f) (goal_is g st) ∙ after_both ℤ Element ℤ (index_of g st) (λ v. give (element (object_in g) (unsigned_abs v))) f
+  goal_after : (g : Goal) (st : State) (f : Element → Run ℤ) (f' : ℤ → Run ℤ) → ((n : ℕ) (st1 : State) → f (element (object_in g) n) st1 ≡ f' (pos n) st1) →
+      after (keeping.target_of c.model c.objects c.compute c.way c.inputs c.call g st) f ≡ after (index_of g st) f'
+  goal_after (gObject object) st f f' h = h 0 st
+  goal_after (gElement at object e) st f f' h = element_after at object (value used e st) f f' h
 
   reach_does : (d at : ℕ) → Does c t ℤ (In c t d) d (i.Fail error.Reach at ∷ []) (λ (st : State). Stop (Error error.Reach at st.taken))
   unfolding ends
@@ -172,37 +169,38 @@ module _ (c : Frame) (t : ℕ) (hc : Called c t) where
         (value_does used d e lo (linked_first c.links (calls e) (calls a) (linked_first c.links (calls e ++ calls a) (calls b) li)))
         (value_does used d a lo (linked_last c.links (calls e) (calls a) (linked_first c.links (calls e ++ calls a) (calls b) li))) (value_does used d b lo (linked_last c.links (calls e ++ calls a) (calls b) li))
     value_does u d (vAssign kind at g e) lo li = λ p q s st k eq l tu h.
-        binary c t d (goal_code c.objects c.functions c.links d g) (code used (suc d) e) (index_of g) (value used e) (i.Store d (object_in g)) (λ n v. write_kept c.keep (element (object_in g) (unsigned_abs n)) v) lo
+        binary c t d (goal_code c.objects c.functions c.links d g) (code used (suc d) e) (index_of g) (value used e) (i.Store d (object_in g)) (λ n v. write_kept c.way (object_in g) n v) lo
         (goal_does d g lo (linked_first c.links (calls_of_goal g) (calls e) li)) (value_does used (suc d) e (omega (arith, lo)) (linked_last c.links (calls_of_goal g) (calls e) li)) (λ p s st. refl) (omega arith)
-        (λ n v st. still_write_kept st c.keep (element (object_in g) (unsigned_abs n)) v) p q s st k eq l tu h
-        ∙ sym (ap (λ x. ends x k) (goal_after g st (λ a st1. after (value used e st1) (λ v. write_kept c.keep a v))))
+        (λ n v st. still_write_kept st c.way (object_in g) n v) p q s st k eq l tu h
+        ∙ sym (ap (λ x. ends x k) (goal_after g st (λ a st1. after (value used e st1) (λ v. write_kept c.way a.object (pos a.index) v)) (λ n st1. after (value used e st1) (λ v. write_kept c.way (object_in g) n v)) (λ n st1. refl)))
     value_does u d (vUpdate o kind kind' at g e) lo li = λ p q s st k eq l tu h.
         update c t d (goal_code c.objects c.functions c.links d g) (code used (suc (suc d)) e) (index_of g) (value used e) o kind kind' at (object_in g) lo
         (goal_does d g lo (linked_first c.links (calls_of_goal g) (calls e) li)) (value_does used (suc (suc d)) e (omega (arith, lo)) (linked_last c.links (calls_of_goal g) (calls e) li)) p q s st k eq l tu h
-        ∙ sym (ap (λ x. ends x k) (goal_after g st (λ a st1. after (value used e st1) (updated c.model c.compute c.inputs at o kind kind' a (value_in st1 a)))))
+        ∙ sym (ap (λ x. ends x k) (goal_after g st (λ a st1. after (value used e st1) (updated c.model c.compute c.inputs at o kind kind' (picked c.way a) (value_in st1 (picked c.way a))))
+        (λ n st1. after (value used e st1) (updated c.model c.compute c.inputs at o kind kind' (c.way.pick (object_in g) n) (value_in st1 (c.way.pick (object_in g) n)))) (λ n st1. refl)))
     value_does u d (vChange before by kind at g) lo li = λ p q s st k eq l tu h.
-        unary c t d (goal_code c.objects c.functions c.links d g) (index_of g) (i.Change d before by kind at (object_in g)) (λ n. changed c.model c.compute c.inputs at before by kind (element (object_in g) (unsigned_abs n)))
-        (goal_does d g lo li) (λ p s st. refl) (omega arith) (λ n st. still_changed c.model c.compute c.inputs at before by kind (element (object_in g) (unsigned_abs n)) st) p q s st k eq l tu h
-        ∙ sym (ap (λ x. ends x k) (goal_after g st (λ a. changed c.model c.compute c.inputs at before by kind a)))
-    value_does u d (vCall result at x f es) lo li = called_does u result f at d (number_of es) li.0.0 (values_code c.objects c.functions c.links d es) (keeping.values c.model c.objects c.compute c.keep c.inputs c.call es) li.0.1 (values_do d es lo li.1)
+        unary c t d (goal_code c.objects c.functions c.links d g) (index_of g) (i.Change d before by kind at (object_in g)) (λ n. changed c.model c.compute c.inputs at before by kind (c.way.pick (object_in g) n))
+        (goal_does d g lo li) (λ p s st. refl) (omega arith) (λ n st. still_changed c.model c.compute c.inputs at before by kind (c.way.pick (object_in g) n) st) p q s st k eq l tu h
+        ∙ sym (ap (λ x. ends x k) (goal_after g st (λ a. changed c.model c.compute c.inputs at before by kind (picked c.way a)) (λ n. changed c.model c.compute c.inputs at before by kind (c.way.pick (object_in g) n)) (λ n st1. refl)))
+    value_does u d (vCall result at x f es) lo li = called_does u result f at d (number_of es) li.0.0 (values_code c.objects c.functions c.links d es) (keeping.values c.model c.objects c.compute c.way c.inputs c.call es) li.0.1 (values_do d es lo li.1)
     value_does u d (vReach at) lo li = reach_does d at
     value_does u d vAbort lo li = abort_does d
     value_does u d (vDraw kind) lo li = single c t d (i.Draw d kind) (draw c.inputs c.model kind) (λ p s st. refl) (omega arith) (λ st. still_drawn kind c.model (slice_get c.inputs st.taken) st)
     value_does u d (vComma es e) lo li =
-        then_do c t ℤ (In c t d) d (drops_code c.objects c.functions c.links d es) (code used d e) (keeping.drop_values c.model c.objects c.compute c.keep c.inputs c.call es) (value used e)
+        then_do c t ℤ (In c t d) d (drops_code c.objects c.functions c.links d es) (code used d e) (keeping.drop_values c.model c.objects c.compute c.way c.inputs c.call es) (value used e)
         (drops_do d es lo (linked_first c.links (calls_in es) (calls e) li)) (value_does used d e lo (linked_last c.links (calls_in es) (calls e) li))
 
     pub values_do : (d : ℕ) (es : Vals) → c.low ≤ d → Linked c.links (calls_in es) →
-        Does c t (List ℤ) (HoldsAll (number_of es) d) d (values_code c.objects c.functions c.links d es) (keeping.values c.model c.objects c.compute c.keep c.inputs c.call es)
+        Does c t (List ℤ) (HoldsAll (number_of es) d) d (values_code c.objects c.functions c.links d es) (keeping.values c.model c.objects c.compute c.way c.inputs c.call es)
     values_do d no_values lo li = no_values_do d
     values_do d (values_and es e) lo li =
-        more_values_do d (number_of es) (values_code c.objects c.functions c.links d es) (code used (d + number_of es) e) (keeping.values c.model c.objects c.compute c.keep c.inputs c.call es) (value used e) lo
+        more_values_do d (number_of es) (values_code c.objects c.functions c.links d es) (code used (d + number_of es) e) (keeping.values c.model c.objects c.compute c.way c.inputs c.call es) (value used e) lo
         (values_do d es lo (linked_first c.links (calls_in es) (calls e) li)) (value_does used (d + number_of es) e (omega (arith, lo)) (linked_last c.links (calls_in es) (calls e) li))
 
-    pub drops_do : (d : ℕ) (es : Vals) → c.low ≤ d → Linked c.links (calls_in es) → Does c t (Unit {0}) (Nothing c t) d (drops_code c.objects c.functions c.links d es) (keeping.drop_values c.model c.objects c.compute c.keep c.inputs c.call es)
+    pub drops_do : (d : ℕ) (es : Vals) → c.low ≤ d → Linked c.links (calls_in es) → Does c t (Unit {0}) (Nothing c t) d (drops_code c.objects c.functions c.links d es) (keeping.drop_values c.model c.objects c.compute c.way c.inputs c.call es)
     drops_do d no_values lo li = no_drops_do d
     drops_do d (values_and es e) lo li =
-        then_do c t (Unit {0}) (Nothing c t) d (drops_code c.objects c.functions c.links d es) (code dropped d e) (keeping.drop_values c.model c.objects c.compute c.keep c.inputs c.call es) (λ st. after (value dropped e st) (λ v. give tt))
+        then_do c t (Unit {0}) (Nothing c t) d (drops_code c.objects c.functions c.links d es) (code dropped d e) (keeping.drop_values c.model c.objects c.compute c.way c.inputs c.call es) (λ st. after (value dropped e st) (λ v. give tt))
         (drops_do d es lo (linked_first c.links (calls_in es) (calls e) li)) (drop c t d (code dropped d e) (value dropped e) (value_does dropped d e lo (linked_last c.links (calls_in es) (calls e) li)))
 
     goal_does : (d : ℕ) (g : Goal) → c.low ≤ d → Linked c.links (calls_of_goal g) → Does c t ℤ (In c t d) d (goal_code c.objects c.functions c.links d g) (index_of g)

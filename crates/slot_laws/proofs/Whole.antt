@@ -1,8 +1,8 @@
 -- The code of a program runs as its tree.
 use Rattle.std.proofs.Common.{◌≡◌, ℕ, suc, ◌≤◌, true, List, [], ◌∷◌, length, Option, Some, None, ℤ, pos, slice_get, inl, refl, sym, ap, ◌∙◌, subst, arith}
 use Rattle.typed_range_laws.specs.Guards.{guarded}
-use Rattle.typed_range_laws.specs.Ways.{Keep, as_it_is}
-use Rattle.typed_range_laws.proofs.Running.{guarded_agrees, plain_keeps, runs_each_way as trees_each_way}
+use Rattle.typed_range_laws.specs.Ways.{Way, as_it_is}
+use Rattle.typed_range_laws.proofs.Running.{guarded_agrees, plain_suits, runs_each_way as trees_each_way}
 use Rattle.c_run.specs.Run.{State, Got, Value, Stop, Run, after, Compute}
 use Rattle.c_run.specs.Loops.{Start, enter}
 use Rattle.c_typed.specs.Tree.{Function, Program}
@@ -27,9 +27,9 @@ no_more : (xs : List Instruction) → slice_get xs (length xs) ≡ None
 no_more [] = refl
 no_more (x ∷ xs) = no_more xs
 
-none_bound : (keep : Keep) (os : List ℕ) (store : List (List ℤ)) → bound_store keep os [] store ≡ store
-none_bound keep [] store = refl
-none_bound keep (o ∷ os) store = refl
+none_bound : (way : Way) (os : List ℕ) (store : List (List ℤ)) → bound_store way os [] store ≡ store
+none_bound way [] store = refl
+none_bound way (o ∷ os) store = refl
 
 -- where `main` has returned the run has ended
 ended : (g : Got (Option ℤ)) → ends g (λ r st. ending.Ended) ≡ ending_of (typed.end_of_run g)
@@ -37,58 +37,58 @@ unfolding ends
 ended (Value v st) = refl
 ended (Stop e) = refl
 
-module _ (program : Program) (compute : Compute) (keep : Keep) (inputs : List ℤ) (code : List Instruction) where
-  over : (s : List ℤ) (st : State) → run_at program compute keep inputs code (length code) s st ≡ ending.Ended
+module _ (program : Program) (compute : Compute) (way : Way) (inputs : List ℤ) (code : List Instruction) where
+  over : (s : List ℤ) (st : State) → run_at program compute way inputs code (length code) s st ≡ ending.Ended
   unfolding run_at
   over s st =
-      goes_on program.model compute inputs keep code (machine (length code) s st)
-      ∙ ap (λ o. onward program.model compute inputs code (act_at_with program.model compute inputs keep o (machine (length code) s st)) (run_from_with program.model compute inputs keep code)) (no_more code)
+      goes_on program.model compute inputs way code (machine (length code) s st)
+      ∙ ap (λ o. onward program.model compute inputs code (act_at_with program.model compute inputs way o (machine (length code) s st)) (run_from_with program.model compute inputs way code)) (no_more code)
 
   main_is : (n main : ℕ) (f : Function) (st : State) → slice_get program.functions main ≡ Some f →
-      enter (suc n) (keeping.exec_all program.model program.objects compute keep inputs (keeping.call_at program compute keep inputs n) f.result n f.body) Start st ≡ keeping.run_main program compute keep inputs n (Some main) st
+      enter (suc n) (keeping.exec_all program.model program.objects compute way inputs (keeping.call_at program compute way inputs n) f.result n f.body) Start st ≡ keeping.run_main program compute way inputs n (Some main) st
   main_is n main f st e =
-      let body : Run (Option ℤ) = enter (suc n) (keeping.exec_all program.model program.objects compute keep inputs (keeping.call_at program compute keep inputs n) f.result n f.body) Start in
+      let body : Run (Option ℤ) = enter (suc n) (keeping.exec_all program.model program.objects compute way inputs (keeping.call_at program compute way inputs n) f.result n f.body) Start in
       let stored : List (List ℤ) → State = λ x. record { store = x; taken = st.taken; turns = st.turns } in
-      sym (ap (λ o. keeping.body_of program compute keep inputs (keeping.call_at program compute keep inputs n) n o [] st) e ∙ ap (λ g. after g (λ v. body)) (bound keep f.parameters [] st) ∙ ap (λ x. body (stored x)) (none_bound keep f.parameters st.store))
+      sym (ap (λ o. keeping.body_of program compute way inputs (keeping.call_at program compute way inputs n) n o [] st) e ∙ ap (λ g. after g (λ v. body)) (bound way f.parameters [] st) ∙ ap (λ x. body (stored x)) (none_bound way f.parameters st.store))
 
-  main_runs : (main : ℕ) (l : Link) (place slots : ℕ) (s : List ℤ) (st : State) → One program compute keep inputs code main l place slots → place ≤ length code →
-      run_at program compute keep inputs code l.entry (put s l.slot (pos (length code))) st ≡ ending_of (typed.end_of_run (keeping.run_main program compute keep inputs st.turns (Some main) st))
+  main_runs : (main : ℕ) (l : Link) (place slots : ℕ) (s : List ℤ) (st : State) → One program compute way inputs code main l place slots → place ≤ length code →
+      run_at program compute way inputs code l.entry (put s l.slot (pos (length code))) st ≡ ending_of (typed.end_of_run (keeping.run_main program compute way inputs st.turns (Some main) st))
   main_runs main l place slots s st one le =
-      function_runs program compute keep inputs code st.turns (keeping.call_at program compute keep inputs st.turns) main l one.links place slots one.this
-      (calls_run program compute keep inputs code st.turns one.links l.entry l.slot l.slot one.this.top l.entry one.others (omega arith) (omega arith)) (put s l.slot (pos (length code))) st (λ r st1. ending.Ended) (length code) (omega arith)
+      function_runs program compute way inputs code st.turns (keeping.call_at program compute way inputs st.turns) main l one.links place slots one.this
+      (calls_run program compute way inputs code st.turns one.links l.entry l.slot l.slot one.this.top l.entry one.others (omega arith) (omega arith)) (put s l.slot (pos (length code))) st (λ r st1. ending.Ended) (length code) (omega arith)
       (put_same s l.slot (pos (length code))) le (λ r s1 st1 tu1 ab is. over s1 st1)
       ∙ ap (λ g. ends g (λ r st1. ending.Ended)) (main_is st.turns main one.this.f st one.this.there)
-      ∙ ended (keeping.run_main program compute keep inputs st.turns (Some main) st)
+      ∙ ended (keeping.run_main program compute way inputs st.turns (Some main) st)
 
-  main_code : (c : Code) (main : ℕ) (l : Link) (before : List ℕ) (s : List ℤ) (st : State) → code ≡ c.instructions → Grown program compute keep inputs code c before → link_of main c.links ≡ Some l →
-      run_at program compute keep inputs code l.entry (put s l.slot (pos (length code))) st ≡ ending_of (typed.end_of_run (keeping.run_main program compute keep inputs st.turns (Some main) st))
+  main_code : (c : Code) (main : ℕ) (l : Link) (before : List ℕ) (s : List ℤ) (st : State) → code ≡ c.instructions → Grown program compute way inputs code c before → link_of main c.links ≡ Some l →
+      run_at program compute way inputs code l.entry (put s l.slot (pos (length code))) st ≡ ending_of (typed.end_of_run (keeping.run_main program compute way inputs st.turns (Some main) st))
   main_code c main l before s st e g link =
-      main_runs main l (length c.instructions) (slots_in c.instructions) s st (stands_one program compute keep inputs code main l c.links (length c.instructions) (slots_in c.instructions) g.stands link) (omega (arith, ap (λ xs. length xs) e))
+      main_runs main l (length c.instructions) (slots_in c.instructions) s st (stands_one program compute way inputs code main l c.links (length c.instructions) (slots_in c.instructions) g.stands link) (omega (arith, ap (λ xs. length xs) e))
 
-module _ (program : Program) (order : List ℕ) (io : IsOrder program order) (compute : Compute) (keep : Keep) (slots inputs : List ℤ) (turns : ℕ) where
+module _ (program : Program) (order : List ℕ) (io : IsOrder program order) (compute : Compute) (way : Way) (slots inputs : List ℤ) (turns : ℕ) where
   abbrev start : State
   start = record { store = typed.start_store program.objects; taken = 0; turns = turns }
 
   abbrev code : Code
   code = code_of program order
 
-  grown : Grown program compute keep inputs code.instructions code (onto order [])
-  grown = all_stand program compute keep inputs code.instructions order (record { instructions = []; links = [] }) [] (record { stands = tt; numbers = refl }) io.callees refl
+  grown : Grown program compute way inputs code.instructions code (onto order [])
+  grown = all_stand program compute way inputs code.instructions order (record { instructions = []; links = [] }) [] (record { stands = tt; numbers = refl }) io.callees refl
 
   main_found : (main : ℕ) → has order main ≡ true → (l : Link) × (link_of main code.links ≡ Some l)
   main_found main h = linked_one main code.links (subst (λ x. has x main ≡ true) (sym grown.numbers) (has_onto order [] main (inl h)))
 
-  run_is : (main : Option ℕ) → MainStands main order → run_code_with compute keep program code slots (main_link main code) inputs turns ≡ ending_of (typed.end_of_run (keeping.run_main program compute keep inputs turns main start))
+  run_is : (main : Option ℕ) → MainStands main order → run_code_with compute way program code slots (main_link main code) inputs turns ≡ ending_of (typed.end_of_run (keeping.run_main program compute way inputs turns main start))
   unfolding run_at
   run_is None h = refl
   run_is (Some main) h =
       let found = main_found main h in
-      ap (λ o. run_code_with compute keep program code slots o inputs turns) found.1 ∙ main_code program compute keep inputs code.instructions code main found.0 (onto order []) slots start refl grown found.1
+      ap (λ o. run_code_with compute way program code slots o inputs turns) found.1 ∙ main_code program compute way inputs code.instructions code main found.0 (onto order []) slots start refl grown found.1
 
 pub runs_each_way : CodeRunsEachWay
-runs_each_way program order fits io compute agrees keep keeps slots inputs turns =
-    run_is program order io compute keep slots inputs turns (typed.main_number program.functions) io.main ∙ ap (λ e. ending_of e) (trees_each_way program fits compute agrees keep keeps turns inputs)
+runs_each_way program order fits io compute agrees way suits slots inputs turns =
+    run_is program order io compute way slots inputs turns (typed.main_number program.functions) io.main ∙ ap (λ e. ending_of e) (trees_each_way program fits compute agrees way suits turns inputs)
 
 pub runs_as_tree : CodeRunsAsTree
 runs_as_tree program order fits io slots inputs turns =
-    runs_each_way program order fits io (λ op kind x y. guarded program.model op kind x y) (guarded_agrees program.model) as_it_is (plain_keeps program.model program.objects) slots inputs turns
+    runs_each_way program order fits io (λ op kind x y. guarded program.model op kind x y) (guarded_agrees program.model) as_it_is (plain_suits program.model program.objects) slots inputs turns

@@ -7,7 +7,7 @@ use Rattle.c_typed.specs.Run.{size_of, main_number}
 use Rattle.c_typed.specs.Run as typed
 use Rattle.c_typed.specs.Facts.{IsTyped}
 use Rattle.c_typed.specs.Rules.{has, Call, calls_of, all_of_all}
-use Rattle.typed_range_laws.specs.Ways.{Agrees, Keep, Keeps}
+use Rattle.typed_range_laws.specs.Ways.{Agrees, Way, Suits}
 use Rattle.slot_code.specs.declared.flat.Instruction.{Instruction}
 use Rattle.slot_code.specs.declared.flat.Instruction.TheVariants as i
 use Rattle.slot_code.specs.Programs.{code_of}
@@ -16,8 +16,8 @@ use Rattle.slot_code.specs.Machine as flat
 
 -- A run from a place is the run from where the instruction there leads. So none is cut off.
 abbrev pub CodeGoesOn : Type 0
-CodeGoesOn = (model : Model) (compute : Compute) (inputs : List ℤ) (keep : Keep) (code : List Instruction) (m : Machine) →
-    run_from_with model compute inputs keep code m ≡ onward model compute inputs code (step_with model compute inputs keep code m) (run_from_with model compute inputs keep code)
+CodeGoesOn = (model : Model) (compute : Compute) (inputs : List ℤ) (way : Way) (code : List Instruction) (m : Machine) →
+    run_from_with model compute inputs way code m ≡ onward model compute inputs code (step_with model compute inputs way code m) (run_from_with model compute inputs way code)
 
 -- Each instruction takes a turn, or goes forward: the rank of the machine falls.
 abbrev pub Falls : Model → Compute → List ℤ → List Instruction → Machine → Next → Type 0
@@ -25,7 +25,7 @@ Falls model compute inputs code m (Goes next) = rank model compute inputs code n
 Falls model compute inputs code m (Over ending) = Unit {0}
 
 abbrev pub RanksFall : Type 0
-RanksFall = (model : Model) (compute : Compute) (inputs : List ℤ) (keep : Keep) (code : List Instruction) (m : Machine) → Falls model compute inputs code m (step_with model compute inputs keep code m)
+RanksFall = (model : Model) (compute : Compute) (inputs : List ℤ) (way : Way) (code : List Instruction) (m : Machine) → Falls model compute inputs code m (step_with model compute inputs way code m)
 
 -- ---- Objects
 
@@ -71,10 +71,10 @@ pub record IsOrder (program : Program) (order : List ℕ) : Type 0 where
   pub main : MainStands (main_number program.functions) order
 
 -- In such an order the code of a typed tree runs as the tree, whatever its slots hold before: with each arithmetic that agrees with
--- C's, and with each way to keep values in objects that leaves those of their kinds.
+-- C's, and in each way that suits the tree's objects.
 abbrev pub CodeRunsEachWay : Type 0
-CodeRunsEachWay = (program : Program) (order : List ℕ) → IsTyped program → IsOrder program order → (compute : Compute) → Agrees program.model compute → (keep : Keep) → Keeps program.model program.objects keep →
-    (slots inputs : List ℤ) (turns : ℕ) → flat.run_with compute keep program order slots inputs turns ≡ ending_of (typed.run turns program inputs)
+CodeRunsEachWay = (program : Program) (order : List ℕ) → IsTyped program → IsOrder program order → (compute : Compute) → Agrees program.model compute → (way : Way) → Suits program.model program.objects way →
+    (slots inputs : List ℤ) (turns : ℕ) → flat.run_with compute way program order slots inputs turns ≡ ending_of (typed.run turns program inputs)
 
 -- So it does where each operation tests its operands, and values are kept as they are.
 abbrev pub CodeRunsAsTree : Type 0

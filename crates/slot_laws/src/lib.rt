@@ -18,8 +18,8 @@ pub fn code_shaped()
     ensures { CodeShaped }
 {}
 
-/// The code of a typed tree runs as the tree with each arithmetic that is C's on operands of the kinds, and each way to keep values
-/// in objects that leaves those of the objects' kinds.
+/// The code of a typed tree runs as the tree with each arithmetic that is C's on operands of the kinds, and in each way to keep values
+/// in objects, to pick elements and to tell cases that does as C where values are of the kinds and indices are below the sizes.
 pub fn code_runs_each_way()
     ensures { CodeRunsEachWay }
 {}

@@ -1,7 +1,9 @@
 -- Two runs that agree as long as each object holds values of its kind: both compute as C does on operands of the kinds,
--- and one keeps in its objects what leaves the values of their kinds.
-use Rattle.std.proofs.Common.{◌≡◌, ℕ, zero, suc, Bool, true, false, List, [], ◌∷◌, ◌++◌, replicate, Option, Some, None, Result, Ok, Err, ℤ, pos, slice_get, slice_set, slice_index_or, refl, sym, ap, ◌∙◌, subst, if◌then◌else◌}
-use Rattle.std.specs.Prelude.{IfOk, int_le, int_lt, ◌&&◌, unsigned_abs, map}
+-- and one goes in a way that suits the objects.
+use Rattle.std.proofs.Common.{◌≡◌, ℕ, zero, suc, Bool, true, false, List, [], ◌∷◌, ◌++◌, replicate, Option, Some, None, Result, Ok, Err, ℤ, pos, negsuc, ◌<◌, slice_get, slice_set, slice_index_or, refl, sym, ap, ◌∙◌, subst, if◌then◌else◌, arith, lit<}
+use Rattle.std.specs.Prelude.{IfOk, int_le, int_lt, nat_eq, ◌&&◌, unsigned_abs, map}
+use Rattle.std.proofs.lemmas.Int.{ints}
+use Rattle.std.proofs.lemmas.Bool.Decides.{nat_tests}
 use Rattle.lv_base.specs.declared.kind.Kind.{Kind}
 use Rattle.lv_base.specs.declared.kind.Kind.TheVariants as kind
 use Rattle.lv_base.specs.declared.kind.Model.{Model}
@@ -20,8 +22,8 @@ use Rattle.c_run.specs.Loops.{Exit, Normal, Broke, Continued, Returned, Jumped, 
 use Rattle.c_typed.specs.Tree.{Object}
 use Rattle.c_typed.specs.Facts.{is_comparison, when}
 use Rattle.c_typed.specs.Facts as facts
-use Rattle.c_typed.specs.Run.{promoted}
-use Rattle.typed_range_laws.specs.Ways.{Agrees, Keep, Keeps, write_kept}
+use Rattle.c_typed.specs.Run.{promoted, size_of}
+use Rattle.typed_range_laws.specs.Ways.{Agrees, Way, Suits, picked, write_kept}
 use Rattle.typed_range_laws.proofs.Bounds.{truth_in_range}
 use Rattle.typed_range_laws.proofs.Ranging.{converted_in_range, arith_fine, tested_in_range}
 
@@ -92,7 +94,7 @@ module _ (model : Model) (objects : List Object) where
 
   -- an element of an object of a kind
   abbrev pub Within : Kind → Element → Type 0
-  Within k e = (told : Object) × (slice_get objects e.object ≡ Some told) × (told.kind ≡ k)
+  Within k e = (told : Object) × (slice_get objects e.object ≡ Some told) × (told.kind ≡ k) × (e.index < size_of (Some told))
 
   pub reads : (k : Kind) (e : Element) → Within k e → Alike ℤ (InRange k model) (read e) (read e)
   unfolding Ranged
@@ -125,12 +127,30 @@ module _ (model : Model) (objects : List Object) where
   zero_in : (k : Kind) → InRange k model (pos 0)
   zero_in k = truth_in_range k model false
 
-  located_alike : (b : Bool) (P : Element → Type 0) (e : Element) (at : ℕ) → P e → Alike Element P (choose b (give e) (fail error.Index at)) (choose b (give e) (fail error.Index at))
-  located_alike true P e at h = gives Element P e h
+  located_alike : (b : Bool) (P : Element → Type 0) (e : Element) (at : ℕ) → (b ≡ true → P e) → Alike Element P (choose b (give e) (fail error.Index at)) (choose b (give e) (fail error.Index at))
+  located_alike true P e at h = gives Element P e (h refl)
   located_alike false P e at h = stops Element P (λ st. Error error.Index at st.taken)
 
-  pub locates : (k : Kind) (at object count : ℕ) (v : ℤ) → Within k (element object 0) → Alike Element (Within k) (located at object count v) (located at object count v)
-  locates k at object count v w = located_alike (int_le (pos 0) v && int_lt v (pos count)) (Within k) (element object (unsigned_abs v)) at w
+  -- an index that was tested
+  index_below : (count : ℕ) (v : ℤ) → (int_le (pos 0) v && int_lt v (pos count)) ≡ true → unsigned_abs v < count
+  index_below count (pos n) h = grind (arith, ints, nat_tests)
+  index_below count (negsuc n) h = absurd cc
+
+  pub locates : (k : Kind) (at object : ℕ) (v : ℤ) (told : Object) → slice_get objects object ≡ Some told → told.kind ≡ k → Alike Element (Within k) (located at object (size_of (slice_get objects object)) v) (located at object (size_of (slice_get objects object)) v)
+  locates k at object v told there same =
+      located_alike (int_le (pos 0) v && int_lt v (pos (size_of (slice_get objects object)))) (Within k) (element object (unsigned_abs v)) at
+      (λ h. (told, there, same, subst (λ o. unsigned_abs v < size_of o) there (index_below (size_of (slice_get objects object)) v h)))
+
+  -- a scalar has its element 0
+  pub scalar_has : (told : Object) → told.length ≡ 0 → 0 < size_of (Some told)
+  scalar_has told h = subst (λ n. 0 < (if nat_eq n 0 then 1 else n)) (sym h) (lit< tt)
+
+  pub array_has : (told : Object) → 0 < told.length → 0 < size_of (Some told)
+  array_has told h = go (nat_eq told.length 0)
+    where
+      go : (b : Bool) → 0 < (if b then 1 else told.length)
+      go true = lit< tt
+      go false = h
 
   -- ---- Inputs
 
@@ -174,15 +194,25 @@ module _ (model : Model) (objects : List Object) where
       binds ℤ (List ℤ) (InRange k model) (Each k) (draw inputs model k) (draw inputs model k) _ _ (draws inputs k)
       (λ v h. binds (List ℤ) (List ℤ) (Each k) (Each k) (draw_all inputs model k count) (draw_all inputs model k count) _ _ (all_draws inputs k count) (λ vs e. gives (List ℤ) (Each k) (v ∷ vs) (each_more k v vs h e)))
 
-  -- the same where a value that gets into an object becomes what is kept of it
-  module _ (keep : Keep) (keeps : Keeps model objects keep) where
-    pub writes_kept : (k : Kind) (e : Element) (v : ℤ) → Within k e → InRange k model v → Alike ℤ (InRange k model) (write_kept keep e v) (write e v)
-    writes_kept k e v w h =
-        subst (λ x. Alike ℤ (InRange k model) (λ st. after (write e x st) (λ z. give v)) (write e v)) (sym (keeps.same e.object w.0 v w.1 (subst (λ z. InRange z model v) (sym w.2) h))) (writes k e v w h)
+  -- the same in a way that suits the objects
+  module _ (way : Way) (suits : Suits model objects way) where
+    picks_it : (k : Kind) (e : Element) → Within k e → picked way e ≡ element e.object e.index
+    picks_it k e w = suits.picks e.object e.index (subst (λ o. e.index < size_of o) (sym w.1) w.3)
 
-    pub all_kept : (o : ℕ) (told : Object) (vs : List ℤ) → slice_get objects o ≡ Some told → Each told.kind vs → map (keep o) vs ≡ vs
+    pub reads_picked : (k : Kind) (e : Element) → Within k e → Alike ℤ (InRange k model) (read (picked way e)) (read e)
+    reads_picked k e w = subst (λ x. Alike ℤ (InRange k model) (read x) (read e)) (sym (picks_it k e w)) (reads k e w)
+
+    pub writes_picked : (k : Kind) (e : Element) (v : ℤ) → Within k e → InRange k model v → Alike ℤ (InRange k model) (write (picked way e) v) (write e v)
+    writes_picked k e v w h = subst (λ x. Alike ℤ (InRange k model) (write x v) (write e v)) (sym (picks_it k e w)) (writes k e v w h)
+
+    pub writes_kept : (k : Kind) (e : Element) (v : ℤ) → Within k e → InRange k model v → Alike ℤ (InRange k model) (write_kept way e.object (pos e.index) v) (write e v)
+    writes_kept k e v w h =
+        subst (λ x. Alike ℤ (InRange k model) (λ st. after (write (picked way e) x st) (λ z. give v)) (write e v)) (sym (suits.keeps e.object w.0 v w.1 (subst (λ z. InRange z model v) (sym w.2) h)))
+        (writes_picked k e v w h)
+
+    pub all_kept : (o : ℕ) (told : Object) (vs : List ℤ) → slice_get objects o ≡ Some told → Each told.kind vs → map (way.keep o) vs ≡ vs
     all_kept o told [] there h = refl
-    all_kept o told (v ∷ vs) there h = ap (λ x. x ∷ map (keep o) vs) (keeps.same o told v there (h zero)) ∙ ap (λ xs. v ∷ xs) (all_kept o told vs there (λ i. h (suc i)))
+    all_kept o told (v ∷ vs) there h = ap (λ x. x ∷ map (way.keep o) vs) (suits.keeps o told v there (h zero)) ∙ ap (λ xs. v ∷ xs) (all_kept o told vs there (λ i. h (suc i)))
 
   -- ---- Operations
 
@@ -255,11 +285,11 @@ module _ (model : Model) (objects : List Object) where
     applies op.Divide k at x y p l h r = operates arith'.Div k at x y p h (r.other refl)
     applies op.Remainder k at x y p l h r = operates arith'.Rem k at x y p h (r.other refl)
 
-    pub steps : (b : Crement) (k : Kind) (at : ℕ) (e : Element) (v : ℤ) → Within k e → Alike ℤ (InRange k model) (stepped_by compute at b k e v) (stepped_by compute' at b k e v)
-    steps b k at e v w =
+    pub steps : (way : Way) → Suits model objects way → (b : Crement) (k : Kind) (at : ℕ) (e : Element) (v : ℤ) → Within k e → Alike ℤ (InRange k model) (stepped_by compute at b k (picked way e) v) (stepped_by compute' at b k e v)
+    steps way suits b k at e v w =
         binds ℤ ℤ (InRange (promoted k) model) (InRange k model) (computed at (compute (crement_op b) (promoted k) (converted (promoted k) model v) (pos 1))) (computed at (compute' (crement_op b) (promoted k) (converted (promoted k) model v) (pos 1))) _ _
         (computes (crement_op b) (promoted k) at (converted (promoted k) model v) (pos 1) (promoted_is k) (converted_in_range (promoted k) model v) (one_right b))
-        (λ new h. writes k e (converted k model new) w (converted_in_range k model new))
+        (λ new h. writes_picked way suits k e (converted k model new) w (converted_in_range k model new))
       where
         one_right : (b : Crement) → IsRight (crement_op b) (promoted k) model (pos 1)
         one_right by.Increment = truth_in_range (promoted k) model true
@@ -277,6 +307,11 @@ module _ (model : Model) (objects : List Object) where
   abbrev pub Gave : Option Kind → Option ℤ → Type 0
   Gave result None = Unit {0}
   Gave result (Some v) = Of result v
+
+  -- a statement is entered at the case of a value of the switch's kind
+  abbrev pub Entered : From → Type 0
+  Entered (Seek (toCase k v)) = InRange k model v
+  Entered _ = Unit {0}
 
   module _ (result : Option Kind) where
     then_alike : (x : Exit) (m m' : Run Exit) → Left result x → Alike Exit (Left result) m m' → Alike Exit (Left result) (then_do x m) (then_do x m')
@@ -344,10 +379,10 @@ module _ (model : Model) (objects : List Object) where
     left_cases (Jumped n) l = tt
     left_cases Absent l = tt
 
-    pub switches : (f f' : From → Run Exit) (k : Kind) (v : ℤ) → ((from : From) → Alike Exit (Left result) (f from) (f' from)) → Alike Exit (Left result) (switch_on f k v) (switch_on f' k v)
-    switches f f' k v h =
-        binds Exit Exit (Left result) (Left result) (f (Seek (toCase k v))) (f' (Seek (toCase k v))) _ _ (h (Seek (toCase k v)))
-        (λ x l. binds Exit Exit (Left result) (Left result) (or_else x (f (Seek toDefault))) (or_else x (f' (Seek toDefault))) _ _ (else_alike x (f (Seek toDefault)) (f' (Seek toDefault)) l (h (Seek toDefault)))
+    pub switches : (f f' : From → Run Exit) (k : Kind) (v : ℤ) → InRange k model v → ((from : From) → Entered from → Alike Exit (Left result) (f from) (f' from)) → Alike Exit (Left result) (switch_on f k v) (switch_on f' k v)
+    switches f f' k v r h =
+        binds Exit Exit (Left result) (Left result) (f (Seek (toCase k v))) (f' (Seek (toCase k v))) _ _ (h (Seek (toCase k v)) r)
+        (λ x l. binds Exit Exit (Left result) (Left result) (or_else x (f (Seek toDefault))) (or_else x (f' (Seek toDefault))) _ _ (else_alike x (f (Seek toDefault)) (f' (Seek toDefault)) l (h (Seek toDefault) tt))
         (λ y ly. gives Exit (Left result) (leave_cases y) (left_cases y ly)))
 
     left_alike : (x : Exit) (go go' : List ℕ → Run (Option ℤ)) → Left result x → ((l : List ℕ) → Alike (Option ℤ) (Gave result) (go l) (go' l)) → Alike (Option ℤ) (Gave result) (left_by x go) (left_by x go')
@@ -359,6 +394,6 @@ module _ (model : Model) (objects : List Object) where
     left_alike (Jumped n) go go' l h = h n
     left_alike Absent go go' l h = gives (Option ℤ) (Gave result) None tt
 
-    pub enters : (n : ℕ) (f f' : From → Run Exit) (from : From) → ((x : From) → Alike Exit (Left result) (f x) (f' x)) → Alike (Option ℤ) (Gave result) (enter n f from) (enter n f' from)
-    enters zero f f' from h = stops (Option ℤ) (Gave result) (λ st. Rattle.c_run.specs.Run.Spent 0 st.store)
-    enters (suc n) f f' from h = binds Exit (Option ℤ) (Left result) (Gave result) (f from) (f' from) _ _ (h from) (λ x l. left_alike x _ _ l (λ name. enters n f f' (Seek (toLabel name)) h))
+    pub enters : (n : ℕ) (f f' : From → Run Exit) (from : From) → Entered from → ((x : From) → Entered x → Alike Exit (Left result) (f x) (f' x)) → Alike (Option ℤ) (Gave result) (enter n f from) (enter n f' from)
+    enters zero f f' from e h = stops (Option ℤ) (Gave result) (λ st. Rattle.c_run.specs.Run.Spent 0 st.store)
+    enters (suc n) f f' from e h = binds Exit (Option ℤ) (Left result) (Gave result) (f from) (f' from) _ _ (h from e) (λ x l. left_alike x _ _ l (λ name. enters n f f' (Seek (toLabel name)) tt h))

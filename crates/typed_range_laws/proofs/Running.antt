@@ -1,53 +1,53 @@
--- Statements, functions and whole programs run the same with each arithmetic that agrees with C's, and each way to keep values in objects.
+-- Statements, functions and whole programs run the same with each arithmetic that agrees with C's, in each way that suits the objects.
 use Rattle.std.proofs.Common.{◌≡◌, ℕ, zero, suc, ◌+◌, ◌-◌, List, [], ◌∷◌, ◌++◌, length, replicate, Option, Some, None, ℤ, pos, slice_get, slice_index_or, refl, sym, ap, ◌∙◌, subst}
 use Rattle.std.specs.List.{All}
 use Rattle.std.proofs.lemmas.List.Elements.{All-head, All-tail}
 use Rattle.lv_base.specs.declared.kind.Kind.{Kind}
 use Rattle.lv_base.specs.declared.kind.Model.{Model}
-use Rattle.lv_base.specs.Integers.{InRange, arith_of}
-use Rattle.c_run.specs.Run.{State, Spent, Run, Compute, give, after, turn, store_all, padded, is_true}
+use Rattle.lv_base.specs.Integers.{InRange, arith_of, converted}
+use Rattle.c_run.specs.Run.{State, Spent, Run, Compute, give, after, turn, choose, store_all, padded, is_true}
 use Rattle.c_run.specs.Operators.{Use, used, dropped}
 use Rattle.c_run.specs.Loops.{Place, toLabel, toCase, toDefault, From, Start, Seek, Exit, Normal, Broke, Continued, Returned, Jumped, Absent, Calls, leave_switch, bind_parameters, enter}
 use Rattle.c_typed.specs.Tree.{Val, Vals, no_values, values_and, Step, pDraw, pBegin, pBlock, pEmpty, pEffect, pIf, pIfElse, pWhile, pSwitch, pDo, pFor, pCase, pDefault, pLabel, pGoto, pBreak, pContinue, pReturn, Steps, no_steps, steps_and, Owner, static, local, Object, Function, Program}
 use Rattle.c_typed.specs.Facts.{Fits, AllOf, OptionFits, TestFits, ReturnFits, StepFits, StepsFit, IsParameter, FunctionFits, FunctionsFit, ObjectFits, FirstFits, IsTyped}
 use Rattle.c_typed.specs.Run as run
 use Rattle.typed_range_laws.specs.Guards.{guarded}
-use Rattle.typed_range_laws.specs.Ways.{Agrees, Keep, Keeps, as_it_is}
+use Rattle.typed_range_laws.specs.Ways.{Agrees, Way, Suits, as_it_is}
 use Rattle.typed_range_laws.specs.Keeping.{bind_kept}
 use Rattle.typed_range_laws.specs.Keeping as keeping
 use Rattle.typed_range_laws.specs.Laws.{run_by, run_with, RunsAgreeing, RunsEachWay, RunsGuarded}
-use Rattle.typed_range_laws.proofs.Ranging.{guard_open}
-use Rattle.typed_range_laws.proofs.Agreeing.{Good, Alike, binds, gives, stops, weaker, chosen, turns, stores, Each, each_more, each_none, each_both, each_zero, all_draws, all_kept, Left, Gave, rows, elses, founds, nexts, loops, switches, enters}
+use Rattle.typed_range_laws.proofs.Ranging.{guard_open, converted_in_range}
+use Rattle.typed_range_laws.proofs.Agreeing.{Good, Alike, binds, gives, stops, weaker, chosen, turns, stores, Each, each_more, each_none, each_both, each_zero, all_draws, all_kept, Left, Gave, Entered, rows, elses, founds, nexts, loops, switches, enters}
 use Rattle.typed_range_laws.proofs.Typing.{Arguments, CallsAlike, T, P, OfVal, of_kind, value_alike}
 
-module _ (model : Model) (objects : List Object) (functions : List Function) (inputs : List ℤ) (compute compute' : Compute) (agrees : Agrees model compute) (agrees' : Agrees model compute') (keep : Keep) (keeps : Keeps model objects keep) (call call' : Calls) (hc : CallsAlike model objects functions inputs call call') where
+module _ (model : Model) (objects : List Object) (functions : List Function) (inputs : List ℤ) (compute compute' : Compute) (agrees : Agrees model compute) (agrees' : Agrees model compute') (way : Way) (suits : Suits model objects way) (call call' : Calls) (hc : CallsAlike model objects functions inputs call call') where
   abbrev V : Use → Val → Run ℤ
-  V u e = T model objects functions inputs compute compute' agrees agrees' keep keeps call call' hc u e
+  V u e = T model objects functions inputs compute compute' agrees agrees' way suits call call' hc u e
 
   abbrev W : Use → Val → Run ℤ
-  W u e = P model objects functions inputs compute compute' agrees agrees' keep keeps call call' hc u e
+  W u e = P model objects functions inputs compute compute' agrees agrees' way suits call call' hc u e
 
   abbrev In : Val → ℤ → Type 0
-  In e v = OfVal model objects functions inputs compute compute' agrees agrees' keep keeps call call' hc e v
+  In e v = OfVal model objects functions inputs compute compute' agrees agrees' way suits call call' hc e v
 
   value : (u : Use) (e : Val) → Fits model objects functions e → Alike model objects ℤ (In e) (V u e) (W u e)
-  value u e f = value_alike model objects functions inputs compute compute' agrees agrees' keep keeps call call' hc u e f
+  value u e f = value_alike model objects functions inputs compute compute' agrees agrees' way suits call call' hc u e f
 
   abbrev Any : ℤ → Type 0
   Any v = Unit {0}
 
-  each_alike : (k : Kind) (es : Vals) → AllOf model objects functions k es → Alike model objects (List ℤ) (Each model objects k) (keeping.values model objects compute keep inputs call es) (run.values model objects compute' inputs call' es)
+  each_alike : (k : Kind) (es : Vals) → AllOf model objects functions k es → Alike model objects (List ℤ) (Each model objects k) (keeping.values model objects compute way inputs call es) (run.values model objects compute' inputs call' es)
   each_alike k no_values f = gives model objects (List ℤ) (Each model objects k) [] (each_none model objects k)
   each_alike k (values_and es e) f =
       binds model objects (List ℤ) (List ℤ) (Each model objects k) (Each model objects k) _ _ _ _ (each_alike k es f.0)
       (λ vs h. binds model objects ℤ (List ℤ) (In e) (Each model objects k) (V used e) (W used e) _ _ (value used e f.2)
-      (λ v o. gives model objects (List ℤ) (Each model objects k) (vs ++ v ∷ []) (each_both model objects k vs (v ∷ []) h (each_more model objects k v [] (of_kind model objects functions inputs compute compute' agrees agrees' keep keeps call call' hc e k v f.1 o) (each_none model objects k)))))
+      (λ v o. gives model objects (List ℤ) (Each model objects k) (vs ++ v ∷ []) (each_both model objects k vs (v ∷ []) h (each_more model objects k v [] (of_kind model objects functions inputs compute compute' agrees agrees' way suits call call' hc e k v f.1 o) (each_none model objects k)))))
 
-  effect_alike : (e : Option Val) → OptionFits model objects functions e → Alike model objects (Unit {0}) (λ v. Unit {0}) (keeping.effect_of model objects compute keep inputs call e) (run.effect_of model objects compute' inputs call' e)
+  effect_alike : (e : Option Val) → OptionFits model objects functions e → Alike model objects (Unit {0}) (λ v. Unit {0}) (keeping.effect_of model objects compute way inputs call e) (run.effect_of model objects compute' inputs call' e)
   effect_alike None f = gives model objects (Unit {0}) (λ v. Unit {0}) tt tt
   effect_alike (Some e) f = binds model objects ℤ (Unit {0}) (In e) (λ v. Unit {0}) (V dropped e) (W dropped e) _ _ (value dropped e f) (λ v h. gives model objects (Unit {0}) (λ x. Unit {0}) tt tt)
 
-  test_alike : (e : Option Val) → TestFits model objects functions e → Alike model objects ℤ Any (keeping.test_of model objects compute keep inputs call e) (run.test_of model objects compute' inputs call' e)
+  test_alike : (e : Option Val) → TestFits model objects functions e → Alike model objects ℤ Any (keeping.test_of model objects compute way inputs call e) (run.test_of model objects compute' inputs call' e)
   test_alike None f = gives model objects ℤ Any (pos 1) tt
   test_alike (Some e) f = weaker model objects ℤ (In e) Any (V used e) (W used e) (λ v h. tt) (value used e f.1)
 
@@ -56,23 +56,23 @@ module _ (model : Model) (objects : List Object) (functions : List Function) (in
     L = Left model objects result
 
     abbrev X : Step → From → Run Exit
-    X s from = keeping.exec model objects compute keep inputs call result n s from
+    X s from = keeping.exec model objects compute way inputs call result n s from
 
     abbrev Y : Step → From → Run Exit
     Y s from = run.exec model objects compute' inputs call' result n s from
 
     abbrev Xs : Steps → From → Run Exit
-    Xs ss from = keeping.exec_all model objects compute keep inputs call result n ss from
+    Xs ss from = keeping.exec_all model objects compute way inputs call result n ss from
 
     abbrev Ys : Steps → From → Run Exit
     Ys ss from = run.exec_all model objects compute' inputs call' result n ss from
 
-    returned_alike : (r : Option Kind) (e : Option Val) → ReturnFits model objects functions r e → Alike model objects Exit (Left model objects r) (keeping.returned model objects compute keep inputs call r e) (run.returned model objects compute' inputs call' r e)
+    returned_alike : (r : Option Kind) (e : Option Val) → ReturnFits model objects functions r e → Alike model objects Exit (Left model objects r) (keeping.returned model objects compute way inputs call r e) (run.returned model objects compute' inputs call' r e)
     returned_alike r None f = gives model objects Exit (Left model objects r) (Returned None) tt
     returned_alike None (Some e) f = binds model objects ℤ Exit (In e) (Left model objects None) (V dropped e) (W dropped e) _ _ (value dropped e f) (λ v h. gives model objects Exit (Left model objects None) (Returned None) tt)
     returned_alike (Some k) (Some e) f =
         binds model objects ℤ Exit (In e) (Left model objects (Some k)) (V used e) (W used e) _ _ (value used e f.1)
-        (λ v h. gives model objects Exit (Left model objects (Some k)) (Returned (Some v)) (of_kind model objects functions inputs compute compute' agrees agrees' keep keeps call call' hc e k v f.0 h))
+        (λ v h. gives model objects Exit (Left model objects (Some k)) (Returned (Some v)) (of_kind model objects functions inputs compute compute' agrees agrees' way suits call call' hc e k v f.0 h))
 
     left_switch : (x : Exit) → L x → L (leave_switch x)
     left_switch Normal l = tt
@@ -101,63 +101,71 @@ module _ (model : Model) (objects : List Object) (functions : List Function) (in
         Alike model objects Exit L (Rattle.c_run.specs.Loops.loop at n (V used e) (X s Start) (give tt)) (Rattle.c_run.specs.Loops.loop at n (W used e) (Y s Start) (give tt))
     round at e s f h = loops model objects result n at (V used e) (W used e) (X s Start) (Y s Start) (give tt) (give tt) (In e) (value used e f) h (gives model objects (Unit {0}) (λ v. Unit {0}) tt tt)
 
+    -- a case is told as by equality
+    case_told : (p : Place) (v : ℤ) → Entered model objects (Seek p) → keeping.is_case model objects compute way inputs call p v ≡ run.is_case model objects compute' inputs call' p v
+    case_told (toLabel l) v r = refl
+    case_told (toCase k x) v r = suits.tells k x (converted k model v) r (converted_in_range k model v)
+    case_told toDefault v r = refl
+
     mutual
-      step_alike : (s : Step) (from : From) → StepFits model objects functions function result s → Alike model objects Exit L (X s from) (Y s from)
-      step_alike (pDraw o) Start f =
+      step_alike : (s : Step) (from : From) → StepFits model objects functions function result s → Entered model objects from → Alike model objects Exit L (X s from) (Y s from)
+      step_alike (pDraw o) Start f j =
           binds model objects (List ℤ) Exit (Each model objects (run.kind_of (slice_get objects o))) L _ _ _ _ (all_draws model objects inputs (run.kind_of (slice_get objects o)) (run.count_of model objects compute' inputs call o))
           (λ vs h. stored o vs (λ told there. subst (λ k. Each model objects k vs) (ap (λ x. run.kind_of x) there) h))
-      step_alike (pBegin o es) Start f =
+      step_alike (pBegin o es) Start f j =
           binds model objects (List ℤ) Exit (Each model objects f.told.kind) L _ _ _ _ (each_alike f.told.kind es f.values)
-          (λ vs h. subst (λ ws. Alike model objects Exit L (begun o ws) (begun o vs)) (sym (all_kept model objects keep keeps o f.told vs f.there h))
+          (λ vs h. subst (λ ws. Alike model objects Exit L (begun o ws) (begun o vs)) (sym (all_kept model objects way suits o f.told vs f.there h))
           (stored o (padded (room o) vs)
           (λ told there. subst (λ k. Each model objects k (padded (room o) vs)) (same_kind f.told told o f.there there)
           (each_both model objects f.told.kind vs (replicate (room o - length vs) (pos 0)) h (each_zero model objects f.told.kind (room o - length vs))))))
-      step_alike (pBlock ss) from f = steps_alike ss from f
-      step_alike pEmpty Start f = gives model objects Exit L Normal tt
-      step_alike (pEffect e) Start f = binds model objects ℤ Exit (In e) L (V dropped e) (W dropped e) _ _ (value dropped e f) (λ v h. gives model objects Exit L Normal tt)
-      step_alike (pIf e s) Start f = binds model objects ℤ Exit (In e) L (V used e) (W used e) _ _ (value used e f.1) (λ v h. chosen model objects Exit L (is_true v) _ _ _ _ (step_alike s Start f.2) (gives model objects Exit L Normal tt))
-      step_alike (pIf e s) (Seek p) f = step_alike s (Seek p) f.2
-      step_alike (pIfElse e s r) Start f = binds model objects ℤ Exit (In e) L (V used e) (W used e) _ _ (value used e f.1) (λ v h. chosen model objects Exit L (is_true v) _ _ _ _ (step_alike s Start f.2) (step_alike r Start f.3))
-      step_alike (pIfElse e s r) (Seek p) f = elses model objects result (X s (Seek p)) (Y s (Seek p)) (X r (Seek p)) (Y r (Seek p)) (step_alike s (Seek p) f.2) (step_alike r (Seek p) f.3)
-      step_alike (pWhile at e s) Start f = round at e s f.1 (step_alike s Start f.2)
-      step_alike (pWhile at e s) (Seek p) f = nexts model objects result (X s (Seek p)) (Y s (Seek p)) _ _ (step_alike s (Seek p) f.2) (round at e s f.1 (step_alike s Start f.2))
-      step_alike (pDo at s e) from f = nexts model objects result (X s from) (Y s from) _ _ (step_alike s from f.0) (round at e s f.2 (step_alike s Start f.0))
-      step_alike (pFor at start e step s) Start f =
-          rows model objects result (Xs start Start) (Ys start Start) _ _ (steps_alike start Start f.0) (loops model objects result n at _ _ (X s Start) (Y s Start) _ _ Any (test_alike e f.1) (step_alike s Start f.3) (effect_alike step f.2))
-      step_alike (pFor at start e step s) (Seek p) f =
-          nexts model objects result (X s (Seek p)) (Y s (Seek p)) _ _ (step_alike s (Seek p) f.3)
-          (binds model objects (Unit {0}) Exit (λ v. Unit {0}) L _ _ _ _ (effect_alike step f.2) (λ v h. loops model objects result n at _ _ (X s Start) (Y s Start) _ _ Any (test_alike e f.1) (step_alike s Start f.3) (effect_alike step f.2)))
-      step_alike (pSwitch at k e s) Start f = binds model objects ℤ Exit (In e) L (V used e) (W used e) _ _ (value used e f.2) (λ v h. switches model objects result (X s) (Y s) k v (λ from. step_alike s from f.3))
-      step_alike (pSwitch at k e s) (Seek (toLabel l)) f = binds model objects Exit Exit L L (X s (Seek (toLabel l))) (Y s (Seek (toLabel l))) _ _ (step_alike s (Seek (toLabel l)) f.3) (λ x lx. gives model objects Exit L (leave_switch x) (left_switch x lx))
-      step_alike (pCase at v s) Start f = step_alike s Start f
-      step_alike (pCase at v s) (Seek p) f = chosen model objects Exit L (run.is_case model objects compute' inputs call p v) _ _ _ _ (step_alike s Start f) (step_alike s (Seek p) f)
-      step_alike (pDefault at s) Start f = step_alike s Start f
-      step_alike (pDefault at s) (Seek p) f = chosen model objects Exit L (run.is_default p) _ _ _ _ (step_alike s Start f) (step_alike s (Seek p) f)
-      step_alike (pLabel l at s) Start f = step_alike s Start f
-      step_alike (pLabel l at s) (Seek p) f = chosen model objects Exit L (run.is_this_label p l) _ _ _ _ (step_alike s Start f) (step_alike s (Seek p) f)
-      step_alike (pGoto at l x) Start f = binds model objects (Unit {0}) Exit (λ v. Unit {0}) L (turn at) (turn at) _ _ (turns model objects at) (λ v h. gives model objects Exit L (Jumped l) tt)
-      step_alike (pBreak at) Start f = gives model objects Exit L Broke tt
-      step_alike (pContinue at) Start f = gives model objects Exit L Continued tt
-      step_alike (pReturn at e) Start f = returned_alike result e f
-      step_alike s (Seek p) f = absent
+      step_alike (pBlock ss) from f j = steps_alike ss from f j
+      step_alike pEmpty Start f j = gives model objects Exit L Normal tt
+      step_alike (pEffect e) Start f j = binds model objects ℤ Exit (In e) L (V dropped e) (W dropped e) _ _ (value dropped e f) (λ v h. gives model objects Exit L Normal tt)
+      step_alike (pIf e s) Start f j = binds model objects ℤ Exit (In e) L (V used e) (W used e) _ _ (value used e f.1) (λ v h. chosen model objects Exit L (is_true v) _ _ _ _ (step_alike s Start f.2 tt) (gives model objects Exit L Normal tt))
+      step_alike (pIf e s) (Seek p) f j = step_alike s (Seek p) f.2 j
+      step_alike (pIfElse e s r) Start f j = binds model objects ℤ Exit (In e) L (V used e) (W used e) _ _ (value used e f.1) (λ v h. chosen model objects Exit L (is_true v) _ _ _ _ (step_alike s Start f.2 tt) (step_alike r Start f.3 tt))
+      step_alike (pIfElse e s r) (Seek p) f j = elses model objects result (X s (Seek p)) (Y s (Seek p)) (X r (Seek p)) (Y r (Seek p)) (step_alike s (Seek p) f.2 j) (step_alike r (Seek p) f.3 j)
+      step_alike (pWhile at e s) Start f j = round at e s f.1 (step_alike s Start f.2 tt)
+      step_alike (pWhile at e s) (Seek p) f j = nexts model objects result (X s (Seek p)) (Y s (Seek p)) _ _ (step_alike s (Seek p) f.2 j) (round at e s f.1 (step_alike s Start f.2 tt))
+      step_alike (pDo at s e) from f j = nexts model objects result (X s from) (Y s from) _ _ (step_alike s from f.0 j) (round at e s f.2 (step_alike s Start f.0 tt))
+      step_alike (pFor at start e step s) Start f j =
+          rows model objects result (Xs start Start) (Ys start Start) _ _ (steps_alike start Start f.0 tt) (loops model objects result n at _ _ (X s Start) (Y s Start) _ _ Any (test_alike e f.1) (step_alike s Start f.3 tt) (effect_alike step f.2))
+      step_alike (pFor at start e step s) (Seek p) f j =
+          nexts model objects result (X s (Seek p)) (Y s (Seek p)) _ _ (step_alike s (Seek p) f.3 j)
+          (binds model objects (Unit {0}) Exit (λ v. Unit {0}) L _ _ _ _ (effect_alike step f.2) (λ v h. loops model objects result n at _ _ (X s Start) (Y s Start) _ _ Any (test_alike e f.1) (step_alike s Start f.3 tt) (effect_alike step f.2)))
+      step_alike (pSwitch at k e s) Start f j = binds model objects ℤ Exit (In e) L (V used e) (W used e) _ _ (value used e f.2) (λ v h. switches model objects result (X s) (Y s) k v (of_kind model objects functions inputs compute compute' agrees agrees' way suits call call' hc e k v f.1 h) (λ from. step_alike s from f.3))
+      step_alike (pSwitch at k e s) (Seek (toLabel l)) f j = binds model objects Exit Exit L L (X s (Seek (toLabel l))) (Y s (Seek (toLabel l))) _ _ (step_alike s (Seek (toLabel l)) f.3 j) (λ x lx. gives model objects Exit L (leave_switch x) (left_switch x lx))
+      step_alike (pCase at v s) Start f j = step_alike s Start f tt
+      step_alike (pCase at v s) (Seek p) f j =
+          subst (λ b. Alike model objects Exit L (choose b (X s Start) (X s (Seek p))) (choose (run.is_case model objects compute' inputs call' p v) (Y s Start) (Y s (Seek p)))) (sym (case_told p v j))
+          (chosen model objects Exit L (run.is_case model objects compute' inputs call' p v) _ _ _ _ (step_alike s Start f tt) (step_alike s (Seek p) f j))
+      step_alike (pDefault at s) Start f j = step_alike s Start f tt
+      step_alike (pDefault at s) (Seek p) f j = chosen model objects Exit L (run.is_default p) _ _ _ _ (step_alike s Start f tt) (step_alike s (Seek p) f j)
+      step_alike (pLabel l at s) Start f j = step_alike s Start f tt
+      step_alike (pLabel l at s) (Seek p) f j = chosen model objects Exit L (run.is_this_label p l) _ _ _ _ (step_alike s Start f tt) (step_alike s (Seek p) f j)
+      step_alike (pGoto at l x) Start f j = binds model objects (Unit {0}) Exit (λ v. Unit {0}) L (turn at) (turn at) _ _ (turns model objects at) (λ v h. gives model objects Exit L (Jumped l) tt)
+      step_alike (pBreak at) Start f j = gives model objects Exit L Broke tt
+      step_alike (pContinue at) Start f j = gives model objects Exit L Continued tt
+      step_alike (pReturn at e) Start f j = returned_alike result e f
+      step_alike s (Seek p) f j = absent
 
-      pub steps_alike : (ss : Steps) (from : From) → StepsFit model objects functions function result ss → Alike model objects Exit L (Xs ss from) (Ys ss from)
-      steps_alike no_steps Start f = gives model objects Exit L Normal tt
-      steps_alike no_steps (Seek p) f = absent
-      steps_alike (steps_and ss s) Start f = rows model objects result (Xs ss Start) (Ys ss Start) (X s Start) (Y s Start) (steps_alike ss Start f.0) (step_alike s Start f.1)
-      steps_alike (steps_and ss s) (Seek p) f = founds model objects result (Xs ss (Seek p)) (Ys ss (Seek p)) (X s Start) (Y s Start) (X s (Seek p)) (Y s (Seek p)) (steps_alike ss (Seek p) f.0) (step_alike s Start f.1) (step_alike s (Seek p) f.1)
+      pub steps_alike : (ss : Steps) (from : From) → StepsFit model objects functions function result ss → Entered model objects from → Alike model objects Exit L (Xs ss from) (Ys ss from)
+      steps_alike no_steps Start f j = gives model objects Exit L Normal tt
+      steps_alike no_steps (Seek p) f j = absent
+      steps_alike (steps_and ss s) Start f j = rows model objects result (Xs ss Start) (Ys ss Start) (X s Start) (Y s Start) (steps_alike ss Start f.0 tt) (step_alike s Start f.1 tt)
+      steps_alike (steps_and ss s) (Seek p) f j = founds model objects result (Xs ss (Seek p)) (Ys ss (Seek p)) (X s Start) (Y s Start) (X s (Seek p)) (Y s (Seek p)) (steps_alike ss (Seek p) f.0 j) (step_alike s Start f.1 tt) (step_alike s (Seek p) f.1 j)
 
 -- ---- Programs
 
-module _ (model : Model) (objects : List Object) (functions : List Function) (inputs : List ℤ) (keep : Keep) (keeps : Keeps model objects keep) where
+module _ (model : Model) (objects : List Object) (functions : List Function) (inputs : List ℤ) (way : Way) (suits : Suits model objects way) where
   bound_alike : (number : ℕ) (os : List ℕ) (vs : List ℤ) → All (IsParameter model objects functions number) os → Arguments model objects functions inputs os vs →
-      Alike model objects (Unit {0}) (λ v. Unit {0}) (bind_kept keep os vs) (bind_parameters os vs)
+      Alike model objects (Unit {0}) (λ v. Unit {0}) (bind_kept way os vs) (bind_parameters os vs)
   bound_alike number [] vs ps h = gives model objects (Unit {0}) (λ v. Unit {0}) tt tt
   bound_alike number (o ∷ os) [] ps h = gives model objects (Unit {0}) (λ v. Unit {0}) tt tt
   bound_alike number (o ∷ os) (v ∷ vs) ps h =
       let p = All-head (IsParameter model objects functions number) o os ps in
-      let same : keep o v ≡ v = keeps.same o p.told v p.there (h.0 p.told p.there) in
-      binds model objects (Unit {0}) (Unit {0}) (λ x. Unit {0}) (λ x. Unit {0}) (store_all o (keep o v ∷ [])) (store_all o (v ∷ [])) _ _
+      let same : way.keep o v ≡ v = suits.keeps o p.told v p.there (h.0 p.told p.there) in
+      binds model objects (Unit {0}) (Unit {0}) (λ x. Unit {0}) (λ x. Unit {0}) (store_all o (way.keep o v ∷ [])) (store_all o (v ∷ [])) _ _
       (subst (λ x. Alike model objects (Unit {0}) (λ y. Unit {0}) (store_all o (x ∷ [])) (store_all o (v ∷ []))) (sym same)
       (stores model objects o (v ∷ []) (λ told there. each_more model objects told.kind v [] (h.0 told there) (each_none model objects told.kind))))
       (λ x u. bound_alike number os vs (All-tail (IsParameter model objects functions number) o os ps) h.1)
@@ -176,7 +184,7 @@ all_each : (model : Model) (objects : List Object) (k : Kind) (vs : List ℤ) �
 all_each model objects k [] h = each_none model objects k
 all_each model objects k (v ∷ vs) h = each_more model objects k v vs (All-head (InRange k model) v vs h) (all_each model objects k vs (All-tail (InRange k model) v vs h))
 
-module _ (program : Program) (typed : IsTyped program) (inputs : List ℤ) (compute compute' : Compute) (agrees : Agrees program.model compute) (agrees' : Agrees program.model compute') (keep : Keep) (keeps : Keeps program.model program.objects keep) where
+module _ (program : Program) (typed : IsTyped program) (inputs : List ℤ) (compute compute' : Compute) (agrees : Agrees program.model compute) (agrees' : Agrees program.model compute') (way : Way) (suits : Suits program.model program.objects way) where
   abbrev model : Model
   model = program.model
 
@@ -198,58 +206,58 @@ module _ (program : Program) (typed : IsTyped program) (inputs : List ℤ) (comp
       (first_each told told.owner (all_at (ObjectFits model objects program.functions) objects o told typed.objects there) i)
 
   body_alike : (n : ℕ) (call call' : Calls) → CallsAlike model objects program.functions inputs call call' → (f : ℕ) (vs : List ℤ) (told : Function) → slice_get program.functions f ≡ Some told → Arguments model objects program.functions inputs told.parameters vs →
-      Alike model objects (Option ℤ) (Gave model objects told.result) (keeping.body_of program compute keep inputs call n (Some told) vs) (run.body_of program compute' inputs call' n (Some told) vs)
+      Alike model objects (Option ℤ) (Gave model objects told.result) (keeping.body_of program compute way inputs call n (Some told) vs) (run.body_of program compute' inputs call' n (Some told) vs)
   body_alike n call call' hc f vs told there args =
       let fits = fits_at model objects program.functions program.functions 0 f told typed.functions there in
-      binds model objects (Unit {0}) (Option ℤ) (λ x. Unit {0}) (Gave model objects told.result) (bind_kept keep told.parameters vs) (bind_parameters told.parameters vs) _ _ (bound_alike model objects program.functions inputs keep keeps fits.0 told.parameters vs fits.1.parameters args)
-      (λ x u. enters model objects told.result (suc n) _ _ Start (λ from. steps_alike model objects program.functions inputs compute compute' agrees agrees' keep keeps call call' hc fits.0 told.result n told.body from fits.1.body))
+      binds model objects (Unit {0}) (Option ℤ) (λ x. Unit {0}) (Gave model objects told.result) (bind_kept way told.parameters vs) (bind_parameters told.parameters vs) _ _ (bound_alike model objects program.functions inputs way suits fits.0 told.parameters vs fits.1.parameters args)
+      (λ x u. enters model objects told.result (suc n) _ _ Start tt (λ from. steps_alike model objects program.functions inputs compute compute' agrees agrees' way suits call call' hc fits.0 told.result n told.body from fits.1.body))
 
-  calls_alike : (n : ℕ) → CallsAlike model objects program.functions inputs (keeping.call_at program compute keep inputs n) (run.call_at program compute' inputs n)
+  calls_alike : (n : ℕ) → CallsAlike model objects program.functions inputs (keeping.call_at program compute way inputs n) (run.call_at program compute' inputs n)
   calls_alike zero f at vs told there args = stops model objects (Option ℤ) (Gave model objects told.result) (λ st. Spent at st.store)
   calls_alike (suc n) f at vs told there args =
       binds model objects (Unit {0}) (Option ℤ) (λ x. Unit {0}) (Gave model objects told.result) (turn at) (turn at) _ _ (turns model objects at)
       (λ x u. subst
-      (λ o. Alike model objects (Option ℤ) (Gave model objects told.result) (keeping.body_of program compute keep inputs (keeping.call_at program compute keep inputs n) n o vs) (run.body_of program compute' inputs (run.call_at program compute' inputs n) n o vs))
-      (sym there) (body_alike n (keeping.call_at program compute keep inputs n) (run.call_at program compute' inputs n) (calls_alike n) f vs told there args))
+      (λ o. Alike model objects (Option ℤ) (Gave model objects told.result) (keeping.body_of program compute way inputs (keeping.call_at program compute way inputs n) n o vs) (run.body_of program compute' inputs (run.call_at program compute' inputs n) n o vs))
+      (sym there) (body_alike n (keeping.call_at program compute way inputs n) (run.call_at program compute' inputs n) (calls_alike n) f vs told there args))
 
   no_arguments : (os : List ℕ) → Arguments model objects program.functions inputs os []
   no_arguments [] = tt
   no_arguments (o ∷ os) = tt
 
   main_same : (n : ℕ) (main : ℕ) (o : Option Function) (st : State) → slice_get program.functions main ≡ o → Good model objects st.store →
-      keeping.body_of program compute keep inputs (keeping.call_at program compute keep inputs n) n o [] st ≡ run.body_of program compute' inputs (run.call_at program compute' inputs n) n o [] st
+      keeping.body_of program compute way inputs (keeping.call_at program compute way inputs n) n o [] st ≡ run.body_of program compute' inputs (run.call_at program compute' inputs n) n o [] st
   main_same n main None st e g = refl
-  main_same n main (Some told) st e g = (body_alike n (keeping.call_at program compute keep inputs n) (run.call_at program compute' inputs n) (calls_alike n) main [] told e (no_arguments told.parameters) st g).0
+  main_same n main (Some told) st e g = (body_alike n (keeping.call_at program compute way inputs n) (run.call_at program compute' inputs n) (calls_alike n) main [] told e (no_arguments told.parameters) st g).0
 
-  pub run_same : (n : ℕ) (main : Option ℕ) (st : State) → Good model objects st.store → keeping.run_main program compute keep inputs n main st ≡ run.run_main program compute' inputs n main st
+  pub run_same : (n : ℕ) (main : Option ℕ) (st : State) → Good model objects st.store → keeping.run_main program compute way inputs n main st ≡ run.run_main program compute' inputs n main st
   run_same n None st g = refl
   run_same n (Some main) st g = main_same n main (slice_get program.functions main) st refl g
 
 abbrev start : ℕ → Program → State
 start turns program = record { store = run.start_store program.objects; taken = 0; turns = turns }
 
--- with two such arithmetics, and one way of keeping
-ways_same : (program : Program) → IsTyped program → (compute compute' : Compute) → Agrees program.model compute → Agrees program.model compute' → (keep : Keep) → Keeps program.model program.objects keep → (turns : ℕ) (inputs : List ℤ) →
-    run_with compute keep turns program inputs ≡ run_by compute' turns program inputs
-ways_same program typed compute compute' agrees agrees' keep keeps turns inputs =
+-- with two such arithmetics, one of them in such a way
+ways_same : (program : Program) → IsTyped program → (compute compute' : Compute) → Agrees program.model compute → Agrees program.model compute' → (way : Way) → Suits program.model program.objects way → (turns : ℕ) (inputs : List ℤ) →
+    run_with compute way turns program inputs ≡ run_by compute' turns program inputs
+ways_same program typed compute compute' agrees agrees' way suits turns inputs =
     ap (λ g. run.end_of_run g)
-    (run_same program typed inputs compute compute' agrees agrees' keep keeps turns (run.main_number program.functions) (start turns program) (start_good program typed inputs compute compute' agrees agrees' keep keeps))
+    (run_same program typed inputs compute compute' agrees agrees' way suits turns (run.main_number program.functions) (start turns program) (start_good program typed inputs compute compute' agrees agrees' way suits))
 
--- C's own arithmetic, and values that are kept as they are
+-- C's own arithmetic, and the plain way
 pub plain_agrees : (model : Model) → Agrees model (λ op kind x y. arith_of op kind model x y)
 plain_agrees _ = record { same = λ op kind x y p h r. refl }
 
-pub plain_keeps : (model : Model) (objects : List Object) → Keeps model objects as_it_is
-plain_keeps _ _ = record { same = λ object told v there h. refl }
+pub plain_suits : (model : Model) (objects : List Object) → Suits model objects as_it_is
+plain_suits _ _ = record { keeps = λ object told v there h. refl; picks = λ object n h. refl; tells = λ kind a b h k. refl }
 
 pub runs_each_way : RunsEachWay
-runs_each_way program typed compute agrees keep keeps turns inputs = ways_same program typed compute (λ op kind x y. arith_of op kind program.model x y) agrees (plain_agrees program.model) keep keeps turns inputs
+runs_each_way program typed compute agrees way suits turns inputs = ways_same program typed compute (λ op kind x y. arith_of op kind program.model x y) agrees (plain_agrees program.model) way suits turns inputs
 
 pub runs_agreeing : RunsAgreeing
 runs_agreeing program typed compute agrees turns inputs =
     let plain : Compute = λ op kind x y. arith_of op kind program.model x y in
-    sym (ways_same program typed plain compute (plain_agrees program.model) agrees as_it_is (plain_keeps program.model program.objects) turns inputs)
-    ∙ runs_each_way program typed plain (plain_agrees program.model) as_it_is (plain_keeps program.model program.objects) turns inputs
+    sym (ways_same program typed plain compute (plain_agrees program.model) agrees as_it_is (plain_suits program.model program.objects) turns inputs)
+    ∙ runs_each_way program typed plain (plain_agrees program.model) as_it_is (plain_suits program.model program.objects) turns inputs
 
 -- tests of operands leave what C computes
 pub guarded_agrees : (model : Model) → Agrees model (λ op kind x y. guarded model op kind x y)

@@ -1,4 +1,4 @@
--- Values of a typed tree run the same with each arithmetic that agrees with C's, and each way to keep values in objects.
+-- Values of a typed tree run the same with each arithmetic that agrees with C's, in each way that suits the objects.
 use Rattle.std.proofs.Common.{◌≡◌, ℕ, suc, Bool, true, false, List, [], ◌∷◌, ◌++◌, length, reverse, Option, Some, None, ℤ, pos, negsuc, slice_get, refl, sym, ap, ◌∙◌, subst, arith}
 use Rattle.std.proofs.lemmas.List.{reverse-append, reverse-reverse}
 use Rattle.lv_base.specs.declared.kind.Kind.{Kind}
@@ -15,11 +15,11 @@ use Rattle.c_typed.specs.Tree.{Val, vConstant, vRead, vElement, vWhole, vNothing
 use Rattle.c_typed.specs.Facts.{kind_of, kinds_of, HasKind, RightFits, IsScalar, IsArray, IsCalled, parameter_kinds, Fits, AllFit, GoalFits, OptionFits, TestFits, AllOf, Begins, Drawn, ReturnFits, StepFits, StepsFit, Reversed}
 use Rattle.c_typed.specs.Facts as facts
 use Rattle.c_typed.specs.Run as run
-use Rattle.typed_range_laws.specs.Ways.{Agrees, Keep, Keeps}
+use Rattle.typed_range_laws.specs.Ways.{Agrees, Way, Suits, picked}
 use Rattle.typed_range_laws.specs.Keeping as keeping
 use Rattle.typed_range_laws.proofs.Bounds.{truth_in_range, in_any}
 use Rattle.typed_range_laws.proofs.Ranging.{converted_in_range}
-use Rattle.typed_range_laws.proofs.Agreeing.{Of, Alike, binds, gives, stops, weaker, chosen, Within, reads, writes, writes_kept, locates, draws, computes, RightIs, applies, steps, Gave}
+use Rattle.typed_range_laws.proofs.Agreeing.{Of, Alike, binds, gives, stops, weaker, chosen, Within, scalar_has, array_has, reads, reads_picked, writes_picked, writes_kept, locates, draws, computes, RightIs, applies, steps, Gave}
 
 module _ (model : Model) (objects : List Object) (functions : List Function) (inputs : List ℤ) where
   -- each parameter gets a value of its kind
@@ -50,9 +50,9 @@ module _ (model : Model) (objects : List Object) (functions : List Function) (in
   abbrev pub CallsAlike : Calls → Calls → Type 0
   CallsAlike call call' = (f at : ℕ) (vs : List ℤ) (told : Function) → slice_get functions f ≡ Some told → Arguments told.parameters vs → Alike model objects (Option ℤ) (Gave model objects told.result) (call f at vs) (call' f at vs)
 
-  module _ (compute compute' : Compute) (agrees : Agrees model compute) (agrees' : Agrees model compute') (keep : Keep) (keeps : Keeps model objects keep) (call call' : Calls) (hc : CallsAlike call call') where
+  module _ (compute compute' : Compute) (agrees : Agrees model compute) (agrees' : Agrees model compute') (way : Way) (suits : Suits model objects way) (call call' : Calls) (hc : CallsAlike call call') where
     abbrev pub T : Use → Val → Run ℤ
-    T u e = keeping.value model objects compute keep inputs call u e
+    T u e = keeping.value model objects compute way inputs call u e
 
     abbrev pub P : Use → Val → Run ℤ
     P u e = run.value model objects compute' inputs call' u e
@@ -118,12 +118,12 @@ module _ (model : Model) (objects : List Object) (functions : List Function) (in
     mutual
       pub value_alike : (u : Use) (e : Val) → Fits model objects functions e → Alike model objects ℤ (OfVal e) (T u e) (P u e)
       value_alike u (vConstant k v) f = gives model objects ℤ (InRange k model) v f
-      value_alike u (vRead k o) f = reads model objects k (scalar o) (f.told, f.there, f.kind)
+      value_alike u (vRead k o) f = reads model objects k (scalar o) (f.told, f.there, f.kind, scalar_has model objects f.told f.scalar)
       value_alike u (vElement k at o e) f =
           binds model objects ℤ ℤ (OfVal e) (InRange k model) (T used e) (P used e) _ _ (value_alike used e f.2)
           (λ v h. binds model objects Element ℤ (Within model objects k) (InRange k model) (located at o (run.count_of model objects compute' inputs call o) v) (located at o (run.count_of model objects compute' inputs call o) v) _ _
-          (locates model objects k at o (run.count_of model objects compute' inputs call o) v (f.0.told, f.0.there, f.0.kind)) (λ x w. reads model objects k x w))
-      value_alike u (vWhole o) f = weaker model objects ℤ (InRange f.0 model) (λ v. Unit {0}) (read (scalar o)) (read (scalar o)) (λ v h. tt) (reads model objects f.0 (scalar o) (f.1.told, f.1.there, f.1.kind))
+          (locates model objects k at o v f.0.told f.0.there f.0.kind) (λ x w. reads model objects k x w))
+      value_alike u (vWhole o) f = weaker model objects ℤ (InRange f.0 model) (λ v. Unit {0}) (read (scalar o)) (read (scalar o)) (λ v h. tt) (reads model objects f.0 (scalar o) (f.1.told, f.1.there, f.1.kind, array_has model objects f.1.told f.1.elements))
       value_alike u vNothing f = gives model objects ℤ (λ v. Unit {0}) (pos 0) tt
       value_alike u (vConvert k e) f = binds model objects ℤ ℤ (OfVal e) (InRange k model) (T used e) (P used e) _ _ (value_alike used e f.1) (λ v h. gives model objects ℤ (InRange k model) (converted k model v) (converted_in_range k model v))
       value_alike u (vDiscard e) f = binds model objects ℤ ℤ (OfVal e) (λ v. Unit {0}) (T dropped e) (P dropped e) _ _ (value_alike dropped e f) (λ v h. gives model objects ℤ (λ w. Unit {0}) (pos 0) tt)
@@ -154,17 +154,17 @@ module _ (model : Model) (objects : List Object) (functions : List Function) (in
           (λ r hr. gives model objects ℤ (Of model objects k) (run.kept k r) (kept_in k r hr)))
       value_alike u (vAssign k at g e) f =
           binds model objects Element ℤ (Within model objects k) (InRange k model) _ _ _ _ (target_alike k g f.0)
-          (λ x w. binds model objects ℤ ℤ (OfVal e) (InRange k model) (T used e) (P used e) _ _ (value_alike used e f.2) (λ v h. writes_kept model objects keep keeps k x v w (of_kind e k v f.1 h)))
+          (λ x w. binds model objects ℤ ℤ (OfVal e) (InRange k model) (T used e) (P used e) _ _ (value_alike used e f.2) (λ v h. writes_kept model objects way suits k x v w (of_kind e k v f.1 h)))
       value_alike u (vUpdate o k l at g e) f =
           binds model objects Element ℤ (Within model objects l) (InRange l model) _ _ _ _ (target_alike l g f.3)
-          (λ x w. binds model objects ℤ ℤ (InRange l model) (InRange l model) (read x) (read x) _ _ (reads model objects l x w)
+          (λ x w. binds model objects ℤ ℤ (InRange l model) (InRange l model) (read (picked way x)) (read x) _ _ (reads_picked model objects way suits l x w)
           (λ old ho. binds model objects ℤ ℤ (OfVal e) (InRange l model) (T used e) (P used e) _ _ (value_alike used e f.5)
           (λ y hy. binds model objects ℤ ℤ (InRange (facts.when (facts.is_comparison o) kind.Int k) model) (InRange l model) _ _ _ _ (applies model objects compute compute' agrees agrees' o k at (converted k model old) y f.0 f.1 (converted_in_range k model old) (right_is o k (kind_of e) y f.4 hy))
-          (λ v hv. writes model objects l x (converted l model v) w (converted_in_range l model v)))))
+          (λ v hv. writes_picked model objects way suits l x (converted l model v) w (converted_in_range l model v)))))
       value_alike u (vChange before b k at g) f =
           binds model objects Element ℤ (Within model objects k) (InRange k model) _ _ _ _ (target_alike k g f)
-          (λ x w. binds model objects ℤ ℤ (InRange k model) (InRange k model) (read x) (read x) _ _ (reads model objects k x w)
-          (λ old ho. binds model objects ℤ ℤ (InRange k model) (InRange k model) _ _ _ _ (steps model objects compute compute' agrees agrees' b k at x old w) (λ new hn. gives model objects ℤ (InRange k model) (choose before new old) (one_of before new old k hn ho))))
+          (λ x w. binds model objects ℤ ℤ (InRange k model) (InRange k model) (read (picked way x)) (read x) _ _ (reads_picked model objects way suits k x w)
+          (λ old ho. binds model objects ℤ ℤ (InRange k model) (InRange k model) _ _ _ _ (steps model objects compute compute' agrees agrees' way suits b k at x old w) (λ new hn. gives model objects ℤ (InRange k model) (choose before new old) (one_of before new old k hn ho))))
         where
           one_of : (c : Bool) (new old : ℤ) (k : Kind) → InRange k model new → InRange k model old → InRange k model (choose c new old)
           one_of true new old k hn ho = hn
@@ -176,20 +176,20 @@ module _ (model : Model) (objects : List Object) (functions : List Function) (in
       value_alike u (vDraw k) f = draws model objects inputs k
       value_alike u (vComma es e) f = binds model objects (Unit {0}) ℤ (λ v. Unit {0}) (OfVal e) _ _ _ _ (drops_alike es f.0) (λ v h. value_alike used e f.1)
 
-      pub values_alike : (es : Vals) → AllFit model objects functions es → Alike model objects (List ℤ) (Row es) (keeping.values model objects compute keep inputs call es) (run.values model objects compute' inputs call' es)
+      pub values_alike : (es : Vals) → AllFit model objects functions es → Alike model objects (List ℤ) (Row es) (keeping.values model objects compute way inputs call es) (run.values model objects compute' inputs call' es)
       values_alike no_values f = gives model objects (List ℤ) (Row no_values) [] (refl, tt)
       values_alike (values_and es e) f =
           binds model objects (List ℤ) (List ℤ) (Row es) (Row (values_and es e)) _ _ _ _ (values_alike es f.0)
           (λ vs r. binds model objects ℤ (List ℤ) (OfVal e) (Row (values_and es e)) (T used e) (P used e) _ _ (value_alike used e f.1) (λ v h. gives model objects (List ℤ) (Row (values_and es e)) (vs ++ v ∷ []) (row_more es e vs v r h)))
 
-      drops_alike : (es : Vals) → AllFit model objects functions es → Alike model objects (Unit {0}) (λ v. Unit {0}) (keeping.drop_values model objects compute keep inputs call es) (run.drop_values model objects compute' inputs call' es)
+      drops_alike : (es : Vals) → AllFit model objects functions es → Alike model objects (Unit {0}) (λ v. Unit {0}) (keeping.drop_values model objects compute way inputs call es) (run.drop_values model objects compute' inputs call' es)
       drops_alike no_values f = gives model objects (Unit {0}) (λ v. Unit {0}) tt tt
       drops_alike (values_and es e) f =
           binds model objects (Unit {0}) (Unit {0}) (λ v. Unit {0}) (λ v. Unit {0}) _ _ _ _ (drops_alike es f.0)
           (λ v h. binds model objects ℤ (Unit {0}) (OfVal e) (λ w. Unit {0}) (T dropped e) (P dropped e) _ _ (value_alike dropped e f.1) (λ w hw. gives model objects (Unit {0}) (λ x. Unit {0}) tt tt))
 
-      target_alike : (k : Kind) (g : Goal) → GoalFits model objects functions k g → Alike model objects Element (Within model objects k) (keeping.target_of model objects compute keep inputs call g) (run.target_of model objects compute' inputs call' g)
-      target_alike k (gObject o) f = gives model objects Element (Within model objects k) (scalar o) (f.told, f.there, f.kind)
+      target_alike : (k : Kind) (g : Goal) → GoalFits model objects functions k g → Alike model objects Element (Within model objects k) (keeping.target_of model objects compute way inputs call g) (run.target_of model objects compute' inputs call' g)
+      target_alike k (gObject o) f = gives model objects Element (Within model objects k) (scalar o) (f.told, f.there, f.kind, scalar_has model objects f.told f.scalar)
       target_alike k (gElement at o e) f =
           binds model objects ℤ Element (OfVal e) (Within model objects k) (T used e) (P used e) _ _ (value_alike used e f.2)
-          (λ v h. locates model objects k at o (run.count_of model objects compute' inputs call o) v (f.0.told, f.0.there, f.0.kind))
+          (λ v h. locates model objects k at o v f.0.told f.0.there f.0.kind)

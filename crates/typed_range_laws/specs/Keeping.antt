@@ -1,6 +1,7 @@
--- The run of a typed tree in which each value that gets into an object by an assignment, an initializer or a call becomes what is
--- kept of it there. All else is as in the run of a typed tree.
-use Rattle.std.specs.Prelude.{ℕ, zero, suc, Bool, List, [], ◌∷◌, ◌++◌, map, Option, Some, None, slice_get, ℤ, pos, negsuc}
+-- The run of a typed tree in a way of its own: each value that gets into an object by an assignment, an initializer or a call becomes
+-- what is kept of it there; what is assigned to is the element that its index picks; and a switch goes to the case that is told to
+-- be its value's. All else is as in the run of a typed tree.
+use Rattle.std.specs.Prelude.{ℕ, zero, suc, Bool, false, List, [], ◌∷◌, ◌++◌, map, Option, Some, None, slice_get, ℤ, pos, negsuc}
 use Rattle.lv_base.specs.declared.kind.Kind.{Kind}
 use Rattle.lv_base.specs.declared.kind.Model.{Model}
 use Rattle.lv_base.specs.declared.kind.Op.TheVariants as arith
@@ -10,13 +11,13 @@ use Rattle.c_tree.specs.declared.symbol.BinaryOp.{BinaryOp}
 use Rattle.c_tree.specs.declared.symbol.Crement.{Crement}
 use Rattle.c_run.specs.Run.{Ended, Run, give, ◌>>=◌, ◌>>◌, choose, stop, fail, spent, turn, Element, read, write, scalar, located, store_all, padded, draw, draw_all, Compute, computed, is_true}
 use Rattle.c_run.specs.Operators.{Use, used, dropped, called_value}
-use Rattle.c_run.specs.Loops.{Place, toLabel, From, Start, Seek, Exit, Normal, Broke, Continued, Returned, Jumped, Absent, then_do, or_else, found, next_turn, loop, leave_switch, switch_on, Calls, enter}
+use Rattle.c_run.specs.Loops.{Place, toLabel, toCase, From, Start, Seek, Exit, Normal, Broke, Continued, Returned, Jumped, Absent, then_do, or_else, found, next_turn, loop, leave_switch, switch_on, Calls, enter}
 use Rattle.c_typed.specs.Tree.{Val, vConstant, vRead, vElement, vWhole, vNothing, vConvert, vDiscard, vNegate, vComplement, vNot, vBinary, vBoth, vEither, vCond, vAssign, vUpdate, vChange, vCall, vReach, vAbort, vDraw, vComma, Goal, gObject, gElement, Vals, no_values, values_and, Step, pDraw, pBegin, pBlock, pEmpty, pEffect, pIf, pIfElse, pWhile, pSwitch, pDo, pFor, pCase, pDefault, pLabel, pGoto, pBreak, pContinue, pReturn, Steps, no_steps, steps_and, Object, Function, Program}
 use Rattle.c_typed.specs.Run.{size_of, kind_of, kept, is_this_label, is_default}
 use Rattle.c_typed.specs.Run as typed
-use Rattle.typed_range_laws.specs.Ways.{Keep, write_kept}
+use Rattle.typed_range_laws.specs.Ways.{Way, picked, write_kept}
 
-module _ (model : Model) (objects : List Object) (compute : Compute) (keep : Keep) (inputs : List ℤ) (call : Calls) where
+module _ (model : Model) (objects : List Object) (compute : Compute) (way : Way) (inputs : List ℤ) (call : Calls) where
   abbrev pub count_of : ℕ → ℕ
   count_of object = size_of (slice_get objects object)
 
@@ -72,17 +73,17 @@ module _ (model : Model) (objects : List Object) (compute : Compute) (keep : Kee
     value u (vAssign k at g e) = do
       target ← target_of g
       v ← value used e
-      write_kept keep target v
+      write_kept way target.object (pos target.index) v
     value u (vUpdate o k l at g e) = do
       target ← target_of g
-      x ← read target
+      x ← read (picked way target)
       y ← value used e
       v ← applied at o k (to_kind k x) y
-      write target (to_kind l v)
+      write (picked way target) (to_kind l v)
     value u (vChange before by k at g) = do
       target ← target_of g
-      old ← read target
-      new ← stepped at by k target old
+      old ← read (picked way target)
+      new ← stepped at by k (picked way target) old
       give (choose before new old)
     value u (vCall result at x f es) = do
       vs ← values es
@@ -135,7 +136,8 @@ module _ (model : Model) (objects : List Object) (compute : Compute) (keep : Kee
     give (Returned (Some v))
 
   abbrev pub is_case : Place → ℤ → Bool
-  is_case p v = typed.is_case model objects compute inputs call p v
+  is_case (toCase k v) w = way.same v (to_kind k w)
+  is_case _ w = false
 
   module _ (result : Option Kind) (n : ℕ) where
     abbrev mutual
@@ -146,7 +148,7 @@ module _ (model : Model) (objects : List Object) (compute : Compute) (keep : Kee
         give Normal
       exec (pBegin object es) Start = do
         vs ← values es
-        store_all object (padded (count_of object) (map (keep object) vs))
+        store_all object (padded (count_of object) (map (way.keep object) vs))
         give Normal
       exec (pBlock ss) from = exec_all ss from
       exec pEmpty Start = give Normal
@@ -209,18 +211,18 @@ module _ (model : Model) (objects : List Object) (compute : Compute) (keep : Kee
 -- ---- Whole runs
 
 -- the arguments become the values of the parameters
-abbrev pub bind_kept : Keep → List ℕ → List ℤ → Run (Unit {0})
-bind_kept keep (object ∷ objects) (v ∷ vs) = do
-  store_all object (keep object v ∷ [])
-  bind_kept keep objects vs
-bind_kept keep _ _ = give tt
+abbrev pub bind_kept : Way → List ℕ → List ℤ → Run (Unit {0})
+bind_kept way (object ∷ objects) (v ∷ vs) = do
+  store_all object (way.keep object v ∷ [])
+  bind_kept way objects vs
+bind_kept way _ _ = give tt
 
-module _ (program : Program) (compute : Compute) (keep : Keep) (inputs : List ℤ) where
+module _ (program : Program) (compute : Compute) (way : Way) (inputs : List ℤ) where
   abbrev pub body_of : Calls → ℕ → Option Function → List ℤ → Run (Option ℤ)
   body_of call n None vs = give None
   body_of call n (Some f) vs = do
-    bind_kept keep f.parameters vs
-    enter (suc n) (exec_all program.model program.objects compute keep inputs call f.result n f.body) Start
+    bind_kept way f.parameters vs
+    enter (suc n) (exec_all program.model program.objects compute way inputs call f.result n f.body) Start
 
   abbrev pub call_at : ℕ → Calls
   call_at zero f at vs = spent at

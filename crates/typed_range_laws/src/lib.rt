@@ -1,5 +1,6 @@
 //! Each value of a typed tree is one of its kind, and so are the values of its objects: so its arithmetic meets operands of its
-//! kinds alone, and its objects get values of theirs.
+//! kinds alone, its objects get values of theirs, what it assigns to is an element that is there, and its switches compare values of
+//! one kind.
 #![tactic(auto)]
 
 ghost use Rattle.typed_range_laws.specs.Laws.{RunsAgreeing, RunsEachWay, RunsGuarded};
@@ -9,7 +10,8 @@ pub fn runs_agreeing()
     ensures { RunsAgreeing }
 {}
 
-/// A typed tree runs the same, too, with each way to keep values in objects that leaves the values of the objects' kinds.
+/// A typed tree runs the same, too, in each way to keep values in objects, to pick elements and to tell cases that does as C where
+/// values are of the kinds and indices are below the sizes.
 pub fn runs_each_way()
     ensures { RunsEachWay }
 {}
