@@ -154,6 +154,7 @@ ranges-stand t order code slots ranges e f h =
 pub record Tested (t : Parts) (order : List ℕ) (ranges : List Range) (main : ℕ) : Type 0 where
   pub number : main_number (tree_of t).functions ≡ Some main
   pub stand : ProgramRanges t order ranges
+  pub few : length (program_code t order) ≤ 4294967295
   pub fit : AreFit t.model (tree_of t).objects (program_code t order)
   pub enters : CallsEnter (code_of (tree_of t) order).links (program_code t order)
 
@@ -177,6 +178,7 @@ program-follows t order p code numbers ranges s gs hs xs cells T main w (inl e) 
       ranges = ranges;
       main = h.0.number;
       stand = h.0.stand;
+      few = h.0.few;
       fit = h.0.fit;
       enters = h.0.enters;
       follow = subst (λ (z : List FnFlow). FirstGraphs (program_code t order) numbers ranges main (program_setting t order) T (length ranges) z xs) (sym h.1)

@@ -1,4 +1,4 @@
-use Rattle.std.proofs.Common.{rules, ◌≡◌, ◌⊎◌, List, [], length, map, Some, sym, ap, ◌∙◌, subst}
+use Rattle.std.proofs.Common.{rules, ◌≡◌, ◌≤◌, ◌⊎◌, List, [], length, map, Some, sym, ap, ◌∙◌, subst}
 use Rattle.std.specs.Prelude.{IsTrue}
 use Rattle.bv_term.specs.WellFormed.{Table}
 use Rattle.c_terms.specs.Shown.{Grows}
@@ -57,10 +57,11 @@ returns c =
     let third : (IsTrue c.in_ok-passed.passed × (js ≡ is)) ⊎ (js ≡ []) = search rules in
     let fitting : IsTrue c.in_ok-passed.passed → AreFit t.model (tree_of t).objects (program_code t order) × CallsEnter (p.code_of (tree_of t) order).links (program_code t order) = λ b.
     fit-stand t order (code_of c.in_ok-code.code) whole
-    (subst (λ (os : List Object). AreFit t.model (map object_of os) code × CallsEnter (links_of c.in_ok-code.code.links.items) code) objects_are (c.in_ok-passed.ensures t.model b)) in
+    (subst (λ (os : List Object). AreFit t.model (map object_of os) code × CallsEnter (links_of c.in_ok-code.code.links.items) code) objects_are (c.in_ok-passed.ensures.fit t.model b)) in
     let tested : (IsTrue c.is_sound.result × IsTrue c.is_placed.result) × IsTrue c.in_ok-passed.passed → Tested t order rs m = λ b. record {
       number = (placed b.0.1).0;
       stand = (placed b.0.1).1;
+      few = subst (λ (xs : List Instruction). length xs ≤ 4294967295) is_code (c.in_ok-passed.ensures.few b.1);
       fit = (fitting b.1).0;
       enters = (fitting b.1).1;
     } in
