@@ -33,6 +33,7 @@ use Rattle.cfg_build.specs.Steps.{Built, IsEmpty, node_id}
 use Rattle.cfg_build.specs.Follows.{Plan, plan_of, Joined, Exit, PlacesFollow}
 use Rattle.slot_code.specs.Programs.{Code, code_of}
 use Rattle.cfg_build.specs.Ranges.{AreRanges, ProgramRanges}
+use Rattle.cfg_build.specs.Fitting.{AreFit, CallsEnter}
 use Rattle.cfg_build.specs.Graphs.{Opening, IsGraph, GraphFollows, FirstGraphs, ProgramFollows, program_code, program_setting}
 use Rattle.cfg_build.proofs.Following.{joined-by, first-later, built-by, built-twice}
 
@@ -133,9 +134,9 @@ no-graphs : (p : Flows) → AreFlows p → p.graphs ≡ [] → ⊥
 no-graphs p h e = omega (arith, h.main, ap length e)
 
 -- graphs that stand only where two things are so
-pub stand-both : (A B : Type 0) (gs hs is : List FnFlow) → (A × (hs ≡ gs)) ⊎ (hs ≡ []) → (B × (is ≡ hs)) ⊎ (is ≡ []) → (B × (is ≡ gs)) ⊎ (is ≡ [])
+pub stand-both : (A B : Type 0) (gs hs is : List FnFlow) → (A × (hs ≡ gs)) ⊎ (hs ≡ []) → (B × (is ≡ hs)) ⊎ (is ≡ []) → ((A × B) × (is ≡ gs)) ⊎ (is ≡ [])
 stand-both A B gs hs is x (inr none) = inr none
-stand-both A B gs hs is (inl x) (inl y) = inl (y.0, y.1 ∙ x.1)
+stand-both A B gs hs is (inl x) (inl y) = inl ((x.0, y.0), y.1 ∙ x.1)
 stand-both A B gs hs is (inr none) (inl y) = inr (y.1 ∙ none)
 
 pub stand-by : (A B X Y : Type 0) → (A → B) → (A × X) ⊎ Y → (B × X) ⊎ Y
@@ -149,9 +150,21 @@ ranges-stand t order code slots ranges e f h =
     let moved : AreRanges (length code.instructions) (slots_in (program_code t order)) code.links ranges = subst (λ n. AreRanges (length code.instructions) n code.links ranges) f h in
     subst (λ (c : Code). AreRanges (length c.instructions) (slots_in (program_code t order)) c.links ranges) e moved
 
+-- what is tested of a program's code, with the number of its main
+pub record Tested (t : Parts) (order : List ℕ) (ranges : List Range) (main : ℕ) : Type 0 where
+  pub number : main_number (tree_of t).functions ≡ Some main
+  pub stand : ProgramRanges t order ranges
+  pub fit : AreFit t.model (tree_of t).objects (program_code t order)
+  pub enters : CallsEnter (code_of (tree_of t) order).links (program_code t order)
+
+-- code that is the program's
+pub fit-stand : (t : Parts) (order : List ℕ) (code : Code) → code ≡ code_of (tree_of t) order → AreFit t.model (tree_of t).objects code.instructions × CallsEnter code.links code.instructions
+    → AreFit t.model (tree_of t).objects (program_code t order) × CallsEnter (code_of (tree_of t) order).links (program_code t order)
+fit-stand t order code e h = subst (λ (c : Code). AreFit t.model (tree_of t).objects c.instructions × CallsEnter c.links c.instructions) e h
+
 pub program-follows : (t : Parts) (order : List ℕ) (p : Flows) (code : List Instruction) (numbers : List ℕ) (ranges : List Range) (s : Setting) (gs hs : List FnFlow) (xs : List NodeId) (cells : List Cell) (T : Table) (main : ℕ)
     → AreFlows p → (p ≡ record { graphs = hs; cells = cells; terms = T; exits = xs; main = main }) ⊎ (p ≡ error_flows)
-    → (((main_number (tree_of t).functions ≡ Some main) × ProgramRanges t order ranges) × (hs ≡ gs)) ⊎ (hs ≡ [])
+    → (Tested t order ranges main × (hs ≡ gs)) ⊎ (hs ≡ [])
     → (gs ≡ []) ⊎ FirstGraphs code numbers ranges main s T (length ranges) gs xs → s ≡ program_setting t order → code ≡ program_code t order → cells ≡ s.lay.cells
     → ProgramFollows t order p ⊎ (p ≡ error_flows)
 program-follows t order p code numbers ranges s gs hs xs cells T main w (inr e) h k q r f = inr e
@@ -162,8 +175,10 @@ program-follows t order p code numbers ranges s gs hs xs cells T main w (inl e) 
     (record {
       numbers = numbers;
       ranges = ranges;
-      main = h.0.0;
-      stand = h.0.1;
+      main = h.0.number;
+      stand = h.0.stand;
+      fit = h.0.fit;
+      enters = h.0.enters;
       follow = subst (λ (z : List FnFlow). FirstGraphs (program_code t order) numbers ranges main (program_setting t order) T (length ranges) z xs) (sym h.1)
           (subst (λ (z : Setting). FirstGraphs (program_code t order) numbers ranges main z T (length ranges) gs xs) q (subst (λ (z : List Instruction). FirstGraphs z numbers ranges main s T (length ranges) gs xs) r k));
       cells = f ∙ ap (λ (z : Setting). z.lay.cells) q;

@@ -1,5 +1,6 @@
 pub mod Adding
 pub mod Checking
+pub mod Entering
 pub mod Following
 pub mod Graphing
 pub mod Linking

@@ -23,6 +23,7 @@ use Rattle.cfg_build.specs.declared.placing.Range.{Range}
 use Rattle.cfg_build.specs.Steps.{node_id, edge}
 use Rattle.cfg_build.specs.Follows.{Plan, Joined, PlacesFollow}
 use Rattle.cfg_build.specs.Ranges.{ProgramRanges}
+use Rattle.cfg_build.specs.Fitting.{AreFit, CallsEnter}
 
 -- ---- The first values of objects
 
@@ -108,5 +109,7 @@ pub record ProgramFollows (t : Parts) (order : List ℕ) (p : Flows) : Type 0 wh
   pub ranges : List Range
   pub main : main_number (tree_of t).functions ≡ Some p.main
   pub stand : ProgramRanges t order ranges
+  pub fit : AreFit t.model (tree_of t).objects (program_code t order)
+  pub enters : CallsEnter (code_of (tree_of t) order).links (program_code t order)
   pub follow : FirstGraphs (program_code t order) numbers ranges p.main (program_setting t order) p.terms (length ranges) p.graphs p.exits
   pub cells : p.cells ≡ (program_setting t order).lay.cells

@@ -8,6 +8,7 @@ ghost use Rattle.cfg_build.specs.Follows.{plan_of};
 ghost use Rattle.cfg_build.specs.Graphs as of;
 
 use crate::draft::Draft;
+use crate::fitting::is_fitting;
 use crate::looping::loops_in;
 use crate::opening::add_opening;
 use crate::placing::{Places, Range, Whole, add_places, node_of};
@@ -63,12 +64,14 @@ pub fn build(alloc: Global, examined: &Examined) -> Result<FnGraphs, SourceFail>
     let Graphs { graphs, exits } = graphs_of(alloc, typed, &whole, main, &ground, &mut words)?;
     let graphs = where_sound(alloc, words.is_sound(), graphs);
     let graphs = where_sound(alloc, is_placed(typed, &code, slots, &ranges, main), graphs);
+    let passed = is_fitting(alloc, objects, &code)?;
+    let graphs = where_sound(alloc, passed, graphs);
     let cells = layout.into_cells();
     let terms = words.into_terms();
     Ok(function_graphs_from(alloc, graphs, cells, terms, exits, main)?)
 }
 
-// Graphs over terms that are not well formed, or of places that are not those of the code, count for nothing: without a graph the parts
+// Graphs over terms that are not well formed, of places that are not those of the code, or of code that is not fit count for nothing: without a graph the parts
 // make none.
 fn where_sound(alloc: Global, is_sound: bool, graphs: Vec<FnGraph>) -> Vec<FnGraph>
     ensures { (IsTrue is_sound × (result.items ≡ graphs.items)) ⊎ (result.items ≡ []) }

@@ -24,9 +24,10 @@ use Rattle.code_moves.specs.Setting.{Setting}
 use Rattle.code_move_laws.proofs.Laying.{laid}
 use Rattle.cfg_build.specs.Steps.{node_id, edge}
 use Rattle.cfg_build.specs.Ranges.{AreRanges}
+use Rattle.cfg_build.specs.Fitting.{IsEntry, CallsEnter}
 use Rattle.cfg_build.specs.Graphs.{GraphFollows, ProgramFollows, opens, program_code, program_setting}
 use Rattle.function_runs.specs.Runs.{Spot, spot, node_at, RunsBy, FunctionsFail}
-use Rattle.code_flow_laws.specs.Followed.{IsEntry, CallsEnter, IsOpened, links_in, start_of, FlatErrorsFollow}
+use Rattle.code_flow_laws.specs.Followed.{IsOpened, links_in, start_of, FlatErrorsFollow}
 use Rattle.code_flow_laws.proofs.Inside.{inside-all, inside-first}
 use Rattle.code_flow_laws.proofs.Ranging.{Range}
 use Rattle.code_flow_laws.proofs.Graphs.{FunctionOf, function-of, plan, first-of, first_of, entry-of}

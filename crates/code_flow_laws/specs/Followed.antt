@@ -1,5 +1,5 @@
 -- Runs of flat code that end in an error, over the graphs of functions.
-use Rattle.std.specs.Prelude.{ℕ, zero, suc, ◌<◌, ◌≡◌, ◌⊎◌, ◌==◌, ◌&&◌, List, [], ◌∷◌, length, take, Some, slice_get, ℤ, pos, int_le}
+use Rattle.std.specs.Prelude.{ℕ, zero, suc, ◌<◌, ◌≡◌, ◌==◌, ◌&&◌, List, [], length, take, Some, slice_get, ℤ, pos, int_le}
 use Rattle.lv_base.specs.declared.fault.ErrorKind.{ErrorKind}
 use Rattle.lv_base.specs.Integers.{residue}
 use Rattle.bv_term.specs.Numbers.{truth}
@@ -23,6 +23,7 @@ use Rattle.code_moves.specs.Values.{slot_value}
 use Rattle.code_move_laws.specs.Mirrors.{Mirrors}
 use Rattle.code_move_laws.specs.Doing.{Reaches}
 use Rattle.code_move_laws.specs.Steps.{Agrees}
+use Rattle.cfg_build.specs.Fitting.{CallsEnter}
 use Rattle.cfg_build.specs.Graphs.{ProgramFollows, opens, program_code, program_setting}
 use Rattle.function_runs.specs.Runs.{FunctionsFail}
 
@@ -39,15 +40,6 @@ IsStraight (i.Return slot) = ⊥
 IsStraight (i.Fail kind at) = ⊥
 IsStraight i.Stop = ⊥
 IsStraight _ = Unit {0}
-
--- some function's code begins at the place
-abbrev pub IsEntry : List Link → ℕ → Type 0
-IsEntry [] place = ⊥
-IsEntry (l ∷ ls) place = (l.entry ≡ place) ⊎ IsEntry ls place
-
--- each call goes to the entry of a function
-abbrev pub CallsEnter : List Link → List Instruction → Type 0
-CallsEnter links code = (place at goal slot : ℕ) → slice_get code place ≡ Some (i.Call at goal slot) → IsEntry links goal
 
 module _ (g : Setting) (compute : Compute) (keep : Keep) (inputs : List ℤ) (code : List Instruction) where
   abbrev pub acted : Instruction → Machine → Next

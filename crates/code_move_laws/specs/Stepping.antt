@@ -12,10 +12,11 @@ use Rattle.slot_code.specs.Machine.{Machine, Next, Goes, Over}
 use Rattle.slot_laws.specs.Laws.{IsShaped}
 use Rattle.code_moves.specs.Setting.{Setting}
 use Rattle.cfg_build.specs.Steps.{node_id, Checked}
+use Rattle.cfg_build.specs.Fitting.{IsFit}
 use Rattle.layout_laws.specs.Serve.{Serves}
 use Rattle.code_move_laws.specs.Mirrors.{IsLaid, Mirrors}
 use Rattle.code_move_laws.specs.Ways.{objects_of}
-use Rattle.code_move_laws.specs.Steps.{IsFit, IsPlain, IsReady, acted}
+use Rattle.code_move_laws.specs.Steps.{IsPlain, IsReady, acted}
 use Rattle.code_move_laws.specs.Paths.{Runs}
 
 -- Where the machine goes on, a run goes to the next node, in a store that mirrors where the machine went, and draws what it drew; where

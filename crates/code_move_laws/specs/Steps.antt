@@ -1,10 +1,7 @@
 -- What one instruction does to the machine and to the cells.
-use Rattle.std.specs.Prelude.{ℕ, suc, ◌<◌, ◌≡◌, true, false, List, [], ◌++◌, take, Option, None, Some, slice_get, ℤ, pos}
-use Rattle.lv_base.specs.declared.kind.Model.{Model}
-use Rattle.lv_base.specs.Integers.{InAny, is_promoted}
-use Rattle.c_run.specs.Operators.{is_logical}
+use Rattle.std.specs.Prelude.{ℕ, suc, ◌<◌, ◌≡◌, List, [], ◌++◌, take, Option, None, Some, slice_get, ℤ, pos}
 use Rattle.c_typed.specs.Tree.{Object}
-use Rattle.c_typed.specs.Run.{size_of, kind_of}
+use Rattle.c_typed.specs.Run.{size_of}
 use Rattle.slot_code.specs.declared.flat.Instruction.{Instruction}
 use Rattle.slot_code.specs.declared.flat.Instruction.TheVariants as i
 use Rattle.slot_code.specs.declared.reply.Ending.TheVariants as ending
@@ -17,26 +14,13 @@ use Rattle.code_moves.specs.Setting.{Setting}
 use Rattle.code_moves.specs.Values.{failures_of}
 use Rattle.code_moves.specs.Moves.{moves_of}
 use Rattle.cfg_build.specs.Steps.{offset_of}
+use Rattle.cfg_build.specs.Fitting.{IsFit}
 use Rattle.layout_laws.specs.Serve.{Serves}
 use Rattle.code_move_laws.specs.Mirrors.{IsLaid, Mirrors}
 use Rattle.code_move_laws.specs.Doing.{Reaches}
 use Rattle.code_move_laws.specs.Ways.{objects_of, converting, trimming}
 
--- ---- What holds of instructions, and of slots before them
-
--- Constants are of some kind, operations are in promoted kinds, an index is tested against the elements of its object, and what is
--- drawn or computed for an object is of its kind.
-abbrev pub IsFit : Model → List Object → Instruction → Type 0
-IsFit model objects (i.Constant slot v) = InAny v
-IsFit model objects (i.Element slot at object count) = count ≡ size_of (slice_get objects object)
-IsFit model objects (i.Locate slot at object count) = count ≡ size_of (slice_get objects object)
-IsFit model objects (i.Negate slot k at) = is_promoted k ≡ true
-IsFit model objects (i.Complement slot k at) = is_promoted k ≡ true
-IsFit model objects (i.Binary slot o k at) = (is_promoted k ≡ true) × (is_logical o ≡ false)
-IsFit model objects (i.Update slot o k l at object) = (is_promoted k ≡ true) × (is_logical o ≡ false) × (l ≡ kind_of (slice_get objects object))
-IsFit model objects (i.Change slot before by k at object) = k ≡ kind_of (slice_get objects object)
-IsFit model objects (i.Fill object k count) = k ≡ kind_of (slice_get objects object)
-IsFit model objects _ = Unit {0}
+-- ---- What holds of slots before an instruction
 
 -- the number of one of the object's elements
 abbrev pub IsIndexOf : Option Object → ℤ → Type 0

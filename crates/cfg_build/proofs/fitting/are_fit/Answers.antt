@@ -1,0 +1,23 @@
+use Rattle.std.proofs.Common.{◌≡◌, suc, ◌+◌, ◌≤◌, length, map, Some, slice_get, arith, rules}
+use Rattle.std.specs.Prelude.{IsTrue}
+use Rattle.slot_code.specs.declared.flat.Instruction.{Instruction}
+use Rattle.c_typed.specs.View.{object_of}
+use Rattle.cfg_build.specs.Fitting.{IsFit}
+use Rattle.cfg_build.proofs.Entering.{below-more, below-all}
+use Rattle.cfg_build.proofs.fitting.are_fit.Goals as goal
+
+pub loop-place-init : goal.loop-place-init
+loop-place-init c = λ model k x lt is. absurd (omega (arith, lt))
+
+pub loop-place-preserved : goal.loop-place-preserved
+loop-place-preserved c = λ model.
+    let n = c.loop-place.place in
+    let passed : IsTrue c.is_fit.result = search rules in
+    let there : slice_get c.args.code.now n ≡ Some c.in-Some.instruction = search rules in
+    let next : suc n ≡ n + 1 = omega arith in
+    below-more (λ (x : Instruction). IsFit model (map object_of c.args.objects.now) x) c.args.code.now n (n + 1) c.in-Some.instruction next there (c.is_fit.ensures model passed) (c.loop-place.invariant model)
+
+pub returns : goal.returns
+returns c = λ model t.
+    let past : length c.args.code.now ≤ c.loop-place.place = search rules in
+    below-all (λ (x : Instruction). IsFit model (map object_of c.args.objects.now) x) c.args.code.now c.loop-place.place past (c.loop-place.invariant model)
