@@ -16,7 +16,7 @@ use Rattle.c_graph.specs.Shape.{widths_of}
 use Rattle.c_graph.specs.Steps.{IsWhole}
 use Rattle.code_layout.specs.Layout.{elements_of}
 use Rattle.code_moves.specs.Setting.{Setting}
-use Rattle.code_move_laws.specs.Mirrors.{IsLaid, row, element_of, Holds, Mirrors}
+use Rattle.code_move_laws.specs.Mirrors.{row, element_of, Holds, Mirrors}
 
 -- ---- Zeros
 
