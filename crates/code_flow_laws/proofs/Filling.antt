@@ -10,15 +10,15 @@ use Rattle.c_run.specs.Run.{State, Got, Value, Stop, Compute, read, scalar, comp
 use Rattle.slot_code.specs.declared.flat.Instruction.{Instruction}
 use Rattle.slot_code.specs.declared.flat.Instruction.TheVariants as i
 use Rattle.slot_code.specs.Slots.{get, put, slots_through}
-use Rattle.slot_code.specs.Machine.{Machine, Next, Goes, Over, fills, goes, act_with, element_in, taken_of, returned_in}
+use Rattle.slot_code.specs.Machine.{Machine, Next, Goes, Over, fills, goes, act_with, taken_of, returned_in}
 use Rattle.slot_code.specs.Machine as w
-use Rattle.typed_range_laws.specs.Ways.{Keep, write_kept}
+use Rattle.typed_range_laws.specs.Ways.{Way, write_kept}
 use Rattle.code_moves.specs.Setting.{Setting}
 use Rattle.code_flow_laws.proofs.Ranging.{Range}
 use Rattle.cfg_build.specs.Steps.{Checked}
 use Rattle.cfg_build.specs.Keeping.{is_inside, stays, filled_by}
 use Rattle.cfg_build.specs.Follows.{Plan, Follows, node_of}
-use Rattle.code_flow_laws.specs.Followed.{IsStraight}
+use Rattle.code_move_laws.specs.Steps.{IsPlain}
 
 -- one slot got a value, or none did
 abbrev pub Filled : Option ℕ → List ℤ → List ℤ → Type 0
@@ -42,26 +42,26 @@ next-slot place slots slot got =
     let same : suc slot ≡ slot + 1 = omega arith in
     subst (λ (k : ℕ). FilledIn (Some k) slots (fills place slots (suc slot) got)) same (fills-in place slots (suc slot) got)
 
-module _ (model : Model) (compute : Compute) (inputs : List ℤ) (keep : Keep) where
-  pub filled : (x : Instruction) (place : ℕ) (slots : List ℤ) (st : State) → IsStraight x → FilledIn (filled_by x) slots (act_with model compute inputs keep x place slots st)
+module _ (model : Model) (compute : Compute) (inputs : List ℤ) (way : Way) where
+  pub filled : (x : Instruction) (place : ℕ) (slots : List ℤ) (st : State) → IsPlain x → FilledIn (filled_by x) slots (act_with model compute inputs way x place slots st)
   filled (i.Constant slot v) place slots st h = fills-in place slots slot (Value v st)
   filled (i.Read slot object) place slots st h = fills-in place slots slot (read (scalar object) st)
   filled (i.Element slot at object count) place slots st h = fills-in place slots slot (w.element_read model compute inputs at object count (get slots slot) st)
   filled (i.Locate slot at object count) place slots st h = fills-in place slots slot (w.index_found model compute inputs at object count (get slots slot) st)
-  filled (i.Load slot object) place slots st h = next-slot place slots slot (read (element_in slots slot object) st)
-  filled (i.Store slot object) place slots st h = fills-in place slots slot (write_kept keep (element_in slots slot object) (get slots (suc slot)) st)
+  filled (i.Load slot object) place slots st h = next-slot place slots slot (read (way.pick object (get slots slot)) st)
+  filled (i.Store slot object) place slots st h = fills-in place slots slot (write_kept way object (get slots slot) (get slots (suc slot)) st)
   filled (i.Convert slot k) place slots st h = fills-in place slots slot (Value (converted k model (get slots slot)) st)
   filled (i.Negate slot k at) place slots st h = fills-in place slots slot (computed at (compute arithmetic.Sub k (pos 0) (get slots slot)) st)
   filled (i.Complement slot k at) place slots st h = fills-in place slots slot (computed at (compute arithmetic.Xor k (get slots slot) (converted k model (negsuc 0))) st)
   filled (i.Not slot) place slots st h = fills-in place slots slot (Value (truth (is_zero (get slots slot))) st)
   filled (i.Truth slot) place slots st h = fills-in place slots slot (Value (truth (is_true (get slots slot))) st)
   filled (i.Binary slot o k at) place slots st h = fills-in place slots slot (w.applied model compute inputs at o k (get slots slot) (get slots (suc slot)) st)
-  filled (i.Update slot o k l at object) place slots st h = fills-in place slots slot (w.updated model compute inputs at o k l (element_in slots slot object) (get slots (suc slot)) (get slots (suc (suc slot))) st)
-  filled (i.Change slot before by k at object) place slots st h = fills-in place slots slot (w.changed model compute inputs at before by k (element_in slots slot object) st)
+  filled (i.Update slot o k l at object) place slots st h = fills-in place slots slot (w.updated model compute inputs at o k l (way.pick object (get slots slot)) (get slots (suc slot)) (get slots (suc (suc slot))) st)
+  filled (i.Change slot before by k at object) place slots st h = fills-in place slots slot (w.changed model compute inputs at before by k (way.pick object (get slots slot)) (way.back object (get slots slot)) st)
   filled (i.Draw slot k) place slots st h = fills-in place slots slot (draw inputs model k st)
   filled (i.Fill object k count) place slots st h = goes-in (suc place) slots (w.filled model compute inputs object k count st)
-  filled (i.Begin slot object count values) place slots st h = goes-in (suc place) slots (store_all object (padded count (slots_through (keep object) slots slot values)) st)
-  filled (i.Bind slot object) place slots st h = goes-in (suc place) slots (store_all object (keep object (get slots slot) ∷ []) st)
+  filled (i.Begin slot object count values) place slots st h = goes-in (suc place) slots (store_all object (padded count (slots_through (way.keep object) slots slot values)) st)
+  filled (i.Bind slot object) place slots st h = goes-in (suc place) slots (store_all object (way.keep object (get slots slot) ∷ []) st)
   filled (i.Jump skip) place slots st h = absurd h
   filled (i.SkipZero slot skip) place slots st h = absurd h
   filled (i.SkipEqual slot v skip) place slots st h = absurd h
@@ -74,7 +74,7 @@ module _ (model : Model) (compute : Compute) (inputs : List ℤ) (keep : Keep) w
 
 -- ---- It goes on behind itself, and its node has its checks
 
-pub goes-behind : (r : Range) (place : ℕ) (x : Instruction) → IsStraight x → stays r place x ≡ is_inside r (place + 1)
+pub goes-behind : (r : Range) (place : ℕ) (x : Instruction) → IsPlain x → stays r place x ≡ is_inside r (place + 1)
 goes-behind r place (i.Constant slot v) h = refl
 goes-behind r place (i.Read slot object) h = refl
 goes-behind r place (i.Element slot at object count) h = refl
@@ -104,7 +104,7 @@ goes-behind r place (i.Fail kind at) h = absurd h
 goes-behind r place i.Stop h = absurd h
 
 module _ (p : Plan) (g : Setting) (table : Table) (place n : ℕ) (nodes : List Node) (edges : List Edge) where
-  pub checked : (x : Instruction) → IsStraight x → Follows p g table place x n nodes edges → Checked g table x (node_of p (place + 1)) n nodes edges
+  pub checked : (x : Instruction) → IsPlain x → Follows p g table place x n nodes edges → Checked g table x (node_of p (place + 1)) n nodes edges
   checked (i.Constant slot v) h f = f
   checked (i.Read slot object) h f = f
   checked (i.Element slot at object count) h f = f

@@ -1,11 +1,11 @@
 pub mod Inside
 pub mod Ranging
 pub mod Graphs
-pub mod Deeds
-pub mod Checks
+pub mod Moving
 pub mod Filling
 pub mod Open
 pub mod Stepping
 pub mod Calling
 pub mod Walking
 pub mod Whole
+pub mod Typed

@@ -6,9 +6,8 @@ use Rattle.std.proofs.lemmas.Option.{same_Some}
 use Rattle.lv_base.specs.declared.fault.ErrorKind.{ErrorKind}
 use Rattle.lv_base.specs.Integers.{InAny}
 use Rattle.bv_term.specs.WellFormed.{IsTable}
-use Rattle.bv_term.specs.Values.{IsStore}
 use Rattle.bv_term.specs.Numbers.{truth, complement_in}
-use Rattle.c_run.specs.Run.{State, Compute, choose}
+use Rattle.c_run.specs.Run.{State, choose}
 use Rattle.c_graph.specs.declared.graph.NodeId.{NodeId}
 use Rattle.c_graph.specs.declared.graph.Node.{Node}
 use Rattle.c_graph.specs.declared.graph.Node.TheVariants.{Error}
@@ -19,22 +18,25 @@ use Rattle.c_graph.specs.Functions.{Flows}
 use Rattle.slot_code.specs.declared.flat.Instruction.{Instruction}
 use Rattle.slot_code.specs.declared.flat.Instruction.TheVariants as i
 use Rattle.slot_code.specs.declared.reply.Ending.TheVariants as ending
-use Rattle.slot_code.specs.Machine.{Machine, machine, Next, Goes, Over, act_with}
-use Rattle.typed_range_laws.specs.Ways.{Keep}
+use Rattle.slot_code.specs.Machine.{Machine, machine, Next, Goes, Over}
 use Rattle.code_moves.specs.Setting.{Setting}
 use Rattle.code_move_laws.specs.Mirrors.{IsLaid, Mirrors}
-use Rattle.code_move_laws.specs.Steps.{Agrees}
+use Rattle.code_move_laws.specs.Steps.{IsPlain, acted}
+use Rattle.code_move_laws.specs.Stepping.{Steps}
+use Rattle.code_move_laws.specs.Ways.{objects_of, converting, graph_way}
+use Rattle.code_move_laws.proofs.Following.{steps-run}
+use Rattle.layout_laws.specs.Serve.{Serves}
+use Rattle.slot_laws.specs.Laws.{IsShaped}
 use Rattle.code_flow_laws.proofs.Ranging.{Range}
-use Rattle.cfg_build.specs.Steps.{node_id, edge, offset_of, Way, Fork}
+use Rattle.cfg_build.specs.Steps.{node_id, edge, Way, Fork}
+use Rattle.cfg_build.specs.Fitting.{AreFit}
 use Rattle.cfg_build.specs.Keeping.{is_inside, stays, is_own, filled_by, keeps}
 use Rattle.cfg_build.specs.Follows.{Plan, Follows, Last, node_of}
 use Rattle.cfg_build.specs.Graphs.{FirstGraphs}
 use Rattle.function_runs.specs.Runs.{Spot, spot, node_at}
-use Rattle.code_flow_laws.specs.Followed.{IsStraight}
 use Rattle.code_flow_laws.proofs.Inside.{PlaceIn}
 use Rattle.code_flow_laws.proofs.Graphs.{IsNode, FunctionOf, function-of, place-of, is-node, plan}
-use Rattle.code_flow_laws.proofs.Deeds.{deeds-lead}
-use Rattle.code_flow_laws.proofs.Checks.{Moves, Here, stay, along, node-there, goes-on, fails-at, holds-on, nothing-more}
+use Rattle.code_flow_laws.proofs.Moving.{Moves, Here, stay, along, runs-along, node-there, holds-on, nothing-more}
 use Rattle.code_flow_laws.proofs.Filling.{FilledIn, filled, goes-behind, checked}
 use Rattle.code_flow_laws.proofs.Open.{Opened, opened-filled}
 
@@ -44,11 +46,14 @@ pub record Known (code : List Instruction) (numbers : List ℕ) (ranges : List R
   pub table : IsTable p.terms
   pub cells : (p.terms).cells ≡ widths_of g.lay.cells
   pub laid : IsLaid g
+  pub serves : (place : ℕ) (x : Instruction) → slice_get code place ≡ Some x → Serves g.model g.objects g.lay x
+  pub shaped : (place : ℕ) (x : Instruction) → slice_get code place ≡ Some x → IsShaped (objects_of g) x
+  pub fit : AreFit g.model (objects_of g) code
   pub short : (place : ℕ) → place ≤ length code → InAny (pos place)
   -- a call goes to the entry of a function of another number than main's, or of main itself
   pub entered : (place at goal slot : ℕ) → slice_get code place ≡ Some (i.Call at goal slot) → (k : ℕ) × (r : Range) × (slice_get ranges k ≡ Some r) × (r.entry ≡ goal) × (r.function ≡ k) × (r.entry < r.end)
 
-module _ (code : List Instruction) (numbers : List ℕ) (ranges : List Range) (g : Setting) (p : Flows) (known : Known code numbers ranges g p) (compute : Compute) (keep : Keep) (inputs : List ℤ) where
+module _ (code : List Instruction) (numbers : List ℕ) (ranges : List Range) (g : Setting) (p : Flows) (known : Known code numbers ranges g p) (inputs : List ℤ) where
   -- the machine stands at a place of a function's code, and the run at the node of that place
   pub record Stands (m : Machine) (s : Spot) : Type 0 where
     pub range : Range
@@ -96,8 +101,8 @@ module _ (code : List Instruction) (numbers : List ℕ) (ranges : List Range) (g
         let one : place.n ≡ h.node.0 = same_Some place.n h.node.0 (sym place.stands.number ∙ h.node.1) in
         record { graph = function.graph; is = function.graph_is; inside = place.inside; node = h.node.2 ∙ ap node_id (sym one) }
 
-    pub fits : IsStore (p.terms).cells s.store
-    fits = subst (λ (ws : List ℕ). IsStore ws s.store) (sym known.cells) h.mirrors.whole.fits
+    from-here : (draws : List ℤ) (t : Spot) → Moves p (spot s.function (node_id place.n) s.returns s.store) draws t → Moves p s draws t
+    from-here draws t moves = subst (λ (v : NodeId). Moves p (spot s.function v s.returns s.store) draws t) (sym at_place.node) moves
 
     -- the node of another place of the function
     pub node_there : (q : ℕ) → is_inside h.range q ≡ true → IsNode numbers q (node_of the_plan q)
@@ -105,12 +110,9 @@ module _ (code : List Instruction) (numbers : List ℕ) (ranges : List Range) (g
 
     -- ---- An instruction with checks
 
-    straight-next : IsStraight x → (next : Next) → Agrees g inputs x m s.store next → FilledIn (filled_by x) m.slots next → Comes m s next
-    straight-next plain (Goes n) (draws, after, to, none, took, reaches, mirrors) fill =
-        let c = checked the_plan g p.terms m.place place.n place.nodes place.edges x plain follows in
-        let lead = deeds-lead p.terms (widths_of g.lay.cells) known.cells c.behind.ops _ s.store draws after c.behind.does reaches in
-        let moves = goes-on p known.table s fits place.n place.nodes place.edges at_place (node_of the_plan (m.place + 1)) c.behind.passed c.behind.last c.behind.ops (offset_of x)
-        c.tests _ draws after c.behind.edges_are (c.fails s.store) c.behind.passes none lead in
+    straight-next : IsPlain x → (next : Next) → Steps g p.terms inputs m s.store (node_of the_plan (m.place + 1)) place.n place.nodes place.edges next → FilledIn (filled_by x) m.slots next → Comes m s next
+    straight-next plain (Goes n) (path, draws, after, to, took, runs, mirrors) fill =
+        let moves = runs-along p path s place.n place.nodes place.edges at_place (node_id place.n) (node_of the_plan (m.place + 1)) s.store after draws runs in
         let inside : is_inside h.range (m.place + 1) ≡ true = sym (goes-behind h.range m.place x plain) ∙ in_range in
         let behind : m.place + 1 ≡ n.place = omega (arith, to) in
         let t : Spot = spot s.function (node_of the_plan (m.place + 1)) s.returns after in
@@ -122,19 +124,22 @@ module _ (code : List Instruction) (numbers : List ℕ) (ranges : List Range) (g
           mirrors = mirrors;
           open_calls = opened-filled (length code) p.main numbers ranges (filled_by x) m.slots n.slots h.range s.returns own fill h.open_calls;
         } in
-        inr (t, draws, moves, stands, took)
-    straight-next plain (Over (ending.Error kind at taken)) (some, offset, took) fill =
-        let c = checked the_plan g p.terms m.place place.n place.nodes place.edges x plain follows in
-        let (t, moves, node) = fails-at p known.table s fits place.n place.nodes place.edges at_place (node_of the_plan (m.place + 1)) c.behind.passed c.behind.last c.behind.ops (offset_of x)
-        c.tests _ kind c.behind.nodes_are c.behind.edges_are (c.fails s.store) c.behind.passes some in
-        (t, moves, node ∙ ap (λ (k : ℕ). Some (Error kind k)) (sym offset), took)
+        inr (t, draws, from-here draws t moves, stands, took)
+    straight-next plain (Over (ending.Error kind at taken)) (path, j, took, node, runs) fill =
+        let t : Spot = spot s.function (node_id (place.n + j)) s.returns s.store in
+        let moves = runs-along p path s place.n place.nodes place.edges at_place (node_id place.n) (node_id (place.n + j)) s.store s.store [] runs in
+        (t, from-here [] t moves, node-there p s place.n place.nodes place.edges at_place j (Error kind at) s.store node, took)
     straight-next plain (Over ending.Ended) a fill = tt
     straight-next plain (Over ending.NoInput) a fill = tt
     straight-next plain (Over (ending.BadInput number)) a fill = tt
     straight-next plain (Over ending.Spent) a fill = tt
 
-    pub straight : IsStraight x → Agrees g inputs x m s.store (act_with g.model compute inputs keep x m.place m.slots m.st) → Comes m s (act_with g.model compute inputs keep x m.place m.slots m.st)
-    straight plain agrees = straight-next plain _ agrees (filled g.model compute inputs keep x m.place m.slots m.st plain)
+    pub straight : IsPlain x → Comes m s (acted g inputs x m)
+    straight plain =
+        straight-next plain (acted g inputs x m)
+        (steps-run g inputs x m s.store known.laid (known.serves m.place x here) (known.shaped m.place x here) (known.fit m.place x here) plain h.mirrors p.terms (node_of the_plan (m.place + 1)) place.n place.nodes place.edges
+        (checked the_plan g p.terms m.place place.n place.nodes place.edges x plain follows) known.table known.cells)
+        (filled g.model (λ op kind a b. converting g.model op kind a b) inputs (graph_way g) x m.place m.slots m.st plain)
 
     -- ---- One way on
 

@@ -1,12 +1,14 @@
 -- The run of a program's code from where main begins.
-use Rattle.std.proofs.Common.{◌≡◌, inl, inr, ℕ, ◌<◌, ◌≤◌, ◌==◌, nat_lt, nat_le, nat_eq, Bool, true, false, if◌then◌else◌, refl, sym, ap, ◌∙◌, subst, arith, List, [], ◌∷◌, ◌++◌, length, Some, slice_get, ℤ, pos}
+use Rattle.std.proofs.Common.{◌≡◌, inl, inr, ℕ, zero, suc, ◌<◌, ◌≤◌, ◌==◌, nat_lt, nat_le, nat_eq, Bool, true, false, if◌then◌else◌, refl, sym, ap, ◌∙◌, subst, arith, List, [], ◌∷◌, ◌++◌, length, Some, slice_get, ℤ, pos}
 use Rattle.std.specs.Prelude.{take}
 use Rattle.std.proofs.lemmas.Int.{ints}
 use Rattle.std.proofs.lemmas.Bool.{and_from, eqb-true, eq-eqb, lt-ltb, le-leb}
+use Rattle.std.proofs.lemmas.Option.{same_Some}
 use Rattle.lv_base.specs.declared.fault.ErrorKind.{ErrorKind}
 use Rattle.lv_base.specs.Integers.{InAny}
-use Rattle.c_run.specs.Run.{Compute}
-use Rattle.c_typed.specs.Parts.{Parts}
+use Rattle.c_typed.specs.Facts.{IsTyped}
+use Rattle.c_typed.specs.Parts.{Parts, tree_of}
+use Rattle.c_typed.specs.Tree.{Object}
 use Rattle.c_graph.specs.declared.graph.NodeId.{NodeId}
 use Rattle.c_graph.specs.declared.graph.Node.TheVariants.{Error}
 use Rattle.c_graph.specs.declared.graph.Cell.{Cell}
@@ -19,20 +21,24 @@ use Rattle.slot_code.specs.Slots.{get, slots_in}
 use Rattle.slot_code.specs.Values.{Link, link_of}
 use Rattle.slot_code.specs.Machine.{Machine, rank}
 use Rattle.slot_laws.proofs.Lying.{put_same}
-use Rattle.typed_range_laws.specs.Ways.{Keep}
+use Rattle.slot_laws.specs.Laws.{IsShaped, AreShaped}
+use Rattle.slot_laws.proofs.Shaping.{shaped_code}
+use Rattle.layout_laws.proofs.Serving.{cells_serve}
 use Rattle.code_moves.specs.Setting.{Setting}
+use Rattle.code_move_laws.specs.Doing.{Reaches}
+use Rattle.code_move_laws.specs.Ways.{objects_of, converting}
 use Rattle.code_move_laws.proofs.Laying.{laid}
+use Rattle.code_move_laws.proofs.Operating.{deeds-are-done}
 use Rattle.cfg_build.specs.Steps.{node_id, edge}
 use Rattle.cfg_build.specs.Ranges.{AreRanges}
-use Rattle.cfg_build.specs.Fitting.{IsEntry, CallsEnter}
+use Rattle.cfg_build.specs.Fitting.{IsEntry}
 use Rattle.cfg_build.specs.Graphs.{GraphFollows, ProgramFollows, opens, program_code, program_setting}
 use Rattle.function_runs.specs.Runs.{Spot, spot, node_at, RunsBy, FunctionsFail}
 use Rattle.code_flow_laws.specs.Followed.{IsOpened, links_in, start_of, FlatErrorsFollow}
 use Rattle.code_flow_laws.proofs.Inside.{inside-all, inside-first}
 use Rattle.code_flow_laws.proofs.Ranging.{Range}
 use Rattle.code_flow_laws.proofs.Graphs.{FunctionOf, function-of, plan, first-of, first_of, entry-of}
-use Rattle.code_flow_laws.proofs.Deeds.{deeds-lead}
-use Rattle.code_flow_laws.proofs.Checks.{Moves, Here, along, moves-join}
+use Rattle.code_flow_laws.proofs.Moving.{Moves, Here, along, moves-join}
 use Rattle.code_flow_laws.proofs.Stepping.{Known, Stands}
 use Rattle.code_flow_laws.proofs.Walking.{walk-ends}
 
@@ -73,9 +79,16 @@ nothing-taken : (xs : List ℤ) → take 0 xs ≡ []
 nothing-taken [] = refl
 nothing-taken (x ∷ xs) = refl
 
+-- ---- Shapes
+
+shaped-at : (objects : List Object) (code : List Instruction) (place : ℕ) (x : Instruction) → AreShaped objects code → slice_get code place ≡ Some x → IsShaped objects x
+shaped-at objects [] place x all e = absurd cc
+shaped-at objects (y ∷ ys) zero x all e = let same : y ≡ x = same_Some y x e in subst (IsShaped objects) same all.0
+shaped-at objects (y ∷ ys) (suc place) x all e = shaped-at objects ys place x all.1 e
+
 -- ---- A program
 
-module _ (t : Parts) (order : List ℕ) (p : Flows) (flows : AreFlows p) (follow : ProgramFollows t order p) (few : length (program_code t order) < 18446744073709551616) (enter : CallsEnter (links_in t order) (program_code t order)) where
+module _ (t : Parts) (order : List ℕ) (p : Flows) (flows : AreFlows p) (follow : ProgramFollows t order p) (few : length (program_code t order) < 18446744073709551616) (typed : IsTyped (tree_of t)) where
   abbrev C : List Instruction
   C = program_code t order
 
@@ -91,8 +104,11 @@ module _ (t : Parts) (order : List ℕ) (p : Flows) (flows : AreFlows p) (follow
     table = flows.table;
     cells = cells;
     laid = laid t.objects t.model C (slots_in C) (omega arith) (subst (λ (cs : List Cell). length cs < 4294967296) follow.cells flows.few_cells);
+    serves = (cells_serve t.objects t.model C (slots_in C) (omega arith)).0;
+    shaped = λ place x e. shaped-at (objects_of G) C place x (shaped_code (tree_of t) order typed) e;
+    fit = follow.fit;
     short = λ place le. any-place place (length C) le few;
-    entered = λ place at goal slot e. entered-by (length C) (slots_in C) goal (links_in t order) follow.ranges follow.stand (enter place at goal slot e);
+    entered = λ place at goal slot e. entered-by (length C) (slots_in C) goal (links_in t order) follow.ranges follow.stand (follow.enters place at goal slot e);
   }
 
   module _ (l : Link) (link : link_of p.main (links_in t order) ≡ Some l) (m : Machine) (begins : m.place ≡ l.entry) (to_end : get m.slots l.slot ≡ pos (length C)) (opened : IsOpened G m) where
@@ -126,7 +142,7 @@ module _ (t : Parts) (order : List ℕ) (p : Flows) (flows : AreFlows p) (follow
     opens-by =
         let o = opening.1.first in
         along p begin 0 opening.1.nodes_first opening.1.edges_first here (node_id 0) opened.store 0 (edge (node_id 0) (node_id 1) o.ops) [] opened.after (ap (λ (es : List Edge). slice_get es 0) o.edges_are) refl
-        (deeds-lead p.terms (widths_of G.lay.cells) cells o.ops (opens G (length G.objects)) opened.store [] opened.after o.does opened.reaches)
+        (deeds-are-done p.terms o.ops (opens G (length G.objects)) opened.store [] opened.after [] o.does (subst (λ (W : List ℕ). Reaches W (opens G (length G.objects)) opened.store [] opened.after []) (sym cells) opened.reaches))
 
     first-number : slice_get follow.numbers m.place ≡ Some 1
     first-number =
@@ -135,8 +151,8 @@ module _ (t : Parts) (order : List ℕ) (p : Flows) (flows : AreFlows p) (follow
         ∙ ap (λ (b : Bool). Some (first_of b)) is-main
 
     -- where main begins, behind the opening
-    stands : (compute : Compute) (keep : Keep) (inputs : List ℤ) → Stands C follow.numbers follow.ranges G p known compute keep inputs m open_spot
-    stands compute keep inputs =
+    stands : (inputs : List ℤ) → Stands C follow.numbers follow.ranges G p known inputs m open_spot
+    stands inputs =
         let le : ranged.range.entry ≤ m.place = omega (arith, begins, ranged.begins) in
         let lt : m.place < ranged.range.end = omega (arith, begins, ranged.begins, ranged.some) in
         record {
@@ -158,10 +174,10 @@ module _ (t : Parts) (order : List ℕ) (p : Flows) (flows : AreFlows p) (follow
         subst (λ (ds : List ℤ). FunctionsFail p ds kind at) (sym drawn) (u, (main.graph, all, opened.store, main.graph_is, whole, from), node)
 
 pub errors-follow : FlatErrorsFollow
-errors-follow t order p compute keep slots inputs turns l kind at taken flows follow few enter link followed opened run =
+errors-follow t order p slots inputs turns l kind at taken typed flows follow few link opened run =
     let m : Machine = start_of t order slots l turns in
     let (u, draws, moves, node, took) =
-    walk-ends (program_code t order) follow.numbers follow.ranges (program_setting t order) p (known t order p flows follow few enter) compute keep inputs m followed
-    (rank t.model compute inputs (program_code t order) m) m (spot p.main (node_id 1) [] opened.after) kind at taken
-    (stands t order p flows follow few enter l link m refl (put_same slots l.slot (pos (length (program_code t order)))) opened compute keep inputs) (0, refl) run in
-    fails-in t order p flows follow few enter l link m refl (put_same slots l.slot (pos (length (program_code t order)))) opened inputs draws u kind at taken moves node took
+    walk-ends (program_code t order) follow.numbers follow.ranges (program_setting t order) p (known t order p flows follow few typed) inputs
+    (rank t.model (λ op kind a b. converting t.model op kind a b) inputs (program_code t order) m) m (spot p.main (node_id 1) [] opened.after) kind at taken
+    (stands t order p flows follow few typed l link m refl (put_same slots l.slot (pos (length (program_code t order)))) opened inputs) run in
+    fails-in t order p flows follow few typed l link m refl (put_same slots l.slot (pos (length (program_code t order)))) opened inputs draws u kind at taken moves node took

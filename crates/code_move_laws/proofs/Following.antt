@@ -34,5 +34,5 @@ follows g table inputs x m store next n nodes edges (Over (ending.BadInput numbe
 follows g table inputs x m store next n nodes edges (Over ending.Spent) c sound cells whole h = tt
 
 pub steps-run : StepsRun
-steps-run g inputs x m store laid serves shaped fit plain ready h table next n nodes edges c sound cells =
-    follows g table inputs x m store next n nodes edges (acted g inputs x m) c sound cells h.whole (steps g inputs x m store laid serves shaped fit plain ready h)
+steps-run g inputs x m store laid serves shaped fit plain h table next n nodes edges c sound cells =
+    follows g table inputs x m store next n nodes edges (acted g inputs x m) c sound cells h.whole (steps g inputs x m store laid serves shaped fit plain h)

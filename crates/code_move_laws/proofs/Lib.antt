@@ -10,6 +10,7 @@ pub mod Crements
 pub mod Rows
 pub mod Drawing
 pub mod Skipping
+pub mod Suiting
 pub mod Laying
 pub mod Whole
 pub mod Trimming

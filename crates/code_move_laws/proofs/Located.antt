@@ -24,11 +24,11 @@ use Rattle.code_moves.specs.Setting.{Setting}
 use Rattle.code_moves.specs.Values.{slot_value, index_fails, taken}
 use Rattle.code_moves.specs.Moves.{old_value}
 use Rattle.layout_laws.specs.Serve.{HasSlot, Serves}
-use Rattle.code_move_laws.specs.Ways.{objects_of}
+use Rattle.code_move_laws.specs.Ways.{objects_of, number_picked}
 use Rattle.code_move_laws.specs.Mirrors.{IsLaid, element_of, Mirrors}
 use Rattle.code_move_laws.specs.Steps.{Agrees, acted}
 use Rattle.code_move_laws.proofs.Reaching.{nothing}
-use Rattle.code_move_laws.proofs.Elements.{size-few, reached, element-read, element-any}
+use Rattle.code_move_laws.proofs.Elements.{size-few, reached, picked-index, element-read, element-any}
 use Rattle.code_move_laws.proofs.Plain.{onward, filled-by, says}
 
 -- ---- Tests of indices
@@ -105,12 +105,12 @@ module _ (g : Setting) (inputs : List ℤ) (m : Machine) (store : List ℕ) (lai
       go : Located (get m.slots s) count → goal (inside (get m.slots s) count)
       go (missed t f) = subst goal (sym t) (fails false f, refl, refl)
       go (found n e lt t f) =
-          let r = reached g m.slots (m.st).store store s object laid h (n, e, omega (arith, lt, size)) (λ array. let q : s + 0 ≡ s = omega arith in subst (HasSlot g.lay) q (serves.slots 0 (omega arith))) in
-          let index : unsigned_abs (get m.slots s) ≡ n = ap unsigned_abs e in
+          let r = reached g m.slots (m.st).store store s object h (λ array. let q : s + 0 ≡ s = omega arith in subst (HasSlot g.lay) q (serves.slots 0 (omega arith))) in
+          let number : number_picked g object (get m.slots s) ≡ unsigned_abs (get m.slots s) = ap (number_picked g object) e ∙ picked-index g object n laid (omega (arith, lt, size)) ∙ sym (ap unsigned_abs e) in
           subst goal (sym t)
           (filled-by g inputs m store laid h (i.Element s at object count) s (element_of (m.st).store object (unsigned_abs (get m.slots s))) (old_value g s object) refl (fails true f)
           (element-any g m.slots (m.st).store store object (unsigned_abs (get m.slots s)) laid h)
-          (element-read g m.slots (m.st).store store object n (slot_value g store s) h r ∙ ap (λ (k : ℕ). residue 64 (element_of (m.st).store object k)) (sym index)))
+          (element-read g m.slots (m.st).store store object laid h (number_picked g object (get m.slots s)) (slot_value g store s) r ∙ ap (λ (k : ℕ). residue 64 (element_of (m.st).store object k)) number))
 
   pub locate-step : (s at object count : ℕ) → count ≡ size_of (slice_get (objects_of g) object) → Serves g.model g.objects g.lay (i.Locate s at object count)
       → Agrees g inputs (i.Locate s at object count) m store (acted g inputs (i.Locate s at object count) m)

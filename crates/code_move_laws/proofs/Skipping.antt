@@ -5,7 +5,7 @@ use Rattle.std.proofs.lemmas.Int.{ints}
 use Rattle.std.proofs.lemmas.Bool.{eqb-true, eq-eqb, ne_eqb}
 use Rattle.lv_base.specs.declared.kind.Kind.{Kind}
 use Rattle.lv_base.specs.declared.kind.Model.{Model}
-use Rattle.lv_base.specs.Integers.{residue, width_of}
+use Rattle.lv_base.specs.Integers.{InRange, residue, width_of}
 use Rattle.slot_code.specs.Slots.{get}
 use Rattle.word_laws.proofs.Residues.{low}
 use Rattle.word_laws.proofs.Orders.{eq_test}
@@ -13,7 +13,7 @@ use Rattle.word_laws.proofs.Wrapping.{width_most}
 use Rattle.word_laws.proofs.Answering.{le_true}
 use Rattle.bv_term.specs.Numbers.{truth}
 use Rattle.c_terms.specs.Numbers.{nonzero}
-use Rattle.code_move_laws.specs.Skips.{AreOfOneKind, ZeroSkipsAgree, EqualSkipsAgree}
+use Rattle.code_move_laws.specs.Skips.{ZeroSkipsAgree, EqualSkipsAgree}
 use Rattle.code_move_laws.proofs.Numbers.{nonzero_slot, residues_differ}
 use Rattle.code_move_laws.proofs.Reaching.{slot-read}
 
@@ -36,11 +36,15 @@ int-alike a b e =
 low-alike : (k : Kind) (model : Model) (a b : ℤ) → residue 64 a ≡ residue 64 b → residue (width_of k model) a ≡ residue (width_of k model) b
 low-alike k model a b e = sym (low (width_of k model) a (width_most k model)) ∙ ap (λ (n : ℕ). n % 2 ^ width_of k model) e ∙ low (width_of k model) b (width_most k model)
 
-test-is : (model : Model) (a b : ℤ) (p : Bool) → AreOfOneKind model a b → (int_le a b && int_le b a) ≡ p → (residue 64 a == residue 64 b) ≡ p
-test-is model a b true one e = eq-eqb (residue 64 a) (residue 64 b) (ap (residue 64) (int-equal a b e))
-test-is model a b false one e =
-    ne_eqb (residue 64 a) (residue 64 b) (λ same. let same_value : a ≡ b = residues_differ one.0 model a b one.1 one.2 (low-alike one.0 model a b same) in let bad : true ≡ false = sym (int-alike a b same_value) ∙ e in absurd cc)
+-- of two values of one kind the equal ones have one residue
+pub residues-tell : (k : Kind) (model : Model) (a b : ℤ) → InRange k model a → InRange k model b → (residue 64 a == residue 64 b) ≡ (int_le a b && int_le b a)
+residues-tell k model a b ra rb = go (int_le a b && int_le b a) refl
+  where
+    go : (p : Bool) → (int_le a b && int_le b a) ≡ p → (residue 64 a == residue 64 b) ≡ p
+    go true e = eq-eqb (residue 64 a) (residue 64 b) (ap (residue 64) (int-equal a b e))
+    go false e =
+        ne_eqb (residue 64 a) (residue 64 b)
+        (λ same. let same_value : a ≡ b = residues_differ k model a b ra rb (low-alike k model a b same) in let bad : true ≡ false = sym (int-alike a b same_value) ∙ e in absurd cc)
 
 pub equal-skips : EqualSkipsAgree
-equal-skips g slots values store slot v h has one =
-    ap (λ (n : ℕ). truth (n == residue 64 v)) (slot-read g slots values store slot slot h has refl) ∙ ap truth (test-is g.model (get slots slot) v (int_le (get slots slot) v && int_le v (get slots slot)) one refl)
+equal-skips g slots values store slot v h has = ap (λ (n : ℕ). truth (n == residue 64 v)) (slot-read g slots values store slot slot h has refl)

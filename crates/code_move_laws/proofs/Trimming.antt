@@ -1,6 +1,6 @@
 -- Values of slots get into objects.
 use Rattle.std.proofs.Common.{◌≡◌, ℕ, zero, suc, ◌+◌, ◌-◌, ◌<◌, ◌≤◌, ◌⊎◌, inl, inr, refl, sym, ap, ◌∙◌, subst, arith, min, nat_lt, lt-ltb, le-ltb, Bool, true, false, if◌then◌else◌, List, [], ◌∷◌, ◌++◌, map, length, replicate, length-append, Option, None, Some, slice_get, slice_set, slice_index_or, ℤ, pos}
-use Rattle.std.specs.Prelude.{MatchBool, unsigned_abs}
+use Rattle.std.specs.Prelude.{MatchBool}
 use Rattle.std.proofs.lemmas.Bool.{cases_lt}
 use Rattle.std.proofs.lemmas.List.{length-map, length-replicate, set_past}
 use Rattle.lv_base.specs.declared.kind.Kind.{Kind}
@@ -9,7 +9,6 @@ use Rattle.lv_base.specs.declared.kind.Op.{Op}
 use Rattle.lv_base.specs.Integers.{InRange, InAny, residue, width_of, converted, arith_of, is_shift, is_promoted, IsRight}
 use Rattle.c_run.specs.Run.{padded}
 use Rattle.c_typed.specs.declared.tree.Object.{Object}
-use Rattle.c_typed.specs.Run.{kind_of}
 use Rattle.slot_code.specs.Slots.{get, put, slots_from}
 use Rattle.typed_range_laws.proofs.Bounds.{wrapped_in_range, truth_in_range}
 use Rattle.word_laws.proofs.Residues.{residue_below}
@@ -24,21 +23,18 @@ use Rattle.code_moves.specs.Values.{slot_value}
 use Rattle.code_moves.specs.Deeds.{Sets}
 use Rattle.code_moves.specs.Moves.{fills, writes, index_value, begun, begins_first, begins_in, binds_in}
 use Rattle.layout_laws.specs.Serve.{HasSlot}
-use Rattle.code_move_laws.specs.Ways.{objects_of, converting, trimmed, trimming}
+use Rattle.code_move_laws.specs.Ways.{objects_of, converting, trimmed, trimming, number_picked}
 use Rattle.code_move_laws.specs.Mirrors.{IsLaid, Mirrors, row}
-use Rattle.code_move_laws.specs.Trims.{TrimmingKeeps, ConvertingAgrees, StoresTrim, BeginsTrim, BindsTrim}
+use Rattle.code_move_laws.specs.Trims.{ConvertingAgrees, StoresTrim, BeginsTrim, BindsTrim}
 use Rattle.code_move_laws.proofs.Numbers.{wrapped_same}
 use Rattle.code_move_laws.proofs.Stores.{element-set}
 use Rattle.code_move_laws.proofs.Reaching.{Comes, behind, slot-read, fill, nothing}
-use Rattle.code_move_laws.proofs.Elements.{Reached, begins, room-is, no-room, none-past, told-size, told-none, told-kind}
+use Rattle.code_move_laws.proofs.Elements.{Reached, reached, kind_at, with_element, begins, room-is, no-room, none-past, told-size, told-none, told-kind}
 use Rattle.code_move_laws.proofs.Elements as elements
-use Rattle.code_move_laws.proofs.Objects.{index-slot, value-slot, at-index}
+use Rattle.code_move_laws.proofs.Objects.{index-slot, value-slot}
 use Rattle.code_move_laws.proofs.Rows.{stored-rows}
 
 -- ---- Values
-
-pub trimming-keeps : TrimmingKeeps
-trimming-keeps model objects = record { same = λ object told v e range. ap (λ o. trimmed (kind_of o) model v) e ∙ wrapped_same told.kind model v range }
 
 converted-same : (kind : Kind) (model : Model) (v : ℤ) → is_promoted kind ≡ true → InRange kind model v → converted kind model v ≡ v
 converted-same kind model v p h = converted_promoted kind model v p ∙ wrapped_same kind model v h
@@ -67,28 +63,29 @@ trimming-is g object o v e = ap (λ (k : Kind). trimmed k g.model v) (sym (told-
 -- ---- Store
 
 pub stores-trim : StoresTrim
-stores-trim g slots values store slot object laid serves ready h = (all.after, all.reaches, all.mirrors)
+stores-trim g slots values store slot object laid serves h = (all.after, all.reaches, all.mirrors)
   where
     has : HasSlot g.lay (slot + 1)
     has = let q : slot + 1 + 0 ≡ slot + 1 = omega arith in subst (HasSlot g.lay) q (value-slot g.lay (is_array g.objects object) slot 1 0 (omega arith) serves.slots)
 
-    reach : Reached g object (unsigned_abs (get slots slot)) (slot_value g store slot)
-    reach = at-index g slots values store slot object laid h ready (λ array. index-slot g.lay (is_array g.objects object) slot 1 array serves.slots)
+    reach : Reached g object (number_picked g object (get slots slot)) (slot_value g store slot)
+    reach = reached g slots values store slot object h (λ array. index-slot g.lay (is_array g.objects object) slot 1 array serves.slots)
 
     says : (vals : List (List ℤ)) (c : List ℕ) → Mirrors g slots vals c → slot_value g c (slot + 1) ≡ residue 64 (get slots (suc slot))
     says vals c mir = slot-read g slots vals c (slot + 1) (suc slot) mir has (omega arith)
 
-    all : Comes g (writes g object (index_value g slot) (index_value g (slot + 1)) ++ fills g slot (index_value g (slot + 1))) store [] [] (put slots slot (get slots (suc slot)))
-        (slice_set values object (slice_set (row values object) (unsigned_abs (get slots slot)) (trimming g.model (objects_of g) object (get slots (suc slot)))))
+    new : List (List ℤ)
+    new = with_element values object (number_picked g object (get slots slot)) (trimming g.model (objects_of g) object (get slots (suc slot)))
+
+    first : Comes g (writes g object (index_value g slot) (index_value g (slot + 1))) store [] [] slots new
+    first =
+        elements.write g slots values store object (number_picked g object (get slots slot)) (trimming g.model (objects_of g) object (get slots (suc slot))) laid h [] (get slots (suc slot)) (index_value g slot) (index_value g (slot + 1))
+        (trimmed-range (kind_at g object) g.model (get slots (suc slot))) (trimmed-bits (kind_at g object) g.model (get slots (suc slot))) (says values store h) reach
+
+    all : Comes g (writes g object (index_value g slot) (index_value g (slot + 1)) ++ fills g slot (index_value g (slot + 1))) store [] [] (put slots slot (get slots (suc slot))) new
     all =
-        let new : List (List ℤ) = slice_set values object (slice_set (row values object) (unsigned_abs (get slots slot)) (trimmed reach.told.kind g.model (get slots (suc slot)))) in
-        let first : Comes g (writes g object (index_value g slot) (index_value g (slot + 1))) store [] [] slots new =
-        elements.write g slots values store [] object (unsigned_abs (get slots slot)) (get slots (suc slot)) (trimmed reach.told.kind g.model (get slots (suc slot))) (index_value g slot) (index_value g (slot + 1)) laid h reach
-        (trimmed-range reach.told.kind g.model (get slots (suc slot))) (trimmed-bits reach.told.kind g.model (get slots (suc slot))) (says values store h) in
-        subst (λ (w : ℤ). Comes g (writes g object (index_value g slot) (index_value g (slot + 1)) ++ fills g slot (index_value g (slot + 1))) store [] [] (put slots slot (get slots (suc slot))) (slice_set values object (slice_set (row values object) (unsigned_abs (get slots slot)) w)))
-        (trimming-is g object reach.told (get slots (suc slot)) reach.there)
-        (behind g (writes g object (index_value g slot) (index_value g (slot + 1))) (fills g slot (index_value g (slot + 1))) store [] [] [] slots (put slots slot (get slots (suc slot))) new new first
-        (λ c mir. fill g slots new c [] slot (get slots (suc slot)) (index_value g (slot + 1)) laid mir (h.any (suc slot)) (says new c mir)))
+        behind g (writes g object (index_value g slot) (index_value g (slot + 1))) (fills g slot (index_value g (slot + 1))) store [] [] [] slots (put slots slot (get slots (suc slot))) new new first
+        (λ c mir. fill g slots new c [] slot (get slots (suc slot)) (index_value g (slot + 1)) laid mir (h.any (suc slot)) (says new c mir))
 
 -- ---- Begin
 

@@ -16,7 +16,7 @@ use Rattle.cfg_build.specs.Fitting.{IsFit}
 use Rattle.layout_laws.specs.Serve.{Serves}
 use Rattle.code_move_laws.specs.Mirrors.{IsLaid, Mirrors}
 use Rattle.code_move_laws.specs.Ways.{objects_of}
-use Rattle.code_move_laws.specs.Steps.{IsPlain, IsReady, acted}
+use Rattle.code_move_laws.specs.Steps.{IsPlain, acted}
 use Rattle.code_move_laws.specs.Paths.{Runs}
 
 -- Where the machine goes on, a run goes to the next node, in a store that mirrors where the machine went, and draws what it drew; where
@@ -33,6 +33,6 @@ Steps g table inputs m store next n nodes edges (Over _) = Unit {0}
 abbrev pub StepsRun : Type 0
 StepsRun =
     (g : Setting) (inputs : List ℤ) (x : Instruction) (m : Machine) (store : List ℕ) → IsLaid g → Serves g.model g.objects g.lay x → IsShaped (objects_of g) x
-    → IsFit g.model (objects_of g) x → IsPlain x → IsReady (objects_of g) m.slots x → Mirrors g m.slots (m.st).store store
+    → IsFit g.model (objects_of g) x → IsPlain x → Mirrors g m.slots (m.st).store store
     → (table : Table) (next : NodeId) (n : ℕ) (nodes : List Node) (edges : List Edge) → Checked g table x next n nodes edges → IsTable table → table.cells ≡ widths_of g.lay.cells
     → Steps g table inputs m store next n nodes edges (acted g inputs x m)

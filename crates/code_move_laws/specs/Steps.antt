@@ -1,11 +1,8 @@
 -- What one instruction does to the machine and to the cells.
-use Rattle.std.specs.Prelude.{ℕ, suc, ◌<◌, ◌≡◌, List, [], ◌++◌, take, Option, None, Some, slice_get, ℤ, pos}
-use Rattle.c_typed.specs.Tree.{Object}
-use Rattle.c_typed.specs.Run.{size_of}
+use Rattle.std.specs.Prelude.{suc, ◌≡◌, List, [], ◌++◌, take, ℕ, None, Some, ℤ}
 use Rattle.slot_code.specs.declared.flat.Instruction.{Instruction}
 use Rattle.slot_code.specs.declared.flat.Instruction.TheVariants as i
 use Rattle.slot_code.specs.declared.reply.Ending.TheVariants as ending
-use Rattle.slot_code.specs.Slots.{get}
 use Rattle.slot_code.specs.Machine.{Machine, Next, Goes, Over, act_with}
 use Rattle.slot_laws.specs.Laws.{IsShaped}
 use Rattle.c_graph.specs.Shape.{widths_of}
@@ -18,21 +15,7 @@ use Rattle.cfg_build.specs.Fitting.{IsFit}
 use Rattle.layout_laws.specs.Serve.{Serves}
 use Rattle.code_move_laws.specs.Mirrors.{IsLaid, Mirrors}
 use Rattle.code_move_laws.specs.Doing.{Reaches}
-use Rattle.code_move_laws.specs.Ways.{objects_of, converting, trimming}
-
--- ---- What holds of slots before an instruction
-
--- the number of one of the object's elements
-abbrev pub IsIndexOf : Option Object → ℤ → Type 0
-IsIndexOf o v = (n : ℕ) × (v ≡ pos n) × (n < size_of o)
-
--- where an element is reached through a slot, it holds the element's number
-abbrev pub IsReady : List Object → List ℤ → Instruction → Type 0
-IsReady objects slots (i.Load slot object) = IsIndexOf (slice_get objects object) (get slots slot)
-IsReady objects slots (i.Store slot object) = IsIndexOf (slice_get objects object) (get slots slot)
-IsReady objects slots (i.Update slot o k l at object) = IsIndexOf (slice_get objects object) (get slots slot)
-IsReady objects slots (i.Change slot before by k at object) = IsIndexOf (slice_get objects object) (get slots slot)
-IsReady objects slots _ = Unit {0}
+use Rattle.code_move_laws.specs.Ways.{objects_of, converting, graph_way}
 
 -- an instruction behind which the next one stands
 abbrev pub IsPlain : Instruction → Type 0
@@ -59,10 +42,11 @@ Agrees g inputs x m store (Over (ending.Error kind at taken)) =
     (first_met (failures_of g store x) ≡ Some kind) × (at ≡ offset_of x) × (taken ≡ (m.st).taken)
 Agrees g inputs x m store (Over _) = Unit {0}
 
+-- as the graph computes, in its way
 abbrev pub acted : Setting → List ℤ → Instruction → Machine → Next
-acted g inputs x m = act_with g.model (λ op kind a b. converting g.model op kind a b) inputs (λ object v. trimming g.model (objects_of g) object v) x m.place m.slots m.st
+acted g inputs x m = act_with g.model (λ op kind a b. converting g.model op kind a b) inputs (graph_way g) x m.place m.slots m.st
 
 abbrev pub StepsAgree : Type 0
 StepsAgree =
     (g : Setting) (inputs : List ℤ) (x : Instruction) (m : Machine) (store : List ℕ) → IsLaid g → Serves g.model g.objects g.lay x → IsShaped (objects_of g) x
-    → IsFit g.model (objects_of g) x → IsPlain x → IsReady (objects_of g) m.slots x → Mirrors g m.slots (m.st).store store → Agrees g inputs x m store (acted g inputs x m)
+    → IsFit g.model (objects_of g) x → IsPlain x → Mirrors g m.slots (m.st).store store → Agrees g inputs x m store (acted g inputs x m)

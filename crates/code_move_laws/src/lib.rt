@@ -8,7 +8,7 @@ ghost use Rattle.code_move_laws.specs.Paths.{ChecksFail, ChecksPass};
 ghost use Rattle.code_move_laws.specs.Skips.{EqualSkipsAgree, ZeroSkipsAgree};
 ghost use Rattle.code_move_laws.specs.Stepping.{StepsRun};
 ghost use Rattle.code_move_laws.specs.Steps.{StepsAgree};
-ghost use Rattle.code_move_laws.specs.Trims.{BeginsTrim, BindsTrim, ConvertingAgrees, StoresTrim, TrimmingKeeps};
+ghost use Rattle.code_move_laws.specs.Trims.{BeginsTrim, BindsTrim, ConvertingAgrees, GraphWaySuits, StoresTrim};
 
 /// In the layout of a code all things lie among the cells, each in cells of its own.
 pub fn code_is_laid()
@@ -26,14 +26,14 @@ pub fn zero_skips_agree()
     ensures { ZeroSkipsAgree }
 {}
 
-/// A slot's cell is compared with a value as the machine compares them, where both are of one kind.
+/// A slot's cell is compared with a value as the graph's way compares them.
 pub fn equal_skips_agree()
     ensures { EqualSkipsAgree }
 {}
 
-/// What is trimmed to its own kind stays as it is.
-pub fn trimming_keeps()
-    ensures { TrimmingKeeps }
+/// In the graph's way a typed tree runs as in any other: no value of it tells them apart.
+pub fn graph_way_suits()
+    ensures { GraphWaySuits }
 {}
 
 /// Operands of the operation's kind are not changed by their conversion.

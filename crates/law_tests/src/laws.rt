@@ -118,7 +118,7 @@ fn instructions_and_cells() {
     layout_laws::cells_differ();
     layout_laws::cells_serve();
     code_move_laws::code_is_laid();
-    code_move_laws::trimming_keeps();
+    code_move_laws::graph_way_suits();
     code_move_laws::converting_agrees();
     code_move_laws::stores_trim();
     code_move_laws::begins_trim();

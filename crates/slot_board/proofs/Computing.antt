@@ -56,7 +56,7 @@ module _ (model : Model) (inputs : List ℤ) where
 
   pub changed_computed : (at : ℕ) (before : Bool) (by : Crement) (k : Kind) (e : Element) (st : State) (r : Result ℤ ErrorKind) →
       r ≡ guarded model (crement_op by) (promoted k) (converted (promoted k) model (slice_index_or (values_of st e.object) e.index (pos 0))) (pos 1) →
-      changed model (λ op kind v w. compute_of model op kind v w) inputs at before by k e st
+      changed model (λ op kind v w. compute_of model op kind v w) inputs at before by k e (λ new. new) st
       ≡ after (after (computed at r st) (λ v. write e (converted k model v))) (λ new. give (choose before new (slice_index_or (values_of st e.object) e.index (pos 0))))
   changed_computed at before by k e st r h =
       ap (λ s. after (after (computed at s st) (λ v. write e (converted k model v))) (λ new. give (choose before new (slice_index_or (values_of st e.object) e.index (pos 0))))) (sym h)
@@ -80,14 +80,14 @@ module _ (model : Model) (inputs : List ℤ) where
   pub changed_ok : (place slot at : ℕ) (slots : List ℤ) (before : Bool) (by : Crement) (k : Kind) (e : Element) (st : State) (r : Result ℤ ErrorKind) (v : ℤ) (n : Next) →
       r ≡ guarded model (crement_op by) (promoted k) (converted (promoted k) model (was e st)) (pos 1) → r ≡ Ok v →
       n ≡ Goes (machine (suc place) (put slots slot (choose before (converted k model v) (was e st))) (state_written e (converted k model v) st)) →
-      n ≡ fills place slots slot (changed model (λ op j a b. compute_of model op j a b) inputs at before by k e st)
+      n ≡ fills place slots slot (changed model (λ op j a b. compute_of model op j a b) inputs at before by k e (λ new. new) st)
   changed_ok place slot at slots before by k e st r v n h is g =
       g ∙ sym (ap (fills place slots slot) (changed_computed at before by k e st r h
       ∙ ap (λ s. after (after (computed at s st) (λ w. write e (converted k model w))) (λ new. give (choose before new (was e st)))) is))
 
   pub changed_err : (place slot at : ℕ) (slots : List ℤ) (before : Bool) (by : Crement) (k : Kind) (e : Element) (st : State) (r : Result ℤ ErrorKind) (kind : ErrorKind) →
       r ≡ guarded model (crement_op by) (promoted k) (converted (promoted k) model (was e st)) (pos 1) → r ≡ Err kind →
-      Over (ending.Error kind at st.taken) ≡ fills place slots slot (changed model (λ op j a b. compute_of model op j a b) inputs at before by k e st)
+      Over (ending.Error kind at st.taken) ≡ fills place slots slot (changed model (λ op j a b. compute_of model op j a b) inputs at before by k e (λ new. new) st)
   changed_err place slot at slots before by k e st r kind h is =
       sym (ap (fills place slots slot) (changed_computed at before by k e st r h
       ∙ ap (λ s. after (after (computed at s st) (λ w. write e (converted k model w))) (λ new. give (choose before new (was e st)))) is))

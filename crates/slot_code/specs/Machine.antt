@@ -84,11 +84,12 @@ module _ (model : Model) (compute : Compute) (inputs : List ℤ) where
     v ← applied at o k (converted k model x) y
     write e (converted l model v)
 
-  abbrev pub changed : ℕ → Bool → Crement → Kind → Element → Run ℤ
-  changed at before by k e = do
+  -- the new value is given back so
+  abbrev pub changed : ℕ → Bool → Crement → Kind → Element → (ℤ → ℤ) → Run ℤ
+  changed at before by k e back = do
     old ← read e
     new ← stepped at by k e old
-    give (choose before new old)
+    give (choose before (back new) old)
 
   abbrev pub element_read : ℕ → ℕ → ℕ → ℤ → Run ℤ
   element_read at object count v = do
@@ -131,7 +132,7 @@ module _ (model : Model) (compute : Compute) (inputs : List ℤ) where
     act_with (i.Truth slot) place slots st = fills place slots slot (Value (truth (is_true (get slots slot))) st)
     act_with (i.Binary slot o k at) place slots st = fills place slots slot (applied at o k (get slots slot) (get slots (suc slot)) st)
     act_with (i.Update slot o k l at object) place slots st = fills place slots slot (updated at o k l (way.pick object (get slots slot)) (get slots (suc slot)) (get slots (suc (suc slot))) st)
-    act_with (i.Change slot before by k at object) place slots st = fills place slots slot (changed at before by k (way.pick object (get slots slot)) st)
+    act_with (i.Change slot before by k at object) place slots st = fills place slots slot (changed at before by k (way.pick object (get slots slot)) (way.back object (get slots slot)) st)
     act_with (i.Draw slot k) place slots st = fills place slots slot (draw inputs model k st)
     act_with (i.Fill object k count) place slots st = goes (suc place) slots (filled object k count st)
     act_with (i.Begin slot object count values) place slots st = goes (suc place) slots (store_all object (padded count (slots_through (way.keep object) slots slot values)) st)

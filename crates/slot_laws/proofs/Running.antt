@@ -112,8 +112,8 @@ module _ (model : Model) (compute : Compute) (inputs : List ℤ) where
   pub still_updated : (at : ℕ) (o : BinaryOp) (k l : Kind) (e : Element) (x y : ℤ) (st : State) → Still st (updated model compute inputs at o k l e x y st)
   still_updated at o k l e x y st = still_after ℤ ℤ st (applied model compute inputs at o k (converted k model x) y st) _ (still_applied at o k _ y st) (λ w s. still_write s e _)
 
-  pub still_changed : (at : ℕ) (before : Bool) (by : Crement) (k : Kind) (e : Element) (st : State) → Still st (changed model compute inputs at before by k e st)
-  still_changed at before by k e st = still_after ℤ ℤ st (stepped model compute inputs at by k e (value_in st e) st) _ (still_stepped at by k e (value_in st e) st) (λ w s. still_here s _)
+  pub still_changed : (at : ℕ) (before : Bool) (by : Crement) (k : Kind) (e : Element) (back : ℤ → ℤ) (st : State) → Still st (changed model compute inputs at before by k e back st)
+  still_changed at before by k e back st = still_after ℤ ℤ st (stepped model compute inputs at by k e (value_in st e) st) _ (still_stepped at by k e (value_in st e) st) (λ w s. still_here s _)
 
   -- ---- Ranks
 
@@ -166,7 +166,7 @@ module _ (model : Model) (compute : Compute) (inputs : List ℤ) where
     act_falls (i.Truth slot) place slots st lt = fills_falls place slot slots st _ (still_here st (truth (is_true (get slots slot)))) lt
     act_falls (i.Binary slot o k at) place slots st lt = fills_falls place slot slots st _ (still_applied at o k _ _ st) lt
     act_falls (i.Update slot o k l at object) place slots st lt = fills_falls place slot slots st _ (still_updated at o k l _ _ _ st) lt
-    act_falls (i.Change slot before by k at object) place slots st lt = fills_falls place slot slots st _ (still_changed at before by k _ st) lt
+    act_falls (i.Change slot before by k at object) place slots st lt = fills_falls place slot slots st _ (still_changed at before by k _ _ st) lt
     act_falls (i.Draw slot k) place slots st lt = fills_falls place slot slots st _ (still_drawn k model _ st) lt
     act_falls (i.Fill object k count) place slots st lt = goes_falls place (suc place) slots st _ (still_filled object k count st) (omega arith) lt
     act_falls (i.Begin slot object count values) place slots st lt = goes_falls place (suc place) slots st _ (still_store st object (padded count (slots_through (way.keep object) slots slot values))) (omega arith) lt

@@ -179,9 +179,9 @@ module _ (c : Frame) (t : ℕ) (hc : Called c t) where
         ∙ sym (ap (λ x. ends x k) (goal_after g st (λ a st1. after (value used e st1) (updated c.model c.compute c.inputs at o kind kind' (picked c.way a) (value_in st1 (picked c.way a))))
         (λ n st1. after (value used e st1) (updated c.model c.compute c.inputs at o kind kind' (c.way.pick (object_in g) n) (value_in st1 (c.way.pick (object_in g) n)))) (λ n st1. refl)))
     value_does u d (vChange before by kind at g) lo li = λ p q s st k eq l tu h.
-        unary c t d (goal_code c.objects c.functions c.links d g) (index_of g) (i.Change d before by kind at (object_in g)) (λ n. changed c.model c.compute c.inputs at before by kind (c.way.pick (object_in g) n))
-        (goal_does d g lo li) (λ p s st. refl) (omega arith) (λ n st. still_changed c.model c.compute c.inputs at before by kind (c.way.pick (object_in g) n) st) p q s st k eq l tu h
-        ∙ sym (ap (λ x. ends x k) (goal_after g st (λ a. changed c.model c.compute c.inputs at before by kind (picked c.way a)) (λ n. changed c.model c.compute c.inputs at before by kind (c.way.pick (object_in g) n)) (λ n st1. refl)))
+        unary c t d (goal_code c.objects c.functions c.links d g) (index_of g) (i.Change d before by kind at (object_in g)) (λ n. changed c.model c.compute c.inputs at before by kind (c.way.pick (object_in g) n) (c.way.back (object_in g) n))
+        (goal_does d g lo li) (λ p s st. refl) (omega arith) (λ n st. still_changed c.model c.compute c.inputs at before by kind (c.way.pick (object_in g) n) (c.way.back (object_in g) n) st) p q s st k eq l tu h
+        ∙ sym (ap (λ x. ends x k) (goal_after g st (λ a. changed c.model c.compute c.inputs at before by kind (picked c.way a) (c.way.back a.object (pos a.index))) (λ n. changed c.model c.compute c.inputs at before by kind (c.way.pick (object_in g) n) (c.way.back (object_in g) n)) (λ n st1. refl)))
     value_does u d (vCall result at x f es) lo li = called_does u result f at d (number_of es) li.0.0 (values_code c.objects c.functions c.links d es) (keeping.values c.model c.objects c.compute c.way c.inputs c.call es) li.0.1 (values_do d es lo li.1)
     value_does u d (vReach at) lo li = reach_does d at
     value_does u d vAbort lo li = abort_does d

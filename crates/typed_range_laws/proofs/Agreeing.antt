@@ -199,6 +199,10 @@ module _ (model : Model) (objects : List Object) where
     picks_it : (k : Kind) (e : Element) → Within k e → picked way e ≡ element e.object e.index
     picks_it k e w = suits.picks e.object e.index (subst (λ o. e.index < size_of o) (sym w.1) w.3)
 
+    -- and what was written into it is given back
+    pub backs_it : (k : Kind) (e : Element) (v : ℤ) → Within k e → way.back e.object (pos e.index) v ≡ v
+    backs_it k e v w = suits.backs e.object e.index v (subst (λ o. e.index < size_of o) (sym w.1) w.3)
+
     pub reads_picked : (k : Kind) (e : Element) → Within k e → Alike ℤ (InRange k model) (read (picked way e)) (read e)
     reads_picked k e w = subst (λ x. Alike ℤ (InRange k model) (read x) (read e)) (sym (picks_it k e w)) (reads k e w)
 

@@ -248,7 +248,7 @@ pub plain_agrees : (model : Model) → Agrees model (λ op kind x y. arith_of op
 plain_agrees _ = record { same = λ op kind x y p h r. refl }
 
 pub plain_suits : (model : Model) (objects : List Object) → Suits model objects as_it_is
-plain_suits _ _ = record { keeps = λ object told v there h. refl; picks = λ object n h. refl; tells = λ kind a b h k. refl }
+plain_suits _ _ = record { keeps = λ object told v there h. refl; picks = λ object n h. refl; backs = λ object n value h. refl; tells = λ kind a b h k. refl }
 
 pub runs_each_way : RunsEachWay
 runs_each_way program typed compute agrees way suits turns inputs = ways_same program typed compute (λ op kind x y. arith_of op kind program.model x y) agrees (plain_agrees program.model) way suits turns inputs

@@ -19,7 +19,7 @@ use Rattle.typed_range_laws.specs.Ways.{Agrees, Way, Suits, picked}
 use Rattle.typed_range_laws.specs.Keeping as keeping
 use Rattle.typed_range_laws.proofs.Bounds.{truth_in_range, in_any}
 use Rattle.typed_range_laws.proofs.Ranging.{converted_in_range}
-use Rattle.typed_range_laws.proofs.Agreeing.{Of, Alike, binds, gives, stops, weaker, chosen, Within, scalar_has, array_has, reads, reads_picked, writes_picked, writes_kept, locates, draws, computes, RightIs, applies, steps, Gave}
+use Rattle.typed_range_laws.proofs.Agreeing.{Of, Alike, binds, gives, stops, weaker, chosen, Within, scalar_has, array_has, reads, reads_picked, backs_it, writes_picked, writes_kept, locates, draws, computes, RightIs, applies, steps, Gave}
 
 module _ (model : Model) (objects : List Object) (functions : List Function) (inputs : List ℤ) where
   -- each parameter gets a value of its kind
@@ -164,7 +164,8 @@ module _ (model : Model) (objects : List Object) (functions : List Function) (in
       value_alike u (vChange before b k at g) f =
           binds model objects Element ℤ (Within model objects k) (InRange k model) _ _ _ _ (target_alike k g f)
           (λ x w. binds model objects ℤ ℤ (InRange k model) (InRange k model) (read (picked way x)) (read x) _ _ (reads_picked model objects way suits k x w)
-          (λ old ho. binds model objects ℤ ℤ (InRange k model) (InRange k model) _ _ _ _ (steps model objects compute compute' agrees agrees' way suits b k at x old w) (λ new hn. gives model objects ℤ (InRange k model) (choose before new old) (one_of before new old k hn ho))))
+          (λ old ho. binds model objects ℤ ℤ (InRange k model) (InRange k model) _ _ _ _ (steps model objects compute compute' agrees agrees' way suits b k at x old w) (λ new hn. subst (λ v. Alike model objects ℤ (InRange k model) (give (choose before v old)) (give (choose before new old))) (sym (backs_it model objects way suits k x new w))
+          (gives model objects ℤ (InRange k model) (choose before new old) (one_of before new old k hn ho)))))
         where
           one_of : (c : Bool) (new old : ℤ) (k : Kind) → InRange k model new → InRange k model old → InRange k model (choose c new old)
           one_of true new old k hn ho = hn

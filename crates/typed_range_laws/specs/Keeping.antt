@@ -84,7 +84,7 @@ module _ (model : Model) (objects : List Object) (compute : Compute) (way : Way)
       target ← target_of g
       old ← read (picked way target)
       new ← stepped at by k (picked way target) old
-      give (choose before new old)
+      give (choose before (way.back target.object (pos target.index) new) old)
     value u (vCall result at x f es) = do
       vs ← values es
       v ← call f at vs

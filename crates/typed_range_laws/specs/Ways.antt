@@ -18,12 +18,14 @@ pub record Way : Type 0 where
   pub keep : ℕ → ℤ → ℤ
   -- the element of the object of this number that a number picks
   pub pick : ℕ → ℤ → Element
+  -- what `++` or `--` before the element that a number picks gives, where this value was written into it
+  pub back : ℕ → ℤ → ℤ → ℤ
   -- whether a value is that of a case
   pub same : ℤ → ℤ → Bool
 
--- each value gets there as it is, a number picks the element of this index, and equal values are the same
+-- each value gets there as it is, a number picks the element of this index, whose new value is given back, and equal values are the same
 abbrev pub as_it_is : Way
-as_it_is = record { keep = λ object value. value; pick = λ object number. element object (unsigned_abs number); same = λ a b. int_le a b && int_le b a }
+as_it_is = record { keep = λ object value. value; pick = λ object number. element object (unsigned_abs number); back = λ object number value. value; same = λ a b. int_le a b && int_le b a }
 
 -- the element that was located, as it is picked
 abbrev pub picked : Way → Element → Element
@@ -36,9 +38,10 @@ write_kept way object number v = do
   write (way.pick object number) (way.keep object v)
   give v
 
--- A value of an object's kind gets there as it is, an index of an object picks the element of this index, and of two values of one
--- kind the equal ones are the same.
+-- A value of an object's kind gets there as it is, an index of an object picks the element of this index and gives back what
+-- was written there, and of two values of one kind the equal ones are the same.
 pub record Suits (model : Model) (objects : List Object) (way : Way) : Type 0 where
   pub keeps : (object : ℕ) (told : Object) (value : ℤ) → slice_get objects object ≡ Some told → InRange told.kind model value → way.keep object value ≡ value
   pub picks : (object n : ℕ) → n < size_of (slice_get objects object) → way.pick object (pos n) ≡ element object n
+  pub backs : (object n : ℕ) (value : ℤ) → n < size_of (slice_get objects object) → way.back object (pos n) value ≡ value
   pub tells : (kind : Kind) (a b : ℤ) → InRange kind model a → InRange kind model b → way.same a b ≡ (int_le a b && int_le b a)

@@ -1,0 +1,4 @@
+pub mod Zeros
+pub mod Firsts
+pub mod Objects
+pub mod Whole
