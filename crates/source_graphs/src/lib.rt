@@ -1,6 +1,10 @@
 //! From a file to the graph of its blocks, for programs that measure or try what is done with such graphs.
 #![tactic(auto)]
 
+ghost use Rattle.std.specs.Prelude.{IfOk};
+ghost use Rattle.c_typed.specs.Parts.{tree_of};
+ghost use Rattle.source_graph_laws.specs.Standing.{StandsFor};
+
 use block_join::join_blocks;
 use c_graph::Graph;
 use c_rules::Examined;
@@ -9,6 +13,7 @@ use cfg_build::build;
 use elaboration_laws::sources_read;
 use lv_base::{Memory, Model, SourceFail};
 use lv_outside::{FileFail, Folder, Got, HostFolder};
+use source_graph_laws::inlined_graphs_stand;
 use std::alloc::{AllocError, Global};
 use std::rt::Files;
 
@@ -52,14 +57,24 @@ pub fn examined(alloc: Global, source: &[u8], model: Model) -> Result<Examined, 
     source_checks::accepted(alloc, &unit, model)
 }
 
-/// The graph of a program with each call a copy, a node for each instruction.
-pub fn whole_graph(alloc: Global, examined: &Examined) -> Result<Graph, SourceFail> {
+/// The graph of a program with each call a copy, a node for each instruction: each run of the program that ends in an error has a run
+/// of the graph to that error.
+pub fn whole_graph(alloc: Global, examined: &Examined) -> Result<Graph, SourceFail>
+    ensures { IfOk result (λ g. StandsFor g (tree_of examined.now.typed)) }
+{
+    inlined_graphs_stand();
+    let typed = examined.typed();
+    let _model = typed.model();
+    let _order = examined.order();
     let graphs = build(alloc, examined)?;
+    let _main = graphs.main();
     inline(alloc, &graphs)
 }
 
-/// The graph of a program's blocks.
-pub fn blocks_of(alloc: Global, examined: &Examined) -> Result<Graph, SourceFail> {
+/// The graph of a program's blocks. It stands for the program as the graph of all instructions does.
+pub fn blocks_of(alloc: Global, examined: &Examined) -> Result<Graph, SourceFail>
+    ensures { IfOk result (λ g. StandsFor g (tree_of examined.now.typed)) }
+{
     let graph = whole_graph(alloc, examined)?;
     match join_blocks(alloc, &graph) {
         Ok(blocks) => Ok(blocks),
