@@ -8,4 +8,3 @@ pub mod Stepping
 pub mod Calling
 pub mod Walking
 pub mod Whole
-pub mod Typed
