@@ -84,7 +84,7 @@ module _ (model : Model) (compute : Compute) (inputs : List ℤ) where
     v ← applied at o k (converted k model x) y
     write e (converted l model v)
 
-  -- before the element it gives what comes back of the new value, behind it the old one
+  -- the new value is given back so
   abbrev pub changed : ℕ → Bool → Crement → Kind → Element → (ℤ → ℤ) → Run ℤ
   changed at before by k e back = do
     old ← read e
