@@ -1,5 +1,5 @@
 -- The graphs of a program's functions that follow its flat code.
-use Rattle.std.specs.Prelude.{ℕ, zero, suc, ◌+◌, ◌==◌, ◌≡◌, Bool, true, false, List, [], ◌∷◌, ◌++◌, length, Option, None, Some, ℤ, pos, slice_get}
+use Rattle.std.specs.Prelude.{ℕ, zero, suc, ◌+◌, ◌==◌, ◌≡◌, ◌<◌, Bool, true, false, List, [], ◌∷◌, ◌++◌, length, Option, None, Some, ℤ, pos, slice_get}
 use Rattle.lv_base.specs.Integers.{residue, width_of}
 use Rattle.bv_term.specs.WellFormed.{Table}
 use Rattle.c_typed.specs.declared.tree.Object.{Object}
@@ -111,5 +111,6 @@ pub record ProgramFollows (t : Parts) (order : List ℕ) (p : Flows) : Type 0 wh
   pub stand : ProgramRanges t order ranges
   pub fit : AreFit t.model (tree_of t).objects (program_code t order)
   pub enters : CallsEnter (code_of (tree_of t) order).links (program_code t order)
+  pub short : length (program_code t order) < 18446744073709551616
   pub follow : FirstGraphs (program_code t order) numbers ranges p.main (program_setting t order) p.terms (length ranges) p.graphs p.exits
   pub cells : p.cells ≡ (program_setting t order).lay.cells
