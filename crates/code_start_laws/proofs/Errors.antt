@@ -7,6 +7,6 @@ use Rattle.code_start_laws.specs.Errors.{ProgramErrorsFollow}
 use Rattle.code_start_laws.proofs.Whole.{program-opens}
 
 pub program-errors-follow : ProgramErrorsFollow
-program-errors-follow t order p inputs turns kind at taken typed stands flows follow few run =
+program-errors-follow t order p inputs turns kind at taken typed stands flows follow run =
     let cells : length (program_setting t order).lay.cells < 4294967296 = subst (λ (cs : List Cell). length cs < 4294967296) follow.cells flows.few_cells in
-    typed-errors-follow t order p inputs turns kind at taken typed stands flows follow few (λ l e. program-opens t order l turns typed cells few) run
+    typed-errors-follow t order p inputs turns kind at taken typed stands flows follow follow.short (λ l e. program-opens t order l turns typed cells follow.short) run
