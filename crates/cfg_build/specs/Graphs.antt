@@ -103,7 +103,7 @@ abbrev pub program_setting : Parts → List ℕ → Setting
 program_setting t order = record { objects = t.objects; model = t.model; lay = layout_of t.objects t.model (program_code t order) (slots_in (program_code t order)) }
 
 -- the graphs of all functions follow the program's code, each from its function's entry on, for some numbers of nodes; `main` is that
--- of the program
+-- of the program; each instruction is fit, each call goes to the entry of a function, and the code is not too long
 pub record ProgramFollows (t : Parts) (order : List ℕ) (p : Flows) : Type 0 where
   pub numbers : List ℕ
   pub ranges : List Range
