@@ -1,7 +1,9 @@
 -- What holds of each place so far, and the places at which functions begin.
-use Rattle.std.proofs.Common.{◌≡◌, ◌⊎◌, inl, inr, ℕ, zero, suc, ◌<◌, ◌≤◌, List, [], ◌∷◌, length, Some, slice_get, sym, ap, ◌∙◌, subst, arith}
+use Rattle.std.proofs.Common.{◌≡◌, ◌⊎◌, inl, inr, ℕ, zero, suc, ◌<◌, ◌≤◌, List, [], ◌∷◌, length, Some, slice_get, sym, ap, ◌∙◌, subst, arith, Bool, Result, Ok, Err}
+use Rattle.std.specs.Prelude.{IfOk, IsTrue}
 use Rattle.std.proofs.lemmas.Bool.{cases_lt}
 use Rattle.std.proofs.lemmas.Option.{same_Some, none-some, slice_get_within}
+use Rattle.lv_base.specs.declared.fail.Memory.{Memory}
 use Rattle.slot_code.specs.Values as c
 use Rattle.slot_code.specs.declared.flat.Instruction.{Instruction}
 use Rattle.slot_code.specs.declared.flat.Instruction.TheVariants as i
@@ -46,3 +48,9 @@ link-enters xs n place x e f = subst (λ (p : ℕ). IsEntry (links_of xs) p) f (
 
 pub calls-enter : (links : List c.Link) (code : List Instruction) → ((place : ℕ) (x : Instruction) → slice_get code place ≡ Some x → Enters links x) → CallsEnter links code
 calls-enter links code h place at goal slot e = h place (i.Call at goal slot) e
+
+-- ---- What is tested one after the other
+
+pub fits-with : (r : Result Bool Memory) (A B C : Type 0) → A → C → IfOk r (λ b. IsTrue b → B) → IfOk r (λ b. IsTrue b → A × B × C)
+fits-with (Err e) A B C a c h = tt
+fits-with (Ok b) A B C a c h = λ t. (a, h t, c)

@@ -154,14 +154,17 @@ ranges-stand t order code slots ranges e f h =
 pub record Tested (t : Parts) (order : List ℕ) (ranges : List Range) (main : ℕ) : Type 0 where
   pub number : main_number (tree_of t).functions ≡ Some main
   pub stand : ProgramRanges t order ranges
-  pub few : length (program_code t order) ≤ 4294967295
   pub fit : AreFit t.model (tree_of t).objects (program_code t order)
   pub enters : CallsEnter (code_of (tree_of t) order).links (program_code t order)
+  pub short : length (program_code t order) < 18446744073709551616
+
+-- what is tested of code alone
+abbrev pub IsFitting : Parts → List ℕ → Code → Type 0
+IsFitting t order code = AreFit t.model (tree_of t).objects code.instructions × CallsEnter code.links code.instructions × (length code.instructions < 18446744073709551616)
 
 -- code that is the program's
-pub fit-stand : (t : Parts) (order : List ℕ) (code : Code) → code ≡ code_of (tree_of t) order → AreFit t.model (tree_of t).objects code.instructions × CallsEnter code.links code.instructions
-    → AreFit t.model (tree_of t).objects (program_code t order) × CallsEnter (code_of (tree_of t) order).links (program_code t order)
-fit-stand t order code e h = subst (λ (c : Code). AreFit t.model (tree_of t).objects c.instructions × CallsEnter c.links c.instructions) e h
+pub fit-stand : (t : Parts) (order : List ℕ) (code : Code) → code ≡ code_of (tree_of t) order → IsFitting t order code → IsFitting t order (code_of (tree_of t) order)
+fit-stand t order code e h = subst (λ (c : Code). IsFitting t order c) e h
 
 pub program-follows : (t : Parts) (order : List ℕ) (p : Flows) (code : List Instruction) (numbers : List ℕ) (ranges : List Range) (s : Setting) (gs hs : List FnFlow) (xs : List NodeId) (cells : List Cell) (T : Table) (main : ℕ)
     → AreFlows p → (p ≡ record { graphs = hs; cells = cells; terms = T; exits = xs; main = main }) ⊎ (p ≡ error_flows)
@@ -178,9 +181,9 @@ program-follows t order p code numbers ranges s gs hs xs cells T main w (inl e) 
       ranges = ranges;
       main = h.0.number;
       stand = h.0.stand;
-      few = h.0.few;
       fit = h.0.fit;
       enters = h.0.enters;
+      short = h.0.short;
       follow = subst (λ (z : List FnFlow). FirstGraphs (program_code t order) numbers ranges main (program_setting t order) T (length ranges) z xs) (sym h.1)
           (subst (λ (z : Setting). FirstGraphs (program_code t order) numbers ranges main z T (length ranges) gs xs) q (subst (λ (z : List Instruction). FirstGraphs z numbers ranges main s T (length ranges) gs xs) r k));
       cells = f ∙ ap (λ (z : Setting). z.lay.cells) q;

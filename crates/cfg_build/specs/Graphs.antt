@@ -1,5 +1,5 @@
 -- The graphs of a program's functions that follow its flat code.
-use Rattle.std.specs.Prelude.{ℕ, zero, suc, ◌+◌, ◌==◌, ◌≤◌, ◌≡◌, Bool, true, false, List, [], ◌∷◌, ◌++◌, length, Option, None, Some, ℤ, pos, slice_get}
+use Rattle.std.specs.Prelude.{ℕ, zero, suc, ◌+◌, ◌==◌, ◌≡◌, ◌<◌, Bool, true, false, List, [], ◌∷◌, ◌++◌, length, Option, None, Some, ℤ, pos, slice_get}
 use Rattle.lv_base.specs.Integers.{residue, width_of}
 use Rattle.bv_term.specs.WellFormed.{Table}
 use Rattle.c_typed.specs.declared.tree.Object.{Object}
@@ -103,14 +103,14 @@ abbrev pub program_setting : Parts → List ℕ → Setting
 program_setting t order = record { objects = t.objects; model = t.model; lay = layout_of t.objects t.model (program_code t order) (slots_in (program_code t order)) }
 
 -- the graphs of all functions follow the program's code, each from its function's entry on, for some numbers of nodes; `main` is that
--- of the program
+-- of the program; each instruction is fit, each call goes to the entry of a function, and the code is not too long
 pub record ProgramFollows (t : Parts) (order : List ℕ) (p : Flows) : Type 0 where
   pub numbers : List ℕ
   pub ranges : List Range
   pub main : main_number (tree_of t).functions ≡ Some p.main
   pub stand : ProgramRanges t order ranges
-  pub few : length (program_code t order) ≤ 4294967295
   pub fit : AreFit t.model (tree_of t).objects (program_code t order)
   pub enters : CallsEnter (code_of (tree_of t) order).links (program_code t order)
+  pub short : length (program_code t order) < 18446744073709551616
   pub follow : FirstGraphs (program_code t order) numbers ranges p.main (program_setting t order) p.terms (length ranges) p.graphs p.exits
   pub cells : p.cells ≡ (program_setting t order).lay.cells

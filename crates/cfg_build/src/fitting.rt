@@ -1,7 +1,7 @@
 //! What holds of each instruction of a program's code, and of its calls. It is tried at each place, so that no proof has to follow how
 //! code is made.
 
-ghost use Rattle.std.specs.Prelude.{◌≡◌, ◌≤◌, true, false, length, map, slice_get, IfOk, IsTrue};
+ghost use Rattle.std.specs.Prelude.{◌≡◌, ◌<◌, length, true, false, map, slice_get, IfOk, IsTrue};
 ghost use Rattle.lv_base.specs.declared.kind.Model.{Model};
 ghost use Rattle.lv_base.specs.Integers as int;
 ghost use Rattle.c_run.specs.Operators as operators;
@@ -185,23 +185,11 @@ fn calls_enter(alloc: Global, links: &[Link], code: &[Instruction]) -> Result<bo
     Ok(all_enter(links, &beginnings, code))
 }
 
-// Whether each place has a number of 32 bits.
-fn is_numbered(code: &[Instruction]) -> bool
-    ensures { IsTrue result → length code.now ≤ 4294967295 }
-{
-    code.len() <= u32::MAX as usize
-}
-
-/// Whether each instruction of the code is fit, each call goes to the entry of a function, and each place has a number of 32 bits: in the
-/// code of a program all that is so.
+/// Whether each instruction of the code is fit, and each call goes to the entry of a function: in the code of a program all that is so.
 pub(crate) fn is_fitting(alloc: Global, objects: &[Object], code: &Code) -> Result<bool, Memory>
-    ensures fit { (model : Model) → IfOk result (λ b. IsTrue b → AreFit model (map v.object_of objects.now) code.now.instructions.items
-        × CallsEnter (links_of code.now.links.items) code.now.instructions.items) }
-    ensures few { IfOk result (λ b. IsTrue b → length code.now.instructions.items ≤ 4294967295) }
+    ensures { (model : Model) → IfOk result (λ b. IsTrue b → AreFit model (map v.object_of objects.now) code.now.instructions.items
+        × CallsEnter (links_of code.now.links.items) code.now.instructions.items × (length code.now.instructions.items < 18446744073709551616)) }
 {
-    if !is_numbered(&code.instructions) {
-        return Ok(false);
-    }
     if !are_fit(objects, &code.instructions) {
         return Ok(false);
     }

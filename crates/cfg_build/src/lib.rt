@@ -21,9 +21,9 @@
 //! **Contracts.** `specs/Steps` and `specs/Follows` say what stands for each instruction at its place, by the meaning of terms in every
 //! store, and `specs/Graphs` what the graph of each function is; numbers of nodes and the functions that are called are guessed, and
 //! tested where they are used. `specs/Ranges` says where the code of each function stands, and `specs/Fitting` that constants, kinds
-//! and numbers of elements fit their objects and that each call goes to the entry of a function; both are tested too. So the graphs of all functions follow the
-//! code, each from its function's entry on, and `main`'s is that of the program's `main`; or there are none. Not said are the nodes of
-//! its loops, nor that `build` answers these graphs.
+//! and numbers of elements fit their objects and that each call goes to the entry of a function; both are tested too. So the graphs of
+//! all functions follow the code, each from its function's entry on, and `main`'s is that of the program's `main`; or there are none. Not
+//! said are the nodes of its loops, nor that `build` answers these graphs.
 #![tactic(auto)]
 
 mod building;

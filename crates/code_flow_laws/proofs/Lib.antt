@@ -8,3 +8,4 @@ pub mod Stepping
 pub mod Calling
 pub mod Walking
 pub mod Whole
+pub mod Typed

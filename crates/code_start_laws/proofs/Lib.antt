@@ -2,4 +2,4 @@ pub mod Zeros
 pub mod Firsts
 pub mod Objects
 pub mod Whole
-pub mod Typed
+pub mod Errors

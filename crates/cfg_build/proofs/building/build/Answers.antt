@@ -1,4 +1,4 @@
-use Rattle.std.proofs.Common.{rules, ◌≡◌, ◌≤◌, ◌⊎◌, List, [], length, map, Some, sym, ap, ◌∙◌, subst}
+use Rattle.std.proofs.Common.{rules, ◌≡◌, ◌<◌, ◌⊎◌, List, [], length, map, Some, sym, ap, ◌∙◌, subst}
 use Rattle.std.specs.Prelude.{IsTrue}
 use Rattle.bv_term.specs.WellFormed.{Table}
 use Rattle.c_terms.specs.Shown.{Grows}
@@ -15,7 +15,7 @@ use Rattle.slot_compiler.specs.Seen.{code_of}
 use Rattle.cfg_build.specs.Ranges.{AreRanges, ProgramRanges}
 use Rattle.cfg_build.specs.Fitting.{AreFit, CallsEnter}
 use Rattle.cfg_build.specs.Graphs.{FirstGraphs, program_code, program_setting}
-use Rattle.cfg_build.proofs.Graphing.{Tested, program-follows, either-follows, setting-is, stands-by, stand-both, stand-by, ranges-stand, fit-stand}
+use Rattle.cfg_build.proofs.Graphing.{Tested, IsFitting, program-follows, either-follows, setting-is, stands-by, stand-both, stand-by, ranges-stand, fit-stand}
 use Rattle.cfg_build.proofs.building.build.Goals as goal
 
 pub returns : goal.returns
@@ -55,15 +55,15 @@ returns c =
     let first : (IsTrue c.is_sound.result × (hs ≡ gs)) ⊎ (hs ≡ []) = search rules in
     let second : (IsTrue c.is_placed.result × (is ≡ hs)) ⊎ (is ≡ []) = search rules in
     let third : (IsTrue c.in_ok-passed.passed × (js ≡ is)) ⊎ (js ≡ []) = search rules in
-    let fitting : IsTrue c.in_ok-passed.passed → AreFit t.model (tree_of t).objects (program_code t order) × CallsEnter (p.code_of (tree_of t) order).links (program_code t order) = λ b.
+    let fitting : IsTrue c.in_ok-passed.passed → IsFitting t order (p.code_of (tree_of t) order) = λ b.
     fit-stand t order (code_of c.in_ok-code.code) whole
-    (subst (λ (os : List Object). AreFit t.model (map object_of os) code × CallsEnter (links_of c.in_ok-code.code.links.items) code) objects_are (c.in_ok-passed.ensures.fit t.model b)) in
+    (subst (λ (os : List Object). AreFit t.model (map object_of os) code × CallsEnter (links_of c.in_ok-code.code.links.items) code × (length code < 18446744073709551616)) objects_are (c.in_ok-passed.ensures t.model b)) in
     let tested : (IsTrue c.is_sound.result × IsTrue c.is_placed.result) × IsTrue c.in_ok-passed.passed → Tested t order rs m = λ b. record {
       number = (placed b.0.1).0;
       stand = (placed b.0.1).1;
-      few = subst (λ (xs : List Instruction). length xs ≤ 4294967295) is_code (c.in_ok-passed.ensures.few b.1);
       fit = (fitting b.1).0;
       enters = (fitting b.1).1;
+      short = (fitting b.1).2;
     } in
     let stand = stand-by _ _ _ _ tested (stand-both _ _ gs is js (stand-both _ _ gs hs is first second) third) in
     program-follows t order c.in_ok-function_graphs_from.field-0 c.deref-5.result.now c.deref-6.result.now c.deref-8.result.now s

@@ -15,19 +15,14 @@ use Rattle.code_move_laws.proofs.Trimming.{converting-agrees}
 use Rattle.code_move_laws.proofs.Suiting.{graph-way-suits}
 use Rattle.cfg_build.specs.Graphs.{program_code, program_setting}
 use Rattle.function_runs.specs.Runs.{FunctionsFail}
-use Rattle.code_flow_laws.specs.Followed.{links_in}
-use Rattle.code_start_laws.specs.Errors.{TypedErrorsFollow}
-use Rattle.code_start_laws.proofs.Whole.{program-opens}
+use Rattle.code_flow_laws.specs.Followed.{links_in, TypedErrorsFollow}
 use Rattle.code_flow_laws.proofs.Whole.{errors-follow}
 
 pub typed-errors-follow : TypedErrorsFollow
-typed-errors-follow t order p inputs turns kind at taken typed stands flows follow few run = by_link (link_of p.main (links_in t order)) refl runs
+typed-errors-follow t order p inputs turns kind at taken typed stands flows follow few opened run = by_link (link_of p.main (links_in t order)) refl runs
   where
-    cells-few : length (program_setting t order).lay.cells < 4294967296
-    cells-few = subst (λ (cs : List Cell). length cs < 4294967296) follow.cells flows.few_cells
-
     is-laid : IsLaid (program_setting t order)
-    is-laid = laid t.objects t.model (program_code t order) (slots_in (program_code t order)) (omega arith) cells-few
+    is-laid = laid t.objects t.model (program_code t order) (slots_in (program_code t order)) (omega arith) (subst (λ (cs : List Cell). length cs < 4294967296) follow.cells flows.few_cells)
 
     Ends : Option Link → Type 0
     Ends o =
@@ -41,4 +36,4 @@ typed-errors-follow t order p inputs turns kind at taken typed stands flows foll
 
     by_link : (o : Option Link) → link_of p.main (links_in t order) ≡ o → Ends o → FunctionsFail p (take taken inputs) kind at
     by_link None e ends = absurd cc
-    by_link (Some l) e ends = errors-follow t order p [] inputs turns l kind at taken typed flows follow few e (program-opens t order l turns typed cells-few few) ends
+    by_link (Some l) e ends = errors-follow t order p [] inputs turns l kind at taken typed flows follow few e (opened l e) ends

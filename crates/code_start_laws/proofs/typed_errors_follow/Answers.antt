@@ -1,5 +1,0 @@
-use Rattle.code_start_laws.proofs.Typed as law
-use Rattle.code_start_laws.proofs.typed_errors_follow.Goals as goal
-
-pub returns : goal.returns
-returns c = law.typed-errors-follow
