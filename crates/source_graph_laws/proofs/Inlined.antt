@@ -1,5 +1,5 @@
 -- A program's run to an error goes by its flat code and the graphs of its functions to the graph of the whole.
-use Rattle.std.proofs.Common.{◌≡◌, ◌⊎◌, inl, inr, ℕ, List, [], sym, subst, arith}
+use Rattle.std.proofs.Common.{◌≡◌, ◌⊎◌, inl, inr, ℕ, List, [], sym, subst}
 use Rattle.std.specs.Prelude.{take}
 use Rattle.lv_base.specs.declared.fault.ErrorKind.TheVariants.{Reach}
 use Rattle.c_typed.specs.Facts.{IsTyped}
@@ -13,8 +13,7 @@ use Rattle.cfg_build.specs.Graphs.{ProgramFollows}
 use Rattle.function_runs.specs.Runs.{FunctionsFail}
 use Rattle.inline_laws.proofs.Copies.{inlined_runs_follow}
 use Rattle.run_replay.proofs.Orders.{orders_agree}
-use Rattle.code_flow_laws.proofs.Typed.{typed_errors_follow}
-use Rattle.code_start_laws.proofs.Opening.{program_opens}
+use Rattle.code_start_laws.proofs.Errors.{program_errors_follow}
 use Rattle.source_graph_laws.specs.Standing.{ErrorsFollow, MeetsSome, StandsFor}
 use Rattle.source_graph_laws.specs.Laws.{InlinedGraphsStand}
 use Rattle.source_graph_laws.proofs.Errors.{error_meets, error_functions_fail}
@@ -22,7 +21,7 @@ use Rattle.source_graph_laws.proofs.Errors.{error_meets, error_functions_fail}
 followed : (t : Parts) (order : List ℕ) (p : Flows) (g : Flow) → IsTyped (tree_of t) → IsOrder (callees (tree_of t)) order → AreFlows p → ProgramFollows t order p → IsInlining p g → ErrorsFollow (tree_of t) g
 followed t order p g typed ordered flows follows is turns inputs kind at taken ends =
     inlined_runs_follow p g (take taken inputs) kind at is
-    (typed_errors_follow t order p inputs turns kind at taken typed (orders_agree (tree_of t) order ordered) flows follows (omega (arith, follows.few)) (λ l main. program_opens t order p turns l typed follows main) ends)
+    (program_errors_follow t order p inputs turns kind at taken typed (orders_agree (tree_of t) order ordered) flows follows ends)
 
 errs : (p : Flows) (g : Flow) → p ≡ error_flows → IsInlining p g → MeetsSome g
 errs p g e is = ([], (Reach, (0, inlined_runs_follow p g [] Reach 0 is (subst (λ (q : Flows). FunctionsFail q [] Reach 0) (sym e) error_functions_fail))))
