@@ -1,5 +1,6 @@
 pub mod AcceptedLaws
 pub mod CauseLaws
+pub mod HeadlineLaws
 pub mod MeaningLaws
 pub mod ReachingLaws
 pub mod WordLaws

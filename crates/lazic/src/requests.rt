@@ -2,6 +2,7 @@
 ghost use Rattle.std.specs.Prelude.{◌≡◌};
 ghost use Rattle.lv_outside.specs.Counts.{Rose};
 ghost use Rattle.request_words.specs.Views.{asked_by};
+ghost use Rattle.lazic.specs.Headline.{Headline};
 ghost use Rattle.lazic.specs.Told.{ToldOf, kept_in, kept_when};
 
 use crate::report::{Kept, Report};
@@ -21,7 +22,8 @@ pub(crate) fn answer_asked<R: Threads + Sync, F: Folder, S: Sink, G: Gate>(
     out: &mut S,
     gate: &G,
 ) -> Report
-    ensures { ToldOf (F.tells folder.old) (S.tells out.new) (Rose (F.read_faults folder.old) (F.read_faults folder.new)) (Rose (F.write_faults folder.old) (F.write_faults folder.new)) (Rose (S.faults out.old) (S.faults out.new)) (F.file folder.old) (F.file folder.new) (S.text out.old) (S.text out.new) result.status result.kept (asked_by asked.entry) }
+    ensures told { ToldOf (F.tells folder.old) (S.tells out.new) (Rose (F.read_faults folder.old) (F.read_faults folder.new)) (Rose (F.write_faults folder.old) (F.write_faults folder.new)) (Rose (S.faults out.old) (S.faults out.new)) (F.file folder.old) (F.file folder.new) (S.text out.old) (S.text out.new) result.status result.kept (asked_by asked.entry) }
+    ensures headline { Headline (F.tells folder.old) (asked_by asked.entry) (F.file folder.old) result.status result.kept }
 {
     let told = answer(rt, alloc, asked, folder, out, gate);
     reported(told)

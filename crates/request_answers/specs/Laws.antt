@@ -14,8 +14,11 @@ use Rattle.cert_text.specs.Reading.{read_cert_of}
 use Rattle.cert_verdicts.specs.Judged.{IsCertificate}
 use Rattle.source_verdicts.specs.Verified.{IsProved}
 use Rattle.source_reading.specs.Reading.{source_read}
+use Rattle.verdicts.specs.declared.verdict.Verdict.{Verdict}
 use Rattle.verdicts.specs.declared.verdict.Verdict.TheVariants.{Safe, Unsafe, Accepted}
-use Rattle.request_answers.specs.Answers.{IsCheckAnswer, IsVerifyAnswer}
+use Rattle.request_words.specs.Asked.{Asked, Check, Verify}
+use Rattle.verdicts.specs.Lines.{status_of}
+use Rattle.request_answers.specs.Answers.{IsAnswer, IsCheckAnswer, IsVerifyAnswer}
 
 -- A certificate is accepted only where its bytes are read to one of the source under the model, which is accepted on the graph
 -- that was made of the source's tree: no run of that graph meets an error.
@@ -32,17 +35,26 @@ SafeIsProved =
     (before behind : ℕ) (model : Model) (units learn : ℕ) (source text : List ℕ) → IsVerifyAnswer (Rose before behind) model units learn source (Safe text)
     → (tree : Items) × (source_read model source ≡ Ok tree) × ((g : Flow) × IsFlow g × IsProved g source model text)
 
--- A certificate is accepted only of a source that is secure: no run of it meets an error, with whatever inputs.
+-- a source that is read without a refusal, and no run of which meets an error, whatever the inputs are
+abbrev pub IsSecure : Model → List ℕ → Type 0
+IsSecure model source = (tree : Items) × (source_read model source ≡ Ok tree) × Secure tree model
+
+-- A certificate is accepted only of a secure source.
 abbrev pub AcceptedIsSecure : Type 0
-AcceptedIsSecure =
-    (before behind : ℕ) (model : Model) (source bytes : List ℕ) → IsCheckAnswer (Rose before behind) model source bytes Accepted
-    → (tree : Items) × (source_read model source ≡ Ok tree) × Secure tree model
+AcceptedIsSecure = (before behind : ℕ) (model : Model) (source bytes : List ℕ) → IsCheckAnswer (Rose before behind) model source bytes Accepted → IsSecure model source
 
 -- A source is called safe only where it is secure.
 abbrev pub SafeIsSecure : Type 0
-SafeIsSecure =
-    (before behind : ℕ) (model : Model) (units learn : ℕ) (source text : List ℕ) → IsVerifyAnswer (Rose before behind) model units learn source (Safe text)
-    → (tree : Items) × (source_read model source ≡ Ok tree) × Secure tree model
+SafeIsSecure = (before behind : ℕ) (model : Model) (units learn : ℕ) (source text : List ℕ) → IsVerifyAnswer (Rose before behind) model units learn source (Safe text) → IsSecure model source
+
+-- the source that is asked about is secure
+abbrev pub IsSecureFor : Asked → (List ℕ → List ℕ) → Type 0
+IsSecureFor (Check c) file = IsSecure c.model (file c.source)
+IsSecureFor (Verify w) file = IsSecure w.model (file w.source)
+
+-- The status 0 is that of SAFE and ACCEPTED alone: so it means that the source is secure.
+abbrev pub ZeroIsSecure : Type 0
+ZeroIsSecure = (before behind : ℕ) (asked : Asked) (file : List ℕ → List ℕ) (v : Verdict) → IsAnswer (Rose before behind) asked file v → status_of v ≡ 0 → IsSecureFor asked file
 
 -- A source is called unsafe only with values that reach the error at its place in it.
 abbrev pub UnsafeReaches : Type 0

@@ -1,0 +1,59 @@
+-- What is told of a verdict means what the verdict means.
+use Rattle.std.proofs.Common.{◌≡◌, ◌⊎◌, ◌∙◌, inl, inr, refl, sym, ap, subst, ℕ, ◌==◌, ◌||◌, Bool, true, false, if◌then◌else◌, List, ℤ, Ok}
+use Rattle.lv_outside.specs.Counts.{Rose}
+use Rattle.lv_base.specs.declared.place.Place.{Place}
+use Rattle.lv_base.specs.declared.fault.ErrorKind.{ErrorKind}
+use Rattle.request_words.specs.Asked.{Asked, Check, Verify}
+use Rattle.verdicts.specs.Lines.{status_of}
+use Rattle.verdicts.specs.declared.verdict.Verdict.{Verdict}
+use Rattle.verdicts.specs.declared.verdict.Verdict.TheVariants as verdict
+use Rattle.request_answers.specs.Answers.{IsAnswer}
+use Rattle.request_answers.specs.Laws.{IsSecureFor}
+use Rattle.request_answers.proofs.Security.{zero_secure, check_not_unsafe}
+use Rattle.request_answers.proofs.Verifications.{unsafe_reached}
+use Rattle.lazic.specs.declared.report.Kept.{Kept}
+use Rattle.lazic.specs.declared.report.Kept.TheVariants as kept
+use Rattle.lazic.specs.Told.{IsTold, ToldOf, kept_in, kept_when}
+use Rattle.lazic.specs.Headline.{Headline, IsReachedFor}
+
+zero_told : (status : ℕ) (v : Verdict) → (status ≡ 14) ⊎ ((status ≡ 15) ⊎ (status ≡ status_of v)) → status ≡ 0 → status_of v ≡ 0
+zero_told status v (inl e) z = absurd (let both : 14 ≡ 0 = sym e ∙ z in cc)
+zero_told status v (inr (inl e)) z = absurd (let both : 15 ≡ 0 = sym e ∙ z in cc)
+zero_told status v (inr (inr e)) z = sym e ∙ z
+
+-- a verdict of which values are kept
+abbrev IsUnsafe : Verdict → List ℤ → Type 0
+IsUnsafe v values = (kind : ErrorKind) × (place : Place) × (text : List ℕ) × (v ≡ verdict.Unsafe kind place values text)
+
+kept_verdict : (v : Verdict) (values : List ℤ) → kept_in v ≡ kept.Unsafe values → IsUnsafe v values
+kept_verdict (verdict.Unsafe kind place given text) values e = let same : given ≡ values = cc in (kind, place, text, ap (λ (vs : List ℤ). verdict.Unsafe kind place vs text) same)
+kept_verdict (verdict.Safe text) values e = absurd (cc)
+kept_verdict (verdict.Over number count) values e = absurd (cc)
+kept_verdict (verdict.OutOfUnits n) values e = absurd (cc)
+kept_verdict (verdict.OutOfLearn n) values e = absurd (cc)
+kept_verdict verdict.Unreplayed values e = absurd (cc)
+kept_verdict (verdict.Unproved n) values e = absurd (cc)
+kept_verdict verdict.Accepted values e = absurd (cc)
+kept_verdict (verdict.Rejected r) values e = absurd (cc)
+kept_verdict (verdict.Faulty fault place) values e = absurd (cc)
+kept_verdict verdict.ReadFault values e = absurd (cc)
+kept_verdict verdict.NoMemory values e = absurd (cc)
+
+kept_by : (b : Bool) (v : Verdict) (values : List ℤ) → (if b then kept.Nothing else kept_in v) ≡ kept.Unsafe values → IsUnsafe v values
+kept_by true v values e = absurd (cc)
+kept_by false v values e = kept_verdict v values e
+
+reached : (before behind : ℕ) (asked : Asked) (file : List ℕ → List ℕ) (v : Verdict) (values : List ℤ) → IsAnswer (Rose before behind) asked file v → IsUnsafe v values → IsReachedFor asked file values
+reached before behind (Check c) file v values h u =
+    check_not_unsafe (Rose before behind) c.model (file c.source) (file c.cert) u.0 u.1 values u.2 (subst (λ (x : Verdict). IsAnswer (Rose before behind) (Check c) file x) u.3 h)
+reached before behind (Verify w) file v values h u =
+    let r = unsafe_reached before behind w.model w.units w.learn (file w.source) u.0 u.1 values u.2 (subst (λ (x : Verdict). IsAnswer (Rose before behind) (Verify w) file x) u.3 h) in
+    (r.0, r.1, (u.0, (r.2, r.4)))
+
+pub told_means :
+    (files_told text_told write_rose put_rose : Type 0) (before behind : ℕ) (asked : Asked) (old new : List ℕ → List ℕ) (text_before text_after : List ℕ) (status : ℕ) (k : Kept)
+    → ToldOf files_told text_told (Rose before behind) write_rose put_rose old new text_before text_after status k asked → Headline files_told asked old status k
+told_means files_told text_told write_rose put_rose before behind asked old new text_before text_after status k (v, t) = record {
+  safe = λ f z. zero_secure before behind asked old v (t.answer f) (zero_told status v t.told z);
+  unsafe = λ f values e. reached before behind asked old v values (t.answer f) (kept_by ((status == 14) || (status == 15)) v values (sym t.keeps ∙ e));
+}
