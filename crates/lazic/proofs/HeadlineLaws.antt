@@ -48,7 +48,7 @@ reached before behind (Check c) file v values h u =
     check_not_unsafe (Rose before behind) c.model (file c.source) (file c.cert) u.0 u.1 values u.2 (subst (λ (x : Verdict). IsAnswer (Rose before behind) (Check c) file x) u.3 h)
 reached before behind (Verify w) file v values h u =
     let r = unsafe_reached before behind w.model w.units w.learn (file w.source) u.0 u.1 values u.2 (subst (λ (x : Verdict). IsAnswer (Rose before behind) (Verify w) file x) u.3 h) in
-    (r.0, r.1, (u.0, (r.2, r.4)))
+    (r.0, r.1, (u.0, (r.2.0, r.2.2)))
 
 pub told_means :
     (files_told text_told write_rose put_rose : Type 0) (before behind : ℕ) (asked : Asked) (old new : List ℕ → List ℕ) (text_before text_after : List ℕ) (status : ℕ) (k : Kept)

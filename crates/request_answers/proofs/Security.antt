@@ -25,8 +25,8 @@ use Rattle.request_answers.proofs.Judgements.{judged_accepted, judgement_is}
 secure_by : (model : Model) (source : List ℕ) (p : Program) (g : Flow) → (replay : IsReplay model source p) → StandsFor g p → HasNoErrors g → Secure replay.tree model
 secure_by model source p g replay (inl follow) none inputs kind at reaches =
     let met = follow reaches.turns inputs kind at (length inputs) (replay.runs reaches.turns inputs ∙ reaches.ends) in
-    none (take (length inputs) inputs) met.0 kind at met.1 met.2 met.3
-secure_by model source p g replay (inr some) none inputs kind at reaches = none some.0 some.3 some.1 some.2 some.4 some.5 some.6
+    none (take (length inputs) inputs) met.0 kind at met.1.0 met.1.1 met.1.2
+secure_by model source p g replay (inr some) none inputs kind at reaches = none some.0 some.3.0 some.1 some.2 some.3.1.0 some.3.1.1 some.3.1.2
 
 pub accepted_secure : AcceptedIsSecure
 accepted_secure before behind model source bytes (too_long h is) = absurd (cc)
