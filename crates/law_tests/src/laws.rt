@@ -131,6 +131,10 @@ fn instructions_and_cells() {
     code_move_laws::checks_fail();
     code_move_laws::steps_run();
     code_flow_laws::flat_errors_follow();
+    code_flow_laws::typed_errors_follow();
+    code_start_laws::program_opens();
+    code_start_laws::program_errors_follow();
+    source_graph_laws::inlined_graphs_stand();
 }
 
 #[test]
@@ -358,6 +362,9 @@ fn formulas_along_paths() {
 #[test]
 fn answers_to_requests() {
     request_answers::accepted_is_certified();
+    request_answers::accepted_is_secure();
     request_answers::safe_is_proved();
+    request_answers::safe_is_secure();
+    request_answers::zero_is_secure();
     request_answers::unsafe_reaches();
 }
