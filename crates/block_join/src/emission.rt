@@ -359,7 +359,7 @@ impl Draft {
         }
         let unit = plan.units.of(cell);
         for node in &self.waiting {
-            if plan.live.is_live(*node, unit) {
+            if plan.live.is_live(node.0, unit) {
                 return true;
             }
         }

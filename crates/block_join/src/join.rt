@@ -1,6 +1,6 @@
 use crate::emission::{Draft, Plan};
 use crate::terms::Truths;
-use block_plan::{Blocks, Live, Units, Ways, begins, blocks_of, number_of, ways_at};
+use block_plan::{Blocks, Reads, Units, Ways, begins, blocks_of, live_units, number_of, ways_at};
 use bv_term::{TermId, Terms, are_widths};
 use c_graph::{Cell, Edge, Graph, Node, NodeId, Operations, Origin, graph_from};
 use edge_chains::join_chains;
@@ -13,7 +13,8 @@ use std::alloc::Global;
 pub fn join_blocks(alloc: Global, graph: &Graph) -> Result<Graph, Memory> {
     let blocks = blocks_of(alloc, graph)?;
     let units = Units::new(alloc, graph.cells())?;
-    let live = Live::new(alloc, graph, &blocks, &units)?;
+    let reads = Reads::new(alloc, graph.terms(), &units)?;
+    let live = live_units(alloc, graph, &blocks, &units, &reads)?;
     let plan = Plan {
         graph,
         blocks: &blocks,

@@ -1,8 +1,8 @@
 //! Which nodes matter: those that are reached from the entry, and from which an error or a listed loop's node is reached.
 
-use crate::tables::{Flags, number_of};
 use c_graph::{Graph, Node, NodeId};
 use lv_base::Memory;
+use plan_tables::{Flags, number_of};
 use std::alloc::Global;
 
 /// The edges by the node that they lead to: a chain of edges for each node.

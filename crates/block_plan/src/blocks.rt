@@ -2,9 +2,9 @@
 
 use crate::alive::{alive, reached};
 use crate::regular::{Way, Ways, draws, ways_of};
-use crate::tables::{Counts, Flags, Links, number_of};
 use c_graph::{Graph, Node, NodeId};
 use lv_base::Memory;
+use plan_tables::{Counts, Flags, Links, number_of};
 use std::alloc::Global;
 
 /// What is known of the places of a graph.
@@ -12,7 +12,11 @@ use std::alloc::Global;
 pub struct Blocks {
     /// The ways out of each node that matters; those of others are kept.
     pub ways: Vec<Ways>,
-    /// Nodes that are reached, and from which an error or a listed loop's node is reached.
+    /// Nodes that are reached from the entry.
+    pub reached: Flags,
+    /// Nodes from which an error or a listed loop's node is reached.
+    pub alive: Flags,
+    /// Nodes that are reached and alive.
     pub matters: Flags,
     /// Cut points.
     pub cuts: Flags,
@@ -48,11 +52,15 @@ fn is_plain(graph: &Graph, node: NodeId) -> bool {
 /// The blocks of a graph.
 pub fn blocks_of(alloc: Global, graph: &Graph) -> Result<Blocks, Memory> {
     let count = graph.nodes().len();
-    let matters = both(alloc, count, &reached(alloc, graph)?, &alive(alloc, graph)?)?;
+    let reached = reached(alloc, graph)?;
+    let alive = alive(alloc, graph)?;
+    let matters = both(alloc, count, &reached, &alive)?;
     let ways = all_ways(alloc, graph, &matters)?;
     let mut blocks = Blocks {
         cuts: first_cuts(alloc, graph, &ways, &matters)?,
         ways,
+        reached,
+        alive,
         matters,
         sure: Flags::new(alloc, count)?,
         starts: Links::new(alloc, count)?,

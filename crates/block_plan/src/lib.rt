@@ -18,9 +18,8 @@ mod alive;
 mod blocks;
 mod live;
 mod regular;
-mod tables;
 
 pub use blocks::{Blocks, begins, blocks_of, listed_nodes, ways_at};
-pub use live::{Live, Units};
+pub use live::live_units;
+pub use plan_tables::{Counts, Flags, Links, Live, Reads, Units, number_of};
 pub use regular::{Way, Ways, draws};
-pub use tables::{Counts, Flags, Links, number_of};

@@ -1,6 +1,6 @@
 //! The ways out of nodes. A node is regular where it has one way out, which may begin with an Assume, or two that begin with an
-//! Assume of a term and one of its complement; where nothing else on them may stop a run; and where of two ways only that beside
-//! an error's does anything more. Other nodes keep their edges.
+//! Assume of a term and one of its complement; where nothing else on them may stop a run; and where of two ways only one beside
+//! an error's, which leads to no error itself, does anything more. Other nodes keep their edges.
 
 use bv_term::{Term, TermId, Terms};
 use c_graph::{Edge, EdgeId, Graph, Node, NodeId, Operation};
@@ -87,7 +87,7 @@ fn pair(graph: &Graph, first: Way, second: Way) -> Ways {
     if !are_complements(graph.terms(), test, other) || first.to == second.to {
         return Ways::Kept;
     }
-    let is_check = is_error(graph, first.to);
+    let is_check = is_error(graph, first.to) && !is_error(graph, second.to);
     if is_bare(graph, first) && (is_check || is_bare(graph, second)) {
         return Ways::Two(first, second);
     }

@@ -7,7 +7,7 @@ use Rattle.verdicts.specs.declared.verdict.Verdict.TheVariants.{Accepted}
 use Rattle.c_typed.specs.Tree.{Program}
 use Rattle.c_graph.specs.Shape.{Flow, IsFlow}
 use Rattle.source_reading.specs.Reading.{IsReplay}
-use Rattle.source_graph_laws.specs.Standing.{StandsFor}
+use Rattle.program_graphs.specs.Standing.{StandsFor}
 use Rattle.cert_verdicts.specs.Judged.{IsJudged}
 use Rattle.request_answers.specs.Answers.{IsCheckAnswer}
 use Rattle.request_answers.specs.Answers.IsCheckAnswer.{too_long, refused, long_cert, judged, read_failed, no_memory}

@@ -7,7 +7,7 @@ use Rattle.lv_base.specs.declared.fail.SourceFail.TheVariants as fail
 use Rattle.c_tree.specs.Tree.{Items}
 use Rattle.c_typed.specs.Tree.{Program}
 use Rattle.c_graph.specs.Shape.{Flow, IsFlow}
-use Rattle.source_graph_laws.specs.Standing.{StandsFor}
+use Rattle.program_graphs.specs.Standing.{StandsFor}
 use Rattle.source_reading.specs.Reading.{source_read, IsReplay}
 use Rattle.request_words.specs.Asked.{Asked, Check, Verify}
 use Rattle.verdicts.specs.declared.verdict.Verdict.{Verdict}

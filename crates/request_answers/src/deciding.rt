@@ -2,7 +2,7 @@ ghost use Rattle.std.specs.Prelude.{◌≡◌, ◌≤◌, ◌<◌, ◌^◌, ℕ,
 ghost use Rattle.lv_outside.specs.Counts.{Rose};
 ghost use Rattle.c_typed.specs.Parts.{tree_of};
 ghost use Rattle.source_reading.specs.Reading.{IsReplay};
-ghost use Rattle.source_graph_laws.specs.Standing.{StandsFor};
+ghost use Rattle.program_graphs.specs.Standing.{StandsFor};
 ghost use Rattle.request_words.specs.Views.{asked_by};
 ghost use Rattle.request_answers.specs.Answers.{IsAnswer, IsCheckAnswer, IsVerifyAnswer};
 

@@ -2,7 +2,7 @@
 ghost use Rattle.std.specs.Prelude.{◌≡◌, ◌≤◌, ◌^◌, length, MatchResult};
 ghost use Rattle.c_typed.specs.Parts.{tree_of};
 ghost use Rattle.source_reading.specs.Reading.{IsReplay};
-ghost use Rattle.source_graph_laws.specs.Standing.{StandsFor};
+ghost use Rattle.program_graphs.specs.Standing.{StandsFor};
 ghost use Rattle.request_answers.specs.Answers.{IsRefused, refused_for, limit_for};
 
 use c_graph::Graph;

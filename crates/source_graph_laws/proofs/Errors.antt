@@ -4,7 +4,7 @@ use Rattle.lv_base.specs.declared.fault.ErrorKind.TheVariants.{Reach}
 use Rattle.c_graph.specs.Steps.{IsWhole}
 use Rattle.c_graph.specs.Parts.{error_flow, error_flows, error_function}
 use Rattle.function_runs.specs.Runs.{FunctionsFail, spot}
-use Rattle.source_graph_laws.specs.Standing.{MeetsSome}
+use Rattle.program_graphs.specs.Standing.{MeetsSome}
 
 nothing_whole : IsWhole [] []
 nothing_whole = record { length = refl; fits = λ k lt. absurd (omega (arith, lt)) }

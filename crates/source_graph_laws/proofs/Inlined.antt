@@ -13,7 +13,7 @@ use Rattle.cfg_build.specs.Graphs.{ProgramFollows}
 use Rattle.function_runs.specs.Runs.{FunctionsFail}
 use Rattle.inline_laws.proofs.Copies.{inlined_runs_follow}
 use Rattle.code_start_laws.proofs.Errors.{program-errors-follow}
-use Rattle.source_graph_laws.specs.Standing.{ErrorsFollow, MeetsSome}
+use Rattle.program_graphs.specs.Standing.{ErrorsFollow, MeetsSome}
 use Rattle.source_graph_laws.specs.Laws.{InlinedGraphsStand}
 use Rattle.source_graph_laws.proofs.Errors.{error_meets, error_functions_fail}
 

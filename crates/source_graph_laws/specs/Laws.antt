@@ -8,7 +8,7 @@ use Rattle.c_graph.specs.Parts.{error_flows}
 use Rattle.slot_laws.specs.Laws.{IsOrder}
 use Rattle.cfg_build.specs.Graphs.{ProgramFollows}
 use Rattle.call_inline.specs.Inlining.{Inlines}
-use Rattle.source_graph_laws.specs.Standing.{StandsFor}
+use Rattle.program_graphs.specs.Standing.{StandsFor}
 
 -- The graph with all calls of function graphs inlined stands for the typed program whose flat code these follow, in an order of its
 -- functions in which each stands behind those that it calls.

@@ -3,7 +3,7 @@
 
 ghost use Rattle.std.specs.Prelude.{IfOk};
 ghost use Rattle.c_typed.specs.Parts.{tree_of};
-ghost use Rattle.source_graph_laws.specs.Standing.{StandsFor};
+ghost use Rattle.program_graphs.specs.Standing.{StandsFor};
 
 use block_join::join_blocks;
 use c_graph::Graph;

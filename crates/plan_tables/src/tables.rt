@@ -1,5 +1,8 @@
 //! Tables by number that answer for every number.
 
+ghost use Rattle.std.specs.Prelude.{◌≡◌};
+ghost use Rattle.plan_tables.specs.Tables.{flag_at};
+
 use lv_base::Memory;
 use std::alloc::Global;
 
@@ -25,7 +28,9 @@ impl Flags {
     }
 
     /// The truth of a number.
-    pub fn get(&self, number: u32) -> bool {
+    pub fn get(&self, number: u32) -> bool
+        ensures { result ≡ flag_at self.now number }
+    {
         match self.items.get(number as usize) {
             None => false,
             Some(flag) => *flag,
