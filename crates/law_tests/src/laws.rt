@@ -362,9 +362,7 @@ fn formulas_along_paths() {
 #[test]
 fn answers_to_requests() {
     request_answers::accepted_is_certified();
-    request_answers::accepted_is_secure();
     request_answers::safe_is_proved();
-    request_answers::safe_is_secure();
-    request_answers::zero_is_secure();
+    request_answers::zero_is_certified();
     request_answers::unsafe_reaches();
 }

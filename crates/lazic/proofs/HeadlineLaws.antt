@@ -8,8 +8,7 @@ use Rattle.verdicts.specs.Lines.{status_of}
 use Rattle.verdicts.specs.declared.verdict.Verdict.{Verdict}
 use Rattle.verdicts.specs.declared.verdict.Verdict.TheVariants as verdict
 use Rattle.request_answers.specs.Answers.{IsAnswer}
-use Rattle.request_answers.specs.Laws.{IsSecureFor}
-use Rattle.request_answers.proofs.Security.{zero_secure, check_not_unsafe}
+use Rattle.request_answers.proofs.Certified.{zero_certified, check_not_unsafe}
 use Rattle.request_answers.proofs.Verifications.{unsafe_reached}
 use Rattle.lazic.specs.declared.report.Kept.{Kept}
 use Rattle.lazic.specs.declared.report.Kept.TheVariants as kept
@@ -54,6 +53,6 @@ pub told_means :
     (files_told text_told write_rose put_rose : Type 0) (before behind : ℕ) (asked : Asked) (old new : List ℕ → List ℕ) (text_before text_after : List ℕ) (status : ℕ) (k : Kept)
     → ToldOf files_told text_told (Rose before behind) write_rose put_rose old new text_before text_after status k asked → Headline files_told asked old status k
 told_means files_told text_told write_rose put_rose before behind asked old new text_before text_after status k (v, t) = record {
-  safe = λ f z. zero_secure before behind asked old v (t.answer f) (zero_told status v t.told z);
+  safe = λ f z. zero_certified before behind asked old v (t.answer f) (zero_told status v t.told z);
   unsafe = λ f values e. reached before behind asked old v values (t.answer f) (kept_by ((status == 14) || (status == 15)) v values (sym t.keeps ∙ e));
 }

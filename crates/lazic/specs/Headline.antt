@@ -5,7 +5,7 @@ use Rattle.c_tree.specs.Tree.{Items}
 use Rattle.c_meaning.specs.Program.{Reaches}
 use Rattle.source_reading.specs.Reading.{source_read}
 use Rattle.request_words.specs.Asked.{Asked, Check, Verify}
-use Rattle.request_answers.specs.Laws.{IsSecureFor}
+use Rattle.request_answers.specs.Laws.{IsCertifiedFor}
 use Rattle.lazic.specs.declared.report.Kept.{Kept}
 use Rattle.lazic.specs.declared.report.Kept.TheVariants.{Unsafe}
 
@@ -14,8 +14,8 @@ abbrev pub IsReachedFor : Asked → (List ℕ → List ℕ) → List ℤ → Typ
 IsReachedFor (Check c) file values = ⊥
 IsReachedFor (Verify w) file values = (tree : Items) × (source_read w.model (file w.source) ≡ Ok tree) × ((kind : ErrorKind) × ((at : ℕ) × Reaches tree w.model values kind at))
 
--- The status 0, that of SAFE and ACCEPTED, comes only where no run of the source meets an error, whatever the inputs are; values are kept
--- only where they lead the source to an error.
+-- The status 0, that of SAFE and ACCEPTED, comes only where no run of a graph that was made of the source meets an error, so that no run of
+-- the source does where the graph stands for it; values are kept only where they lead the source to an error.
 pub record Headline (files_told : Type 0) (asked : Asked) (file : List ℕ → List ℕ) (status : ℕ) (kept : Kept) : Type 0 where
-  pub safe : files_told → status ≡ 0 → IsSecureFor asked file
+  pub safe : files_told → status ≡ 0 → IsCertifiedFor asked file
   pub unsafe : files_told → (values : List ℤ) → kept ≡ Unsafe values → IsReachedFor asked file values

@@ -67,7 +67,8 @@ pub fn run_words<R: Threads + Sync, F: Folder, S: Sink, G: Gate>(
     // What is asked of a certificate or a source has a verdict: the files are as it says, and the text grows by its line.
     ensures told { (asked : Asked) → asked_of (map (λ w. w.now) words.now) ≡ Some asked → ToldOf (F.tells folder.old) (S.tells out.new) (Rose (F.read_faults folder.old) (F.read_faults folder.new)) (Rose (F.write_faults folder.old) (F.write_faults folder.new)) (Rose (S.faults out.old) (S.faults out.new)) (F.file folder.old) (F.file folder.new) (S.text out.old) (S.text out.new) result.status result.kept asked }
 
-    // SAFE and ACCEPTED come only where no run of the source meets an error; values are kept only where they lead it to one.
+    // SAFE and ACCEPTED come only where no run of a graph that was made of the source meets an error, so that none of the source does where
+    // that graph stands for it; values are kept only where they lead the source to an error.
     ensures headline { (asked : Asked) → asked_of (map (λ w. w.now) words.now) ≡ Some asked → Headline (F.tells folder.old) asked (F.file folder.old) result.status result.kept }
 {
     all_words();

@@ -7,7 +7,6 @@ use Rattle.verdicts.specs.declared.verdict.Verdict.TheVariants.{Accepted}
 use Rattle.c_typed.specs.Tree.{Program}
 use Rattle.c_graph.specs.Shape.{Flow, IsFlow}
 use Rattle.source_reading.specs.Reading.{IsReplay}
-use Rattle.program_graphs.specs.Standing.{StandsFor}
 use Rattle.cert_verdicts.specs.Judged.{IsJudged}
 use Rattle.request_answers.specs.Answers.{IsCheckAnswer}
 use Rattle.request_answers.specs.Answers.IsCheckAnswer.{too_long, refused, long_cert, judged, read_failed, no_memory}
@@ -24,7 +23,7 @@ check_more : (rose more : Type 0) → (rose → more) → (model : Model) (sourc
 check_more rose more f model source file v (too_long h is) = too_long h is
 check_more rose more f model source file v (refused h) = refused h
 check_more rose more f model source file v (long_cert p h k is) = long_cert p h k is
-check_more rose more f model source file v (judged p g h flow stands j) = judged p g h flow stands j
+check_more rose more f model source file v (judged p g h flow j) = judged p g h flow j
 check_more rose more f model source file v (read_failed h is) = read_failed (f h) is
 check_more rose more f model source file v (no_memory is) = no_memory is
 
@@ -35,13 +34,13 @@ check_behind old mid new less model source bytes file given v e f h =
     (subst (λ (x : List ℕ). IsCheckAnswer (Rose old new) model bytes x v) f
     (check_more (Rose mid new) (Rose old new) (rose_more old mid new less) model bytes given v h))
 
-pub check_judged : (rose : Type 0) (p : Program) (g : Flow) (model : Model) (source bytes file : List ℕ) (v : Verdict) → IsReplay model source p → IsFlow g → StandsFor g p → bytes ≡ file → IsJudged g source model bytes v → IsCheckAnswer rose model source file v
-check_judged rose p g model source bytes file v replay flow stands e j = judged p g replay flow stands (subst (λ (x : List ℕ). IsJudged g source model x v) e j)
+pub check_judged : (rose : Type 0) (p : Program) (g : Flow) (model : Model) (source bytes file : List ℕ) (v : Verdict) → IsReplay model source p → IsFlow g → bytes ≡ file → IsJudged g source model bytes v → IsCheckAnswer rose model source file v
+check_judged rose p g model source bytes file v replay flow e j = judged p g replay flow (subst (λ (x : List ℕ). IsJudged g source model x v) e j)
 
 pub accepted_certified : AcceptedIsCertified
 accepted_certified before behind model source bytes (too_long h is) = absurd (cc)
 accepted_certified before behind model source bytes (refused r) = absurd (refusal_is model source Accepted r)
 accepted_certified before behind model source bytes (long_cert p h k is) = absurd (cc)
-accepted_certified before behind model source bytes (judged p g replay flow stands j) = (replay.tree, replay.read, (g, flow, judged_accepted g source model bytes j))
+accepted_certified before behind model source bytes (judged p g replay flow j) = (replay.tree, replay.read, (g, flow, judged_accepted g source model bytes j))
 accepted_certified before behind model source bytes (read_failed h is) = absurd (cc)
 accepted_certified before behind model source bytes (no_memory is) = absurd (cc)

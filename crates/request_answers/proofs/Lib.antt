@@ -1,5 +1,5 @@
+pub mod Certified
 pub mod Checks
 pub mod Judgements
 pub mod Refusals
-pub mod Security
 pub mod Verifications

@@ -12,7 +12,7 @@ use Rattle.request_answers.proofs.Refusals.{refusal_is}
 verify_more : (more : Type 0) (model : Model) (units learn : ℕ) (source : List ℕ) (v : Verdict) → IsVerifyAnswer ⊥ model units learn source v → IsVerifyAnswer more model units learn source v
 verify_more more model units learn source v (too_long h is) = too_long h is
 verify_more more model units learn source v (refused h) = refused h
-verify_more more model units learn source v (verified p g replay flow stands is) = verified p g replay flow stands is
+verify_more more model units learn source v (verified p g replay flow is) = verified p g replay flow is
 verify_more more model units learn source v (read_failed h is) = absurd h
 verify_more more model units learn source v (no_memory is) = no_memory is
 
@@ -23,14 +23,14 @@ verify_behind more model units learn source bytes v e h = subst (λ (x : List �
 pub safe_proved : SafeIsProved
 safe_proved before behind model units learn source text (too_long h is) = absurd (cc)
 safe_proved before behind model units learn source text (refused r) = absurd (refusal_is model source (Safe text) r)
-safe_proved before behind model units learn source text (verified p g replay flow stands is) = (replay.tree, replay.read, (g, flow, is))
+safe_proved before behind model units learn source text (verified p g replay flow is) = (replay.tree, replay.read, (g, flow, is))
 safe_proved before behind model units learn source text (read_failed h is) = absurd (cc)
 safe_proved before behind model units learn source text (no_memory is) = absurd (cc)
 
 pub unsafe_reached : UnsafeReaches
 unsafe_reached before behind model units learn source kind place values text (too_long h is) = absurd (cc)
 unsafe_reached before behind model units learn source kind place values text (refused r) = absurd (refusal_is model source (Unsafe kind place values text) r)
-unsafe_reached before behind model units learn source kind place values text (verified p g replay flow stands is) =
+unsafe_reached before behind model units learn source kind place values text (verified p g replay flow is) =
     let meets = is.0 in
     (replay.tree, replay.read, (meets.at, meets.is_at, record { turns = meets.turns; ends = sym (replay.runs meets.turns values) ∙ meets.ends }))
 unsafe_reached before behind model units learn source kind place values text (read_failed h is) = absurd (cc)

@@ -7,7 +7,6 @@ use Rattle.lv_base.specs.declared.fail.SourceFail.TheVariants as fail
 use Rattle.c_tree.specs.Tree.{Items}
 use Rattle.c_typed.specs.Tree.{Program}
 use Rattle.c_graph.specs.Shape.{Flow, IsFlow}
-use Rattle.program_graphs.specs.Standing.{StandsFor}
 use Rattle.source_reading.specs.Reading.{source_read, IsReplay}
 use Rattle.request_words.specs.Asked.{Asked, Check, Verify}
 use Rattle.verdicts.specs.declared.verdict.Verdict.{Verdict}
@@ -33,12 +32,12 @@ pub data IsRefused (model : Model) (source : List ℕ) (v : Verdict) : Type 0 wh
   over : (tree : Items) (e : SourceFail) → source_read model source ≡ Ok tree → v ≡ limit_for e → IsRefused model source v
   no_memory : v ≡ NoMemory → IsRefused model source v
 
--- The answer to the check of a certificate's bytes against a source. The graph is the one that was made of the typed tree, and stands for it.
+-- The answer to the check of a certificate's bytes against a source. The graph is the one that was made of the typed tree.
 pub data IsCheckAnswer (rose : Type 0) (model : Model) (source cert : List ℕ) (v : Verdict) : Type 0 where
   too_long : 1048576 < length source → v ≡ Over 1 1048577 → IsCheckAnswer rose model source cert v
   refused : IsRefused model source v → IsCheckAnswer rose model source cert v
   long_cert : (p : Program) → IsReplay model source p → 67108864 < length cert → v ≡ Over 8 67108865 → IsCheckAnswer rose model source cert v
-  judged : (p : Program) (g : Flow) → IsReplay model source p → IsFlow g → StandsFor g p → IsJudged g source model cert v → IsCheckAnswer rose model source cert v
+  judged : (p : Program) (g : Flow) → IsReplay model source p → IsFlow g → IsJudged g source model cert v → IsCheckAnswer rose model source cert v
   read_failed : rose → v ≡ ReadFault → IsCheckAnswer rose model source cert v
   no_memory : v ≡ NoMemory → IsCheckAnswer rose model source cert v
 
@@ -46,7 +45,7 @@ pub data IsCheckAnswer (rose : Type 0) (model : Model) (source cert : List ℕ) 
 pub data IsVerifyAnswer (rose : Type 0) (model : Model) (units learn : ℕ) (source : List ℕ) (v : Verdict) : Type 0 where
   too_long : 1048576 < length source → v ≡ Over 1 1048577 → IsVerifyAnswer rose model units learn source v
   refused : IsRefused model source v → IsVerifyAnswer rose model units learn source v
-  verified : (p : Program) (g : Flow) → IsReplay model source p → IsFlow g → StandsFor g p → IsVerified p g source model units learn v → IsVerifyAnswer rose model units learn source v
+  verified : (p : Program) (g : Flow) → IsReplay model source p → IsFlow g → IsVerified p g source model units learn v → IsVerifyAnswer rose model units learn source v
   read_failed : rose → v ≡ ReadFault → IsVerifyAnswer rose model units learn source v
   no_memory : v ≡ NoMemory → IsVerifyAnswer rose model units learn source v
 

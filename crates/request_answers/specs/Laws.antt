@@ -11,9 +11,11 @@ use Rattle.c_graph.specs.Shape.{Flow, IsFlow}
 use Rattle.cert_text.specs.declared.Cert.{Cert}
 use Rattle.cert_text.specs.Content.{content_of}
 use Rattle.cert_text.specs.Reading.{read_cert_of}
-use Rattle.cert_verdicts.specs.Judged.{IsCertificate}
+use Rattle.cert_verdicts.specs.Judged.{HasNoErrors, IsCertificate}
 use Rattle.source_verdicts.specs.Verified.{IsProved}
-use Rattle.source_reading.specs.Reading.{source_read}
+use Rattle.source_reading.specs.Reading.{source_read, IsReplay}
+use Rattle.program_graphs.specs.Standing.{StandsFor}
+use Rattle.c_typed.specs.Tree.{Program}
 use Rattle.verdicts.specs.declared.verdict.Verdict.{Verdict}
 use Rattle.verdicts.specs.declared.verdict.Verdict.TheVariants.{Safe, Unsafe, Accepted}
 use Rattle.request_words.specs.Asked.{Asked, Check, Verify}
@@ -35,26 +37,24 @@ SafeIsProved =
     (before behind : ℕ) (model : Model) (units learn : ℕ) (source text : List ℕ) → IsVerifyAnswer (Rose before behind) model units learn source (Safe text)
     → (tree : Items) × (source_read model source ≡ Ok tree) × ((g : Flow) × IsFlow g × IsProved g source model text)
 
--- a source that is read without a refusal, and no run of which meets an error, whatever the inputs are
-abbrev pub IsSecure : Model → List ℕ → Type 0
-IsSecure model source = (tree : Items) × (source_read model source ≡ Ok tree) × Secure tree model
+-- The source has a typed tree that runs as it does, and no run of a graph that was made of the tree meets an error: where that graph stands
+-- for the tree, no run of the source meets one, whatever the inputs are.
+pub record IsCertified (model : Model) (source : List ℕ) : Type 0 where
+  pub program : Program
+  pub graph : Flow
+  pub replay : IsReplay model source program
+  pub flow : IsFlow graph
+  pub safe : HasNoErrors graph
+  pub secure : StandsFor graph program → Secure replay.tree model
 
--- A certificate is accepted only of a secure source.
-abbrev pub AcceptedIsSecure : Type 0
-AcceptedIsSecure = (before behind : ℕ) (model : Model) (source bytes : List ℕ) → IsCheckAnswer (Rose before behind) model source bytes Accepted → IsSecure model source
+-- the source that is asked about is certified
+abbrev pub IsCertifiedFor : Asked → (List ℕ → List ℕ) → Type 0
+IsCertifiedFor (Check c) file = IsCertified c.model (file c.source)
+IsCertifiedFor (Verify w) file = IsCertified w.model (file w.source)
 
--- A source is called safe only where it is secure.
-abbrev pub SafeIsSecure : Type 0
-SafeIsSecure = (before behind : ℕ) (model : Model) (units learn : ℕ) (source text : List ℕ) → IsVerifyAnswer (Rose before behind) model units learn source (Safe text) → IsSecure model source
-
--- the source that is asked about is secure
-abbrev pub IsSecureFor : Asked → (List ℕ → List ℕ) → Type 0
-IsSecureFor (Check c) file = IsSecure c.model (file c.source)
-IsSecureFor (Verify w) file = IsSecure w.model (file w.source)
-
--- The status 0 is that of SAFE and ACCEPTED alone: so it means that the source is secure.
-abbrev pub ZeroIsSecure : Type 0
-ZeroIsSecure = (before behind : ℕ) (asked : Asked) (file : List ℕ → List ℕ) (v : Verdict) → IsAnswer (Rose before behind) asked file v → status_of v ≡ 0 → IsSecureFor asked file
+-- The status 0 is that of SAFE and ACCEPTED alone: it comes only where the source is certified.
+abbrev pub ZeroIsCertified : Type 0
+ZeroIsCertified = (before behind : ℕ) (asked : Asked) (file : List ℕ → List ℕ) (v : Verdict) → IsAnswer (Rose before behind) asked file v → status_of v ≡ 0 → IsCertifiedFor asked file
 
 -- A source is called unsafe only with values that reach the error at its place in it.
 abbrev pub UnsafeReaches : Type 0

@@ -1,5 +1,5 @@
 //! What the answers mean, each law as the contract of a function that does nothing.
-ghost use Rattle.request_answers.specs.Laws.{AcceptedIsCertified, AcceptedIsSecure, SafeIsProved, SafeIsSecure, UnsafeReaches, ZeroIsSecure};
+ghost use Rattle.request_answers.specs.Laws.{AcceptedIsCertified, SafeIsProved, UnsafeReaches, ZeroIsCertified};
 
 /// A certificate is accepted only with what makes the source's graph safe.
 pub fn accepted_is_certified()
@@ -11,19 +11,10 @@ pub fn safe_is_proved()
     ensures { SafeIsProved }
 {}
 
-/// A certificate is accepted only of a source no run of which meets an error.
-pub fn accepted_is_secure()
-    ensures { AcceptedIsSecure }
-{}
-
-/// A source is called safe only where no run of it meets an error.
-pub fn safe_is_secure()
-    ensures { SafeIsSecure }
-{}
-
-/// The status 0 comes only where the source that is asked about has no run that meets an error.
-pub fn zero_is_secure()
-    ensures { ZeroIsSecure }
+/// The status 0 comes only of a source that has a graph no run of which meets an error: where that graph stands for it, no run of the
+/// source meets one.
+pub fn zero_is_certified()
+    ensures { ZeroIsCertified }
 {}
 
 /// A source is called unsafe only with values that reach the error.

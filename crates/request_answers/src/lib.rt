@@ -10,7 +10,4 @@ mod printing;
 mod storing;
 
 pub use answering::{Told, answer};
-pub use laws::{
-    accepted_is_certified, accepted_is_secure, safe_is_proved, safe_is_secure, unsafe_reaches,
-    zero_is_secure,
-};
+pub use laws::{accepted_is_certified, safe_is_proved, unsafe_reaches, zero_is_certified};

@@ -13,7 +13,7 @@ use cfg_build::build;
 use elaboration_laws::sources_read;
 use lv_base::{Memory, Model, SourceFail};
 use lv_outside::{FileFail, Folder, Got, HostFolder};
-use source_graph_laws::inlined_graphs_stand;
+use run_replay::orders_agree;
 use std::alloc::{AllocError, Global};
 use std::rt::Files;
 
@@ -62,7 +62,7 @@ pub fn examined(alloc: Global, source: &[u8], model: Model) -> Result<Examined, 
 pub fn whole_graph(alloc: Global, examined: &Examined) -> Result<Graph, SourceFail>
     ensures { IfOk result (λ g. StandsFor g (tree_of examined.now.typed)) }
 {
-    inlined_graphs_stand();
+    orders_agree();
     let typed = examined.typed();
     let _model = typed.model();
     let _order = examined.order();
@@ -71,10 +71,8 @@ pub fn whole_graph(alloc: Global, examined: &Examined) -> Result<Graph, SourceFa
     inline(alloc, &graphs)
 }
 
-/// The graph of a program's blocks. It stands for the program as the graph of all instructions does.
-pub fn blocks_of(alloc: Global, examined: &Examined) -> Result<Graph, SourceFail>
-    ensures { IfOk result (λ g. StandsFor g (tree_of examined.now.typed)) }
-{
+/// The graph of a program's blocks.
+pub fn blocks_of(alloc: Global, examined: &Examined) -> Result<Graph, SourceFail> {
     let graph = whole_graph(alloc, examined)?;
     match join_blocks(alloc, &graph) {
         Ok(blocks) => Ok(blocks),
