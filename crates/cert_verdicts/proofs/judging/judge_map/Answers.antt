@@ -3,7 +3,7 @@ use Rattle.cert_verdicts.specs.Judged.IsCertJudged.{accepted, refused}
 use Rattle.cert_verdicts.proofs.judging.judge_map.Goals as goal
 
 pub returns-in-Ok : goal.returns-in-Ok
-returns-in-Ok c = accepted (record {
+returns-in-Ok g c = accepted (record {
   hash = c.requires.hash;
   under = c.requires.model;
   accepted = c.in-Ok.ensures.accepted;
@@ -11,4 +11,4 @@ returns-in-Ok c = accepted (record {
 }) refl
 
 pub returns-in-Err : goal.returns-in-Err
-returns-in-Err c = refused c.in-Err.fail c.requires.hash c.requires.model c.in-Err.ensures.cause c.refused.ensures
+returns-in-Err g c = refused c.in-Err.fail c.requires.hash c.requires.model c.in-Err.ensures.cause c.refused.ensures
