@@ -1,0 +1,20 @@
+-- The answer of the inlining stands for the program, where there is one.
+use Rattle.std.proofs.Common.{◌≡◌, ◌⊎◌, ℕ, List, Result, Ok, Err}
+use Rattle.std.specs.Prelude.{IfOk}
+use Rattle.lv_base.specs.declared.fail.SourceFail.{SourceFail}
+use Rattle.c_typed.specs.Facts.{IsTyped}
+use Rattle.c_typed.specs.Parts.{Parts, tree_of}
+use Rattle.c_graph.specs.Shape.{Flow}
+use Rattle.c_graph.specs.Functions.{Flows, AreFlows}
+use Rattle.c_graph.specs.Parts.{error_flows}
+use Rattle.slot_laws.specs.Laws.{IsOrder}
+use Rattle.cfg_build.specs.Graphs.{ProgramFollows}
+use Rattle.call_inline.specs.Inlining.{Inlines}
+use Rattle.program_graphs.specs.Standing.{StandsFor}
+use Rattle.source_graph_laws.proofs.Inlined.{inlined_graphs_stand}
+
+pub answer_stands :
+    (t : Parts) (order : List ℕ) (p : Flows) (r : Result Flow SourceFail) → IsTyped (tree_of t) → IsOrder (tree_of t) order → AreFlows p
+    → ProgramFollows t order p ⊎ (p ≡ error_flows) → IfOk r (λ g. Inlines p g) → IfOk r (λ g. StandsFor g (tree_of t))
+answer_stands t order p (Ok g) typed ordered flows made inlines = inlined_graphs_stand t order p g typed ordered flows made inlines
+answer_stands t order p (Err e) typed ordered flows made inlines = tt
