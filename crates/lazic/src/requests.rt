@@ -25,6 +25,19 @@ pub(crate) fn answer_asked<R: Threads + Sync, F: Folder, S: Sink, G: Gate>(
     ensures told { ToldOf (F.tells folder.old) (S.tells out.new) (Rose (F.read_faults folder.old) (F.read_faults folder.new)) (Rose (F.write_faults folder.old) (F.write_faults folder.new)) (Rose (S.faults out.old) (S.faults out.new)) (F.file folder.old) (F.file folder.new) (S.text out.old) (S.text out.new) result.status result.kept (asked_by asked.entry) }
     ensures headline { Headline (F.tells folder.old) (asked_by asked.entry) (F.file folder.old) result.status result.kept }
 {
+    tell(rt, alloc, asked, folder, out, gate)
+}
+
+fn tell<R: Threads + Sync, F: Folder, S: Sink, G: Gate>(
+    rt: &R,
+    alloc: Global,
+    asked: Asked<'_>,
+    folder: &mut F,
+    out: &mut S,
+    gate: &G,
+) -> Report
+    ensures { ToldOf (F.tells folder.old) (S.tells out.new) (Rose (F.read_faults folder.old) (F.read_faults folder.new)) (Rose (F.write_faults folder.old) (F.write_faults folder.new)) (Rose (S.faults out.old) (S.faults out.new)) (F.file folder.old) (F.file folder.new) (S.text out.old) (S.text out.new) result.status result.kept (asked_by asked.entry) }
+{
     let told = answer(rt, alloc, asked, folder, out, gate);
     reported(told)
 }
