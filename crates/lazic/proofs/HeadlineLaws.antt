@@ -8,7 +8,8 @@ use Rattle.verdicts.specs.Lines.{status_of}
 use Rattle.verdicts.specs.declared.verdict.Verdict.{Verdict}
 use Rattle.verdicts.specs.declared.verdict.Verdict.TheVariants as verdict
 use Rattle.request_answers.specs.Answers.{IsAnswer}
-use Rattle.request_answers.proofs.Certified.{zero_certified, check_not_unsafe}
+use Rattle.request_answers.proofs.Checks.{check_not_unsafe}
+use Rattle.request_answers.proofs.Zero.{zero_certified}
 use Rattle.request_answers.proofs.Verifications.{unsafe_reached}
 use Rattle.lazic.specs.declared.report.Kept.{Kept}
 use Rattle.lazic.specs.declared.report.Kept.TheVariants as kept

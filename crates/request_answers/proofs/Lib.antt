@@ -3,3 +3,4 @@ pub mod Checks
 pub mod Judgements
 pub mod Refusals
 pub mod Verifications
+pub mod Zero

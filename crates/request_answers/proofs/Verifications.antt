@@ -2,11 +2,12 @@
 use Rattle.std.proofs.Common.{◌≡◌, ◌∙◌, sym, subst, ℕ, List}
 use Rattle.lv_base.specs.declared.kind.Model.{Model}
 use Rattle.verdicts.specs.declared.verdict.Verdict.{Verdict}
-use Rattle.verdicts.specs.declared.verdict.Verdict.TheVariants.{Safe, Unsafe}
+use Rattle.verdicts.specs.declared.verdict.Verdict.TheVariants.{Safe, Unsafe, Accepted}
 use Rattle.request_answers.specs.Answers.{IsVerifyAnswer}
 use Rattle.request_answers.specs.Answers.IsVerifyAnswer.{too_long, refused, verified, read_failed, no_memory}
-use Rattle.request_answers.specs.Laws.{SafeIsProved, UnsafeReaches}
+use Rattle.request_answers.specs.Laws.{SafeIsProved, UnsafeReaches, IsCertified}
 use Rattle.request_answers.proofs.Refusals.{refusal_is}
+use Rattle.request_answers.proofs.Certified.{certified}
 
 -- without a read fault, under any count of faults
 verify_more : (more : Type 0) (model : Model) (units learn : ℕ) (source : List ℕ) (v : Verdict) → IsVerifyAnswer ⊥ model units learn source v → IsVerifyAnswer more model units learn source v
@@ -35,3 +36,20 @@ unsafe_reached before behind model units learn source kind place values text (ve
     (replay.tree, replay.read, (meets.at, meets.is_at, record { turns = meets.turns; ends = sym (replay.runs meets.turns values) ∙ meets.ends }))
 unsafe_reached before behind model units learn source kind place values text (read_failed h is) = absurd (cc)
 unsafe_reached before behind model units learn source kind place values text (no_memory is) = absurd (cc)
+
+-- ---- With the source certified
+
+pub safe_certified : (rose : Type 0) (model : Model) (units learn : ℕ) (source text : List ℕ) → IsVerifyAnswer rose model units learn source (Safe text) → IsCertified model source
+safe_certified rose model units learn source text (too_long h is) = absurd (cc)
+safe_certified rose model units learn source text (refused r) = absurd (refusal_is model source (Safe text) r)
+safe_certified rose model units learn source text (verified p g replay flow is) = certified model source p g replay flow is.is.safe
+safe_certified rose model units learn source text (read_failed h is) = absurd (cc)
+safe_certified rose model units learn source text (no_memory is) = absurd (cc)
+
+-- no verification accepts
+pub verify_not_accepted : (rose : Type 0) (model : Model) (units learn : ℕ) (source : List ℕ) → IsVerifyAnswer rose model units learn source Accepted → ⊥
+verify_not_accepted rose model units learn source (too_long h is) = cc
+verify_not_accepted rose model units learn source (refused r) = refusal_is model source Accepted r
+verify_not_accepted rose model units learn source (verified p g replay flow is) = is
+verify_not_accepted rose model units learn source (read_failed h is) = cc
+verify_not_accepted rose model units learn source (no_memory is) = cc

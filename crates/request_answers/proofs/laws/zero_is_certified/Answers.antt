@@ -1,4 +1,4 @@
-use Rattle.request_answers.proofs.Certified.{zero_certified}
+use Rattle.request_answers.proofs.Zero.{zero_certified}
 use Rattle.request_answers.proofs.laws.zero_is_certified.Goals as goal
 
 pub returns : goal.returns
