@@ -1,13 +1,16 @@
 -- What is told of a verdict means what the verdict means.
-use Rattle.std.proofs.Common.{◌≡◌, ◌⊎◌, ◌∙◌, inl, inr, refl, sym, ap, subst, ℕ, ◌==◌, ◌||◌, Bool, true, false, if◌then◌else◌, List, ℤ, Ok}
+use Rattle.std.proofs.Common.{◌≡◌, ◌≢◌, ◌⊎◌, ◌∙◌, inl, inr, refl, sym, ap, subst, ℕ, ◌==◌, Bool, true, false, if◌then◌else◌, List, ◌++◌, ℤ}
+use Rattle.std.specs.Prelude.{◌||◌}
+use Rattle.lv_outside.specs.Bytes.{GrewByFront}
 use Rattle.lv_outside.specs.Counts.{Rose}
 use Rattle.lv_base.specs.declared.place.Place.{Place}
 use Rattle.lv_base.specs.declared.fault.ErrorKind.{ErrorKind}
 use Rattle.request_words.specs.Asked.{Asked, Check, Verify}
-use Rattle.verdicts.specs.Lines.{status_of}
+use Rattle.verdicts.specs.Lines.{status_of, text_of}
 use Rattle.verdicts.specs.declared.verdict.Verdict.{Verdict}
 use Rattle.verdicts.specs.declared.verdict.Verdict.TheVariants as verdict
 use Rattle.request_answers.specs.Answers.{IsAnswer}
+use Rattle.request_answers.specs.Stored.{IsOther, IsStored, file_for}
 use Rattle.request_answers.proofs.Checks.{check_not_unsafe}
 use Rattle.request_answers.proofs.Zero.{zero_certified}
 use Rattle.request_answers.proofs.Verifications.{unsafe_reached}
@@ -57,3 +60,28 @@ told_means files_told text_told write_rose put_rose before behind asked old new 
   safe = λ f z. zero_certified before behind asked old v (t.answer f) (zero_told status v t.told z);
   unsafe = λ f values e. reached before behind asked old v values (t.answer f) (kept_by ((status == 14) || (status == 15)) v values (sym t.keeps ∙ e));
 }
+
+-- what is told of a verdict, where the status that is reported is the one that was told
+pub told_as :
+    (files_told text_told read_rose write_rose put_rose : Type 0) (asked : Asked) (old new : List ℕ → List ℕ) (text_before text_after : List ℕ) (status told : ℕ) (k : Kept) (v : Verdict)
+    → status ≡ told → k ≡ kept_when told v → (files_told → IsAnswer read_rose asked old v)
+    → (v ≡ verdict.ReadFault → read_rose) → (told ≡ 14) ⊎ ((told ≡ 15) ⊎ (told ≡ status_of v)) → (told ≡ 14 → write_rose ⊎ put_rose)
+    → (text_told → told ≢ 14 → text_after ≡ text_before ++ (if told == 15 then text_of verdict.NoMemory else text_of v))
+    → (text_told → told ≡ 14 → (text_after ≡ text_before) ⊎ (GrewByFront text_before text_after (text_of v) ⊎ GrewByFront text_before text_after (text_of verdict.NoMemory)))
+    → (files_told → told ≢ 14 → told ≢ 15 → IsStored new (file_for asked v)) → ((n : List ℕ) → IsOther (file_for asked v) n → new n ≡ old n)
+    → ToldOf files_told text_told read_rose write_rose put_rose old new text_before text_after status k asked
+told_as files_told text_told read_rose write_rose put_rose asked old new text_before text_after status told k v e kept answer fault is rose printed cut stored others =
+    subst (λ (n : ℕ). ToldOf files_told text_told read_rose write_rose put_rose old new text_before text_after n k asked) (sym e) (
+      v,
+      record {
+        answer = answer;
+        told = is;
+        keeps = kept;
+        read_fault = fault;
+        fault = rose;
+        printed = printed;
+        cut = cut;
+        stored = stored;
+        others = others;
+      },
+    )
