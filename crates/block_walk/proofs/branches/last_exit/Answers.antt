@@ -1,0 +1,14 @@
+use Rattle.std.proofs.Common.{rules, ◌≡◌, true}
+use Rattle.block_rule.specs.Deeds.{Ends}
+use Rattle.block_walk.specs.Known.{plan_of}
+use Rattle.block_walk.proofs.Following.{chosen, weaken}
+use Rattle.block_walk.proofs.branches.last_exit.Goals as goal
+
+pub returns : goal.returns
+returns c =
+    let cut : (plan_of c.args.known.now).cuts c.args.exit.node ≡ true = search rules in
+    let lost : c.args.lost ≡ true = search rules in
+    weaken c.ended-2.result _ _
+    (λ n end. chosen c.args.new.now c.args.cursor ((plan_of c.args.known.now).cuts c.args.exit.node) true _ _ cut
+    (chosen c.args.new.now c.args.cursor c.args.lost true _ _ lost (c.in_ok-next.ensures (Ends c.args.exit.node) end)))
+    c.ended-2.ensures

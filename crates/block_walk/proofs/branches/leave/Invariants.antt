@@ -1,0 +1,11 @@
+use Rattle.std.proofs.Common.{drop}
+use Rattle.block_rule.specs.Rule.{exits}
+use Rattle.block_steps.specs.Cursors.{Meets}
+use Rattle.block_walk.specs.Known.{plan_of}
+use Rattle.block_walk.specs.Walks.{waits_of}
+use Rattle.block_walk.proofs.branches.leave.Given as goal
+
+abbrev pub invariant-loop-number : goal.invariant-loop-number
+invariant-loop-number l =
+    Meets l.new l.at (exits (plan_of l.known) l.lost (waits_of (drop l.number l.waiting)))
+    → Meets l.new l.fn.cursor (exits (plan_of l.known) l.lost (waits_of l.waiting))

@@ -1,0 +1,11 @@
+use Rattle.std.proofs.Common.{drop}
+use Rattle.block_rule.specs.Rule.{all_placed}
+use Rattle.block_steps.specs.Cursors.{Meets}
+use Rattle.block_walk.specs.Known.{plan_of}
+use Rattle.block_walk.specs.Walks.{places_of, state_of}
+use Rattle.block_walk.proofs.places.all_placed.Given as goal
+
+abbrev pub invariant-loop-number : goal.invariant-loop-number
+invariant-loop-number l =
+    Meets l.new l.at.cursor (all_placed l.old.terms (plan_of l.known) (places_of l.old (drop l.number l.places)) (state_of l.at))
+    → Meets l.new l.fn.walk.cursor (all_placed l.old.terms (plan_of l.known) (places_of l.old l.places) (state_of l.fn.walk))

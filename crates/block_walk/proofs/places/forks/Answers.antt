@@ -1,0 +1,12 @@
+use Rattle.std.proofs.Common.{false}
+use Rattle.block_rule.specs.Rule.{leads, under}
+use Rattle.block_walk.specs.Known.{plan_of}
+use Rattle.block_walk.proofs.Following.{weaken}
+use Rattle.block_walk.proofs.places.forks.Goals as goal
+
+pub returns : goal.returns
+returns c =
+    weaken c.leads-2.result _ _
+    (λ w f rest m. c.in_ok-there.ensures
+    (λ st. leads (plan_of c.args.known.now) st c.args.other false (under c.args.old.now.terms c.args.guard c.args.others) rest) (f rest m))
+    c.leads-2.ensures

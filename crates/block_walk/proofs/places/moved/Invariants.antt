@@ -1,0 +1,12 @@
+use Rattle.std.proofs.Common.{drop}
+use Rattle.block_rule.specs.Deeds.{Code}
+use Rattle.block_rule.specs.Rule.{moved}
+use Rattle.block_steps.specs.Cursors.{Meets}
+use Rattle.block_walk.specs.Known.{plan_of}
+use Rattle.block_walk.specs.Walks.{waits_of}
+use Rattle.block_walk.proofs.places.moved.Given as goal
+
+abbrev pub invariant-loop-number : goal.invariant-loop-number
+invariant-loop-number l =
+    (code : Code) → Meets l.new l.at (moved l.old.terms (plan_of l.known) (waits_of l.waiting) l.guard (drop l.number l.ops) code)
+    → Meets l.new l.fn.cursor (moved l.old.terms (plan_of l.known) (waits_of l.waiting) l.guard (drop l.skip l.ops) code)

@@ -1,0 +1,13 @@
+use Rattle.std.proofs.Common.{Some}
+use Rattle.block_rule.specs.Rule.{goes}
+use Rattle.block_walk.specs.Known.{plan_of}
+use Rattle.block_walk.specs.Walks.{way_of}
+use Rattle.block_walk.proofs.Following.{weaken}
+use Rattle.block_walk.proofs.places.tested.Goals as goal
+
+pub returns : goal.returns
+returns c =
+    weaken c.goes.result _ _
+    (λ w f rest m. c.in_ok-there.ensures
+    (λ st. goes c.args.old.now.terms (plan_of c.args.known.now) st (Some c.args.walk.next) (way_of c.args.old.now c.args.way) rest) (f rest m))
+    c.goes.ensures

@@ -1,0 +1,259 @@
+//! Branches on a walk: on checks that may have failed, and on the places that wait at the end.
+ghost use Rattle.std.specs.Prelude.{ℕ, [], ◌∷◌, not, Bool, List, IfOk, IsTrue};
+ghost use Rattle.truth_terms.specs.Truths.{Grew, IsBit};
+ghost use Rattle.block_rule.specs.Deeds.{Branches, Code, Does, Ends, Stops, Tests};
+ghost use Rattle.block_rule.specs.Rule.{certain, exits, flushed, some_bad};
+ghost use Rattle.block_steps.specs.Cursors.{Comes, Meets, SideAt};
+ghost use Rattle.block_steps.specs.Tests.{holds};
+ghost use Rattle.block_walk.specs.Known.{plan_of};
+ghost use Rattle.block_walk.specs.Walks.{bads_of, first_of, waits_of};
+
+use crate::known::{Known, is_cut};
+use crate::state::{Failing, Stop, Waiting};
+use block_steps::{Cursor, Test, assumes, ends, find_branch, find_side, is_test};
+use bv_term::{TermId, Terms};
+use c_graph::Graph;
+use truth_terms::{is_added, is_cell_bit, is_not};
+
+/// The place behind the end of an edge at a node.
+fn ended(new: &Graph, cursor: Cursor, to: u32) -> Result<Cursor, Stop>
+    ensures { IfOk result (λ n. Meets new.now cursor (Ends to)) }
+{
+    match ends(new, cursor, to) {
+        None => Err(Stop::Differs),
+        Some(next) => Ok(next),
+    }
+}
+
+/// Whether a term is the bit of a test.
+fn is_bit(old: &Graph, new: &Graph, term: TermId, test: Test) -> bool
+    requires { Grew old.now.terms new.now.terms }
+    ensures { IsTrue result → IsBit new.now.terms term (holds old.now.terms test) }
+{
+    is_test(old.terms(), new.terms(), term, test)
+}
+
+/// Whether the second term is the complement of the first.
+fn is_other(new: &Graph, term: TermId, other: TermId) -> bool
+    ensures { IsTrue result → (p : List ℕ → Bool) → IsBit new.now.terms term p → IsBit new.now.terms other (λ s. not (p s)) }
+{
+    is_not(new.terms(), other, term)
+}
+
+/// A branch whose first side ends at a node: the place behind the test of its second side.
+fn passed(old: &Graph, new: &Graph, cursor: Cursor, test: Test, to: u32) -> Result<Cursor, Stop>
+    requires { Grew old.now.terms new.now.terms }
+    ensures { IfOk result (λ n. (code : Code) → Meets new.now n code → Meets new.now cursor (Branches (holds old.now.terms test) (Ends to) code)) }
+{
+    let Some(fork) = find_branch(new, cursor) else {
+        return Err(Stop::Differs);
+    };
+    let Some(one) = find_side(new, fork.next, fork.node) else {
+        return Err(Stop::Differs);
+    };
+    if !is_bit(old, new, one.term, test) {
+        return Err(Stop::Differs);
+    }
+    let end = ended(new, one.next, to)?;
+    let Some(other) = find_side(new, end, fork.node) else {
+        return Err(Stop::Differs);
+    };
+    if !is_other(new, one.term, other.term) {
+        return Err(Stop::Differs);
+    }
+    Ok(other.next)
+}
+
+/// Whether a term is 1 where one of the checks failed.
+fn is_some_failing(terms: &Terms, term: TermId, bads: &[Failing]) -> bool
+    ensures { IsTrue result → IsBit terms.now term (some_bad (bads_of bads.now)) }
+{
+    let mut at = term;
+    for number in 0..bads.len() {
+        if number + 1 == bads.len() {
+            return is_cell_bit(terms, at, bads[number].cell);
+        }
+        let Some(next) = is_added(terms, at, bads[number].cell) else {
+            return false;
+        };
+        at = next;
+    }
+    false
+}
+
+/// Branches on checks in their order, the last without a test.
+fn first_failing(old: &Graph, new: &Graph, bads: &[Failing], cursor: Cursor) -> Result<Cursor, Stop>
+    requires { Grew old.now.terms new.now.terms }
+    ensures { IfOk result (λ n. Meets new.now cursor (first_of (bads_of bads.now))) }
+{
+    let mut at = cursor;
+    for number in 0..bads.len() {
+        if number + 1 == bads.len() {
+            return ended(new, at, bads[number].error);
+        }
+        let test = Test::On(Some(bads[number].cell));
+        at = passed(old, new, at, test, bads[number].error)?;
+    }
+    Err(Stop::Differs)
+}
+
+/// The branch for checks: its node, its term, and the place behind the test of its first side.
+#[derive(Clone, Copy)]
+struct Opened {
+    node: u32,
+    term: TermId,
+    next: Cursor,
+}
+
+fn open_branch(new: &Graph, bads: &[Failing], cursor: Cursor) -> Result<Opened, Stop>
+    ensures { IfOk result (λ o. Comes new.now cursor o.node × SideAt new.now o.next o.node o.term × IsBit new.now.terms o.term (some_bad (bads_of bads.now))) }
+{
+    let Some(fork) = find_branch(new, cursor) else {
+        return Err(Stop::Differs);
+    };
+    let Some(one) = find_side(new, fork.next, fork.node) else {
+        return Err(Stop::Differs);
+    };
+    if !is_some_failing(new.terms(), one.term, bads) {
+        return Err(Stop::Differs);
+    }
+    Ok(Opened {
+        node: fork.node,
+        term: one.term,
+        next: one.next,
+    })
+}
+
+/// One branch for all checks that may have failed.
+pub(crate) fn flush(
+    old: &Graph,
+    new: &Graph,
+    bads: &[Failing],
+    cursor: Cursor,
+) -> Result<Cursor, Stop>
+    requires { Grew old.now.terms new.now.terms }
+    ensures { IfOk result (λ n. (code : Code) → Meets new.now n code → Meets new.now cursor (flushed (bads_of bads.now) code)) }
+{
+    if bads.is_empty() {
+        return Ok(cursor);
+    }
+    let opened = open_branch(new, bads, cursor)?;
+    let end = first_failing(old, new, bads, opened.next)?;
+    let Some(other) = find_side(new, end, opened.node) else {
+        return Err(Stop::Differs);
+    };
+    if !is_other(new, opened.term, other.term) {
+        return Err(Stop::Differs);
+    }
+    Ok(other.next)
+}
+
+/// The branch for all checks that may have failed, behind which nothing waits.
+fn flush_last(old: &Graph, new: &Graph, bads: &[Failing], cursor: Cursor) -> Result<Cursor, Stop>
+    requires { Grew old.now.terms new.now.terms }
+    ensures { IfOk result (λ n. Meets new.now cursor (flushed (bads_of bads.now) Stops)) }
+{
+    if bads.is_empty() {
+        return Ok(cursor);
+    }
+    let opened = open_branch(new, bads, cursor)?;
+    first_failing(old, new, bads, opened.next)
+}
+
+/// Where a run may have been lost, it goes on only where the guard is 1.
+pub(crate) fn certain(
+    old: &Graph,
+    new: &Graph,
+    cursor: Cursor,
+    lost: bool,
+    guard: Option<u32>,
+) -> Result<Cursor, Stop>
+    requires { Grew old.now.terms new.now.terms }
+    ensures { IfOk result (λ n. (code : Code) → Meets new.now n code → Meets new.now cursor (certain lost guard code)) }
+{
+    if !lost {
+        return Ok(cursor);
+    }
+    match guard {
+        None => Ok(cursor),
+        Some(cell) => assumed(old, new, cursor, Test::On(Some(cell))),
+    }
+}
+
+fn assumed(old: &Graph, new: &Graph, cursor: Cursor, test: Test) -> Result<Cursor, Stop>
+    requires { Grew old.now.terms new.now.terms }
+    ensures { IfOk result (λ n. (code : Code) → Meets new.now n code → Meets new.now cursor (Does (Tests (holds old.now.terms test)) code)) }
+{
+    match assumes(old.terms(), new, cursor, test) {
+        None => Err(Stop::Differs),
+        Some(next) => Ok(next),
+    }
+}
+
+/// The last way out.
+fn last_exit(
+    old: &Graph,
+    new: &Graph,
+    known: &Known,
+    lost: bool,
+    exit: Waiting,
+    cursor: Cursor,
+) -> Result<Cursor, Stop>
+    requires { Grew old.now.terms new.now.terms }
+    ensures { IfOk result (λ n. Meets new.now cursor (exits (plan_of known.now) lost (waits_of (exit ∷ [])))) }
+{
+    if !is_cut(known, exit.node) {
+        return Err(Stop::Differs);
+    }
+    if !lost {
+        return ended(new, cursor, exit.node);
+    }
+    let next = assumed(old, new, cursor, Test::On(exit.guard))?;
+    ended(new, next, exit.node)
+}
+
+/// The places that wait at the end.
+fn leave(
+    old: &Graph,
+    new: &Graph,
+    known: &Known,
+    lost: bool,
+    waiting: &[Waiting],
+    cursor: Cursor,
+) -> Result<Cursor, Stop>
+    requires { Grew old.now.terms new.now.terms }
+    ensures { IfOk result (λ n. Meets new.now cursor (exits (plan_of known.now) lost (waits_of waiting.now))) }
+{
+    let mut at = cursor;
+    for number in 0..waiting.len() {
+        let exit = waiting[number];
+        if number + 1 == waiting.len() {
+            return last_exit(old, new, known, lost, exit, at);
+        }
+        if !is_cut(known, exit.node) {
+            return Err(Stop::Differs);
+        }
+        at = passed(old, new, at, Test::On(exit.guard), exit.node)?;
+    }
+    Ok(at)
+}
+
+/// The end of a block: the checks that may have failed, and the places that wait.
+pub(crate) fn close(
+    old: &Graph,
+    new: &Graph,
+    known: &Known,
+    lost: bool,
+    bads: &[Failing],
+    waiting: &[Waiting],
+    cursor: Cursor,
+) -> Result<Cursor, Stop>
+    requires { Grew old.now.terms new.now.terms }
+    ensures { IfOk result (λ n. Meets new.now cursor (flushed (bads_of bads.now) (exits (plan_of known.now) lost (waits_of waiting.now)))) }
+{
+    if waiting.is_empty() {
+        return flush_last(old, new, bads, cursor);
+    }
+    let next = flush(old, new, bads, cursor)?;
+    leave(old, new, known, lost, waiting, next)
+}
