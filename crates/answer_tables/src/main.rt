@@ -9,33 +9,19 @@
 #![tactic(auto)]
 
 mod rows;
+mod tables;
 mod trying;
 
-use crate::rows::row_of;
-use crate::trying::tried;
-use std::alloc::Global;
+use crate::tables::try_files;
 use std::process::ExitCode;
-use std::str;
-use std::thread::Threads;
-use table_rows::{Flaw, Table, run_tables};
-
-/// Tables of answers, and what starts the threads of workers.
-struct AnswerRows<'a, R> {
-    rt: &'a R,
-}
-
-impl<R: Threads + Sync> Table for AnswerRows<'_, R> {
-    fn other(&self, alloc: Global, row: &str) -> Result<Option<String>, Flaw> {
-        let answered = tried(self.rt, alloc, row_of(alloc, row)?)?;
-        if answered.holds {
-            return Ok(None);
-        }
-        let text = str::from_utf8(&answered.text).unwrap_or("");
-        let status = answered.status;
-        Ok(Some(format!(in alloc; "{status} {text}")?))
-    }
-}
 
 fn main(rt: HostRuntime) -> ExitCode {
-    run_tables(&rt, &AnswerRows { rt: &rt })
+    match try_files(&rt) {
+        Ok(0) => ExitCode::from(0),
+        Ok(_) => ExitCode::from(1),
+        Err(refusal) => {
+            let _ = eprintln!(rt; "{refusal}");
+            ExitCode::from(2)
+        }
+    }
 }

@@ -1,0 +1,107 @@
+//! The tables whose names are the words behind the program's name. Rows need a handle for threads, which the loop that tables share has
+//! not, so this one is written out.
+
+use crate::rows::row_of;
+use crate::trying::tried;
+use lv_outside::{FileFail, Folder, Got, HostFolder};
+use std::alloc::{AllocError, Global};
+use std::rt::{Env, Files};
+use std::thread::Threads;
+use std::{env, io, str};
+use table_rows::{Flaw, Refusal};
+
+// The most bytes that a table may have.
+const MOST_BYTES: usize = 1 << 20;
+
+// What the file of this name holds.
+fn load<R: Files + Clone + Drop>(alloc: Global, rt: &R, name: &str) -> Result<Vec<u8>, Refusal> {
+    let files: Result<R, AllocError> = rt.clone();
+    let Ok(files) = files else {
+        return Err(Refusal::Memory);
+    };
+    match HostFolder::new(files).read(alloc, name, MOST_BYTES) {
+        Ok(Got::Bytes(bytes)) => Ok(bytes),
+        Ok(Got::Longer) => Err(Refusal::Long),
+        Err(FileFail::Memory) => Err(Refusal::Memory),
+        Err(FileFail::Failed) => Err(Refusal::File),
+    }
+}
+
+// The status and the text of a row's answer, where it is not as the row says.
+fn other<R: Threads + Sync>(rt: &R, alloc: Global, row: &str) -> Result<Option<String>, Flaw> {
+    let answered = tried(rt, alloc, row_of(alloc, row)?)?;
+    if answered.holds {
+        return Ok(None);
+    }
+    let text = str::from_utf8(&answered.text).unwrap_or("");
+    let status = answered.status;
+    Ok(Some(format!(in alloc; "{status} {text}")?))
+}
+
+// Tries a row, and prints what came where it is not so.
+fn is_so<R: Print + Threads + Sync>(
+    alloc: Global,
+    rt: &R,
+    line: u32,
+    row: &str,
+) -> Result<bool, Refusal> {
+    let said = match other(rt, alloc, row) {
+        Ok(None) => return Ok(true),
+        Ok(Some(other)) => println!(rt; "line {line}: {other}"),
+        Err(Flaw::Form) => println!(rt; "line {line} is no row"),
+        Err(Flaw::Memory) => return Err(Refusal::Memory),
+    };
+    match said {
+        Ok(()) => Ok(false),
+        Err(_) => Err(Refusal::Output),
+    }
+}
+
+// How many rows of a table are not so, and how many there are.
+fn try_all<R: Print + Threads + Sync>(
+    alloc: Global,
+    rt: &R,
+    bytes: &[u8],
+) -> Result<(u64, u64), Refusal> {
+    let Ok(text) = str::from_utf8(bytes) else {
+        return Err(Refusal::Text);
+    };
+    let mut others = 0u64;
+    let mut rows = 0u64;
+    let mut line = 0u32;
+    for row in text.lines() {
+        line = line.saturating_add(1);
+        if row.is_empty() || row.starts_with("#") {
+            continue;
+        }
+        rows = rows.saturating_add(1);
+        if !is_so(alloc, rt, line, row)? {
+            others = others.saturating_add(1);
+        }
+    }
+    Ok((others, rows))
+}
+
+/// How many rows are not so, in all tables.
+pub fn try_files<R>(rt: &R) -> Result<u64, Refusal>
+where
+    R: AllocGlobal + Env + Files + Print + Threads + Sync + Clone + Drop,
+{
+    let alloc = rt.alloc();
+    let words = match env::args(rt) {
+        Ok(words) => words,
+        Err(fail) if fail.kind() == io::ErrorKind::OutOfMemory => return Err(Refusal::Memory),
+        Err(_) => return Err(Refusal::Words),
+    };
+    let mut found = 0u64;
+    for name in words.skip(1) {
+        let bytes = load(alloc, rt, name.as_str())?;
+        let (others, rows) = try_all(alloc, rt, &bytes)?;
+        found = found.saturating_add(others);
+        let name = name.as_str();
+        if println!(rt; "{name}: {rows} rows").is_err() {
+            return Err(Refusal::Output);
+        }
+    }
+    Ok(found)
+}
