@@ -1,7 +1,8 @@
 //! The edges of one block: its operations under guards, a branch for its failed checks, and one for each way out.
+ghost use Rattle.std.specs.Prelude.{◌≤◌, length};
 
-use crate::terms::{Guard, Truths, both, either, not, put, select, term_of, width_of};
-use block_plan::{Blocks, Links, Live, Units, Way, Ways, draws, number_of, ways_at};
+use crate::terms::{Test, Truths, either, not, put, select, term_of, width_of};
+use block_plan::{Blocks, Live, Units, Way, Ways, draws, number_of, ways_at};
 use bv_term::{Term, TermId, Terms};
 use c_graph::{Edge, Graph, Node, NodeId, Operation, Operations};
 use lv_base::Memory;
@@ -15,6 +16,13 @@ const MOST_WAITING: usize = 64;
 struct Check {
     cell: u32,
     error: NodeId,
+}
+
+/// A place that waits, and the cell that is 1 where the run waits there; without a cell it surely does.
+#[derive(Clone, Copy)]
+struct Waiting {
+    node: NodeId,
+    guard: Option<u32>,
 }
 
 /// What the blocks are made from.
@@ -36,33 +44,26 @@ pub(crate) struct Draft {
     // the first saved cell of blocks, and how many a block has used at most
     first: u32,
     pub(crate) used: u32,
-    on: Links,
     // of the block that is made
     taken: u32,
     free: Vec<NodeId>,
     from: NodeId,
     ops: Vec<Operation>,
     checks: Vec<Check>,
-    waiting: Vec<NodeId>,
+    // in the order of numbers
+    waiting: Vec<Waiting>,
     is_lost: bool,
 }
 
 impl Draft {
-    pub(crate) fn new(
-        alloc: Global,
-        nodes: Vec<Node>,
-        truths: Truths,
-        first: u32,
-    ) -> Result<Draft, Memory> {
-        let on = Links::new(alloc, nodes.len())?;
-        Ok(Draft {
+    pub(crate) fn new(alloc: Global, nodes: Vec<Node>, truths: Truths, first: u32) -> Draft {
+        Draft {
             alloc,
             nodes,
             edges: Vec::new(alloc),
             truths,
             first,
             used: 0,
-            on,
             taken: 0,
             free: Vec::new(alloc),
             from: NodeId(0),
@@ -70,7 +71,7 @@ impl Draft {
             checks: Vec::new(alloc),
             waiting: Vec::new(alloc),
             is_lost: false,
-        })
+        }
     }
 
     /// The edges of the block with these places, in order; the first is its cut point.
@@ -78,20 +79,20 @@ impl Draft {
         let Some(start) = places.first().copied() else {
             return Ok(());
         };
-        self.begin(start);
+        self.begin(start)?;
         for place in places {
-            self.place(plan, *place, *place == start)?;
+            self.place(plan, *place)?;
             if *place != start {
                 self.free.push(*place)?;
             }
         }
         self.flush()?;
         self.leave()?;
-        self.forget(places);
+        self.used = self.used.max(self.taken);
         Ok(())
     }
 
-    fn begin(&mut self, start: NodeId) {
+    fn begin(&mut self, start: NodeId) -> Result<(), Memory> {
         self.taken = 0;
         self.free.clear();
         self.from = start;
@@ -99,17 +100,7 @@ impl Draft {
         self.checks.clear();
         self.waiting.clear();
         self.is_lost = false;
-    }
-
-    // The guards of the block's places and ways out are no longer theirs.
-    fn forget(&mut self, places: &[NodeId]) {
-        for place in places {
-            self.on.set(place.0, None);
-        }
-        for exit in &self.waiting {
-            self.on.set(exit.0, None);
-        }
-        self.used = self.used.max(self.taken);
+        self.wait(start, None)
     }
 
     // A saved cell of one bit.
@@ -166,43 +157,32 @@ impl Draft {
         Ok(self.from)
     }
 
-    fn guard_of(&mut self, node: NodeId) -> Result<Guard, Memory> {
-        match self.on.get(node.0) {
-            None => Ok(Guard::Sure),
-            Some(cell) => Ok(Guard::On(self.read(cell)?)),
-        }
-    }
-
     // A place: its guard, its operations, and where it leads.
-    fn place(&mut self, plan: Plan<'_>, place: NodeId, is_start: bool) -> Result<(), Memory> {
-        self.arrive(plan, place, is_start)?;
-        let is_sure = is_start || (plan.blocks.sure.get(place.0) && !self.is_lost);
-        let guard = if is_sure {
-            Guard::Sure
-        } else {
-            self.guard_of(place)?
+    fn place(&mut self, plan: Plan<'_>, place: NodeId) -> Result<(), Memory> {
+        let Some(found) = self.waits(place) else {
+            return Ok(());
         };
+        self.waiting.retain(|other| other.node != place);
+        let guard = self.arrive(found)?;
         match ways_at(&plan.blocks.ways, place) {
             Ways::Kept => Ok(()),
-            Ways::One(way) => self.one_way(plan, place, guard, way),
-            Ways::Two(first, second) => self.two_ways(plan, place, guard, first, second),
+            Ways::One(way) => self.one_way(plan, guard, way),
+            Ways::Two(first, second) => self.two_ways(plan, guard, first, second),
         }
     }
 
-    // The place no longer waits; a sure one behind a lost side is where the run is.
-    fn arrive(&mut self, plan: Plan<'_>, place: NodeId, is_start: bool) -> Result<(), Memory> {
-        if is_start {
-            return Ok(());
+    // Where nothing else waits, and no run was lost with a check open, the run is surely here.
+    fn arrive(&mut self, guard: Option<u32>) -> Result<Option<u32>, Memory> {
+        if !self.waiting.is_empty() || (self.is_lost && !self.checks.is_empty()) {
+            return Ok(guard);
         }
-        self.waiting.retain(|other| *other != place);
-        if self.is_lost && self.checks.is_empty() && plan.blocks.sure.get(place.0) {
-            self.assume_at(place)?;
-        }
-        Ok(())
+        self.assume_on(guard)?;
+        Ok(None)
     }
 
-    fn assume_at(&mut self, place: NodeId) -> Result<(), Memory> {
-        if let Some(cell) = self.on.get(place.0) {
+    // Where a run may have been lost, it goes on only where the guard is 1.
+    fn assume_on(&mut self, guard: Option<u32>) -> Result<(), Memory> {
+        if let (true, Some(cell)) = (self.is_lost, guard) {
             let test = self.read(cell)?;
             self.ops.push(Operation::Assume(test))?;
         }
@@ -210,31 +190,23 @@ impl Draft {
         Ok(())
     }
 
-    fn one_way(
-        &mut self,
-        plan: Plan<'_>,
-        place: NodeId,
-        guard: Guard,
-        way: Way,
-    ) -> Result<(), Memory> {
-        let guard = match way.test {
-            None => guard,
+    fn one_way(&mut self, plan: Plan<'_>, guard: Option<u32>, way: Way) -> Result<(), Memory> {
+        match way.test {
+            None => self.go(plan, guard, way),
             Some(test) => {
+                let cell = self.saved(Test::Under(guard, test))?;
                 self.is_lost = true;
-                let open = both(&mut self.truths, guard, Guard::On(test))?;
-                self.saved(open)?
+                self.go(plan, Some(cell), way)
             }
-        };
-        let guard = self.moves(plan, place, guard, way)?;
-        self.lead(plan, way.to, guard)
+        }
     }
 
-    // A guard that later operations don't change.
-    fn saved(&mut self, guard: Guard) -> Result<Guard, Memory> {
+    // A test's truth in a cell of its own, which later operations don't change.
+    fn saved(&mut self, test: Test) -> Result<u32, Memory> {
+        let term = term_of(&mut self.truths, test)?;
         let cell = self.cell();
-        let term = term_of(&mut self.truths, guard)?;
         self.ops.push(Operation::Set(cell, term))?;
-        Ok(Guard::On(self.read(cell)?))
+        Ok(cell)
     }
 
     fn is_error(&self, node: NodeId) -> bool {
@@ -244,8 +216,7 @@ impl Draft {
     fn two_ways(
         &mut self,
         plan: Plan<'_>,
-        place: NodeId,
-        guard: Guard,
+        guard: Option<u32>,
         first: Way,
         second: Way,
     ) -> Result<(), Memory> {
@@ -256,35 +227,22 @@ impl Draft {
             }
             (true, false) => {
                 self.check(guard, first)?;
-                let guard = self.moves(plan, place, guard, second)?;
-                self.lead(plan, second.to, guard)
+                self.go(plan, guard, second)
             }
             (false, true) => {
                 self.check(guard, second)?;
-                self.lead(plan, first.to, guard)
+                self.go(plan, guard, first)
             }
             (false, false) => {
-                let one = self.under(guard, first)?;
-                let other = self.under(guard, second)?;
-                self.lead(plan, first.to, one)?;
-                self.lead(plan, second.to, other)
+                self.lead(plan, first.to, false, under(guard, first))?;
+                self.lead(plan, second.to, false, under(guard, second))
             }
-        }
-    }
-
-    fn under(&mut self, guard: Guard, way: Way) -> Result<Guard, Memory> {
-        match way.test {
-            None => Ok(guard),
-            Some(test) => both(&mut self.truths, guard, Guard::On(test)),
         }
     }
 
     // A check: its cell says whether it failed.
-    fn check(&mut self, guard: Guard, way: Way) -> Result<(), Memory> {
-        let failed = self.under(guard, way)?;
-        let term = term_of(&mut self.truths, failed)?;
-        let cell = self.cell();
-        self.ops.push(Operation::Set(cell, term))?;
+    fn check(&mut self, guard: Option<u32>, way: Way) -> Result<(), Memory> {
+        let cell = self.saved(under(guard, way))?;
         self.checks.push(Check {
             cell,
             error: way.to,
@@ -292,64 +250,83 @@ impl Draft {
         Ok(())
     }
 
-    // A run that is here goes on at a node.
-    fn lead(&mut self, plan: Plan<'_>, to: NodeId, guard: Guard) -> Result<(), Memory> {
-        if !plan.blocks.matters.get(to.0) {
-            self.is_lost = true;
-            return Ok(());
-        }
-        let is_inner = !plan.blocks.cuts.get(to.0);
-        if is_inner && guard == Guard::Sure && plan.blocks.sure.get(to.0) {
-            return self.wait(to);
-        }
-        let term = term_of(&mut self.truths, guard)?;
-        match self.on.get(to.0) {
-            Some(cell) => {
-                let was = self.read(cell)?;
-                let now = either(&mut self.truths, was, term)?;
-                self.ops.push(Operation::Set(cell, now))?;
-            }
-            None => {
-                let cell = self.cell();
-                self.on.set(to.0, Some(cell));
-                self.ops.push(Operation::Set(cell, term))?;
-            }
-        }
-        self.wait(to)
-    }
-
-    fn wait(&mut self, node: NodeId) -> Result<(), Memory> {
-        if !self.waiting.contains(&node) {
-            self.waiting.push(node)?;
-        }
-        Ok(())
-    }
-
-    // The operations of a way behind its test; a draw comes only where it is known that the run is here.
-    fn moves(
-        &mut self,
-        plan: Plan<'_>,
-        place: NodeId,
-        guard: Guard,
-        way: Way,
-    ) -> Result<Guard, Memory> {
+    // The operations of a way behind its test, and where it leads; a draw comes only where it is known that the run is here.
+    fn go(&mut self, plan: Plan<'_>, guard: Option<u32>, way: Way) -> Result<(), Memory> {
         let Some(edge) = plan.graph.edges().get(way.edge.0 as usize) else {
-            return Ok(guard);
+            return Ok(());
         };
         let mut guard = guard;
         if draws(edge) {
             self.flush()?;
-            if self.is_lost {
-                self.assume_at(place)?;
-            }
-            guard = Guard::Sure;
+            self.assume_on(guard)?;
+            guard = None;
         }
         for (number, operation) in edge.ops.as_slice().iter().enumerate() {
             if number > 0 || way.test.is_none() {
                 self.operation(plan, guard, *operation)?;
             }
         }
-        Ok(guard)
+        self.lead(plan, way.to, guard.is_none(), Test::On(guard))
+    }
+
+    // A run goes on at a node, under a test.
+    fn lead(
+        &mut self,
+        plan: Plan<'_>,
+        to: NodeId,
+        is_sure: bool,
+        test: Test,
+    ) -> Result<(), Memory> {
+        if !plan.blocks.matters.get(to.0) {
+            self.is_lost = true;
+            return Ok(());
+        }
+        match self.waits(to) {
+            Some(None) => Ok(()),
+            Some(Some(cell)) => self.add(cell, test),
+            None if is_sure && !plan.blocks.cuts.get(to.0) => self.wait(to, None),
+            None => {
+                let cell = self.saved(test)?;
+                self.wait(to, Some(cell))
+            }
+        }
+    }
+
+    // One more way to a place that waits.
+    fn add(&mut self, cell: u32, test: Test) -> Result<(), Memory> {
+        let was = self.read(cell)?;
+        let more = term_of(&mut self.truths, test)?;
+        let now = either(&mut self.truths, was, more)?;
+        self.ops.push(Operation::Set(cell, now))?;
+        Ok(())
+    }
+
+    // The guard of a place that waits.
+    fn waits(&self, node: NodeId) -> Option<Option<u32>> {
+        for place in &self.waiting {
+            if place.node == node {
+                return Some(place.guard);
+            }
+        }
+        None
+    }
+
+    fn wait(&mut self, node: NodeId, guard: Option<u32>) -> Result<(), Memory> {
+        let at = self.place_among(node);
+        self.waiting.insert(at, Waiting { node, guard })?;
+        Ok(())
+    }
+
+    // Before how many of the places that wait a node stands.
+    fn place_among(&self, node: NodeId) -> usize
+        ensures { result ≤ length self.now.waiting.items }
+    {
+        for (number, place) in self.waiting.iter().enumerate() {
+            if place.node.0 > node.0 {
+                return number;
+            }
+        }
+        self.waiting.len()
     }
 
     // Whether a waiting place may read a cell before it sets it.
@@ -358,8 +335,8 @@ impl Draft {
             return true;
         }
         let unit = plan.units.of(cell);
-        for node in &self.waiting {
-            if plan.live.is_live(node.0, unit) {
+        for place in &self.waiting {
+            if plan.live.is_live(place.node.0, unit) {
                 return true;
             }
         }
@@ -369,16 +346,18 @@ impl Draft {
     fn operation(
         &mut self,
         plan: Plan<'_>,
-        guard: Guard,
+        guard: Option<u32>,
         operation: Operation,
     ) -> Result<(), Memory> {
         let guarded = match (guard, operation) {
-            (Guard::On(test), Operation::Set(cell, term)) if self.is_awaited(plan, cell) => {
+            (Some(on), Operation::Set(cell, term)) if self.is_awaited(plan, cell) => {
+                let test = self.read(on)?;
                 let was = self.read(cell)?;
                 Operation::Set(cell, select(&mut self.truths, test, term, was)?)
             }
-            (Guard::On(test), Operation::SetAt(first, length, index, term))
+            (Some(on), Operation::SetAt(first, length, index, term))
                 if self.is_awaited(plan, first) => {
+                let test = self.read(on)?;
                 let index = self.guarded_index(test, length, index)?;
                 Operation::SetAt(first, length, index, term)
             }
@@ -404,17 +383,12 @@ impl Draft {
     fn flush(&mut self) -> Result<(), Memory> {
         let fresh = Vec::new(self.alloc);
         let checks = std::mem::replace(&mut self.checks, fresh);
-        let Some(first) = checks.first().copied() else {
+        let Some(any) = self.some_failed(&checks)? else {
             return Ok(());
         };
         let node = self.branch_node()?;
-        let mut any = self.read(first.cell)?;
-        for check in &checks[1..] {
-            let failed = self.read(check.cell)?;
-            any = either(&mut self.truths, any, failed)?;
-        }
         if checks.len() == 1 {
-            self.edge_if(node, first.error, any)?;
+            self.edge_if(node, checks[0].error, any)?;
         } else {
             let chain = self.node()?;
             self.edge_if(node, chain, any)?;
@@ -423,6 +397,19 @@ impl Draft {
         let none = not(&mut self.truths, any)?;
         self.ops.push(Operation::Assume(none))?;
         Ok(())
+    }
+
+    // A term that is 1 where the first check failed or one of the others, if there are any.
+    fn some_failed(&mut self, checks: &[Check]) -> Result<Option<TermId>, Memory> {
+        let mut any = None;
+        for behind in 0..checks.len() {
+            let failed = self.read(checks[checks.len() - 1 - behind].cell)?;
+            any = Some(match any {
+                None => failed,
+                Some(others) => either(&mut self.truths, failed, others)?,
+            });
+        }
+        Ok(any)
     }
 
     // Branches on the checks in their order, the last without a test.
@@ -446,27 +433,29 @@ impl Draft {
 
     // Branches on the ways out in the order of their numbers, the last without a test unless a side was lost.
     fn leave(&mut self) -> Result<(), Memory> {
-        self.waiting
-            .sort_unstable_by(|one, other| one.0.cmp(&other.0));
         let exits = self.waiting.clone()?;
         for (number, exit) in exits.iter().enumerate() {
             let is_last = number + 1 == exits.len();
             if is_last && !self.is_lost {
-                return self.close(*exit);
+                return self.close(exit.node);
             }
-            let test = match self.guard_of(*exit)? {
-                Guard::Sure => put(&mut self.truths, Term::Constant(1, 1))?,
-                Guard::On(test) => test,
-            };
+            let test = term_of(&mut self.truths, Test::On(exit.guard))?;
             if is_last {
                 self.ops.push(Operation::Assume(test))?;
-                return self.close(*exit);
+                return self.close(exit.node);
             }
             let node = self.branch_node()?;
-            self.edge_if(node, *exit, test)?;
+            self.edge_if(node, exit.node, test)?;
             let other = not(&mut self.truths, test)?;
             self.ops.push(Operation::Assume(other))?;
         }
         Ok(())
+    }
+}
+
+fn under(guard: Option<u32>, way: Way) -> Test {
+    match way.test {
+        None => Test::On(guard),
+        Some(test) => Test::Under(guard, test),
     }
 }

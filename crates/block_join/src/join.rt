@@ -1,41 +1,108 @@
+//! A graph of blocks is made, and taken only where it has what the rule says.
+ghost use Rattle.std.specs.Prelude.{◌⊎◌, IfOk, IsTrue};
+ghost use Rattle.program_graphs.specs.Standing.{MeetsSome};
+ghost use Rattle.join_laws.specs.Keeping.{KeepsErrors};
+
+use crate::chains::{copied_edge, with_chains};
 use crate::emission::{Draft, Plan};
 use crate::terms::Truths;
+use block_follow::follows_rule;
 use block_plan::{Blocks, Reads, Units, Ways, begins, blocks_of, live_units, number_of, ways_at};
+use block_walk::Known;
 use bv_term::{TermId, Terms, are_widths};
 use c_graph::{Cell, Edge, Graph, Node, NodeId, Operations, Origin, graph_from};
-use edge_chains::join_chains;
 use lv_base::Memory;
 use std::alloc::Global;
 
 /// The graph in which everything between two cut points is one edge, with a branch for its failed checks and one for each way out;
 /// and then each node with one way in and one way out, that is neither the entry nor a loop's, has given its edge away. Nodes keep
-/// their numbers, also those without edges that are left over; new ones stand behind them.
-pub fn join_blocks(alloc: Global, graph: &Graph) -> Result<Graph, Memory> {
+/// their numbers, also those without edges that are left over; new ones stand behind them. Where the graph of blocks is not what the
+/// rule says, the graph's own chains of edges are joined.
+pub fn join_blocks(alloc: Global, graph: &Graph) -> Result<Graph, Memory>
+    ensures { IfOk result (λ h. KeepsErrors graph.now h ⊎ MeetsSome h) }
+{
+    let made = attempted(alloc, graph)?;
+    if keeps_errors(alloc, graph, &made.graph, &made.known, &made.members)? {
+        with_chains(alloc, &made.graph)
+    } else {
+        with_chains(alloc, graph)
+    }
+}
+
+/// Whether the second graph has the blocks of the first, by what is known of that and the places of each block.
+fn keeps_errors(
+    alloc: Global,
+    graph: &Graph,
+    blocked: &Graph,
+    known: &Known,
+    members: &[Vec<NodeId>],
+) -> Result<bool, Memory>
+    ensures { IfOk result (λ b. IsTrue b → KeepsErrors graph.now blocked.now) }
+{
+    let _entry = graph.entry();
+    let _start = blocked.entry();
+    follows_rule(alloc, graph, blocked, known, members)
+}
+
+/// A graph that may be one of blocks, and what it was made from.
+#[derive(Drop)]
+struct Attempt {
+    graph: Graph,
+    known: Known,
+    members: Vec<Vec<NodeId>>,
+}
+
+// The graph of the blocks before chains are joined. It is tested, so nothing is said of it.
+fn attempted(alloc: Global, graph: &Graph) -> Result<Attempt, Memory> {
     let blocks = blocks_of(alloc, graph)?;
     let units = Units::new(alloc, graph.cells())?;
     let reads = Reads::new(alloc, graph.terms(), &units)?;
     let live = live_units(alloc, graph, &blocks, &units, &reads)?;
+    let members = members_of(alloc, graph, &blocks)?;
     let plan = Plan {
         graph,
         blocks: &blocks,
         units: &units,
         live: &live,
     };
-    let members = members_of(alloc, graph, &blocks)?;
-    let first = graph.cells().len();
-    let room = room_for(&members);
-    let truths = with_cells(alloc, graph, room)?;
+    let blocked = blocked(alloc, plan, &members)?;
+    let Blocks {
+        reached,
+        alive,
+        cuts,
+        ..
+    } = blocks;
+    let known = Known {
+        reached,
+        alive,
+        cuts,
+        units,
+        live,
+        reads,
+    };
+    Ok(Attempt {
+        graph: blocked,
+        known,
+        members,
+    })
+}
+
+// The edges of each block, and those of nodes that keep theirs.
+fn blocked(alloc: Global, plan: Plan<'_>, members: &[Vec<NodeId>]) -> Result<Graph, Memory> {
+    let graph = plan.graph;
+    let first = number_of(graph.cells().len())?;
+    let truths = with_cells(alloc, graph, room_for(members))?;
     let nodes = graph.nodes().to_vec(alloc)?;
-    let mut draft = Draft::new(alloc, nodes, truths, number_of(first)?)?;
+    let mut draft = Draft::new(alloc, nodes, truths, first);
     for (number, places) in members.iter().enumerate() {
         let node = NodeId(number_of(number)?);
-        if begins(graph, &blocks, node) {
+        if begins(graph, plan.blocks, node) {
             draft.block(plan, places)?;
         } else {
-            keep_edges(alloc, graph, &blocks, node, &mut draft)?;
+            keep_edges(alloc, graph, plan.blocks, node, &mut draft)?;
         }
     }
-    end_where_nothing_matters(alloc, graph, &blocks, &mut draft)?;
+    end_where_nothing_matters(alloc, graph, plan.blocks, &mut draft)?;
     finish(alloc, graph, draft)
 }
 
@@ -120,11 +187,7 @@ fn keep_edges(
     for edge in graph.outs(alloc, node)?.as_slice() {
         if let Some(edge) = graph.edges().get(edge.0 as usize) {
             if blocks.matters.get(edge.to.0) {
-                draft.edges.push(Edge {
-                    from: edge.from,
-                    to: edge.to,
-                    ops: Operations::new(edge.ops.as_slice().to_vec(alloc)?),
-                })?;
+                draft.edges.push(copied_edge(alloc, edge)?)?;
             }
         }
     }
@@ -189,7 +252,6 @@ fn finish(alloc: Global, graph: &Graph, draft: Draft) -> Result<Graph, Memory> {
     } = draft;
     let cells = all_cells(alloc, graph, used)?;
     let last = copied(alloc, &truths.terms, widths_of(alloc, &cells)?)?;
-    let edges = join_chains(alloc, &nodes, edges, graph.entry(), graph.loops())?;
     // nodes over terms that are not well formed count for nothing: without a node the parts make no graph
     let nodes = if truths.is_sound && last.is_sound {
         nodes

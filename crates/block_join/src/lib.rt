@@ -18,10 +18,13 @@
 //!
 //! But for the plan it takes time in proportion to the graph, times the ways out that wait at once in a block.
 //!
-//! Last, chains of edges become one edge each: what is proved of them, [`edge_chains`] says. Of the blocks no contract says more than
-//! that the call returns, and that the answer is a graph.
+//! Of how blocks are made no contract says more than that the call returns. What was made is tested ([`block_follow`]): where it has the
+//! blocks that the rule says, errors that runs meet are kept, and chains of its edges become one edge each ([`edge_chains`]); where it
+//! has not, chains of the first graph's edges are joined instead. So each error that a run of the first graph meets, a run of the answer
+//! meets, with the same values.
 #![tactic(auto)]
 
+mod chains;
 mod emission;
 mod join;
 mod terms;

@@ -3,11 +3,11 @@
 use bv_term::{Term, TermId, Terms};
 use lv_base::Memory;
 
-/// A truth of a guard: known to be 1, or a term of width 1.
-#[derive(Clone, Copy, PartialEq)]
-pub(crate) enum Guard {
-    Sure,
-    On(TermId),
+/// A truth: that a guard's cell is 1, or also a term of width 1; without a cell the guard is 1.
+#[derive(Clone, Copy)]
+pub(crate) enum Test {
+    On(Option<u32>),
+    Under(Option<u32>, TermId),
 }
 
 /// The terms of the graph that is made. Where a term was not well formed, nothing that was made of these counts.
@@ -37,22 +37,16 @@ pub(crate) fn width_of(truths: &Truths, term: TermId) -> u32 {
     }
 }
 
-/// Both.
-pub(crate) fn both(truths: &mut Truths, first: Guard, second: Guard) -> Result<Guard, Memory> {
-    match (first, second) {
-        (Guard::Sure, other) => Ok(other),
-        (other, Guard::Sure) => Ok(other),
-        (Guard::On(first), Guard::On(second)) => {
-            Ok(Guard::On(put(truths, Term::And(first, second))?))
+/// The truth as a term.
+pub(crate) fn term_of(truths: &mut Truths, test: Test) -> Result<TermId, Memory> {
+    match test {
+        Test::On(None) => put(truths, Term::Constant(1, 1)),
+        Test::On(Some(cell)) => put(truths, Term::Cell(cell)),
+        Test::Under(None, term) => Ok(term),
+        Test::Under(Some(cell), term) => {
+            let on = put(truths, Term::Cell(cell))?;
+            put(truths, Term::And(on, term))
         }
-    }
-}
-
-/// The guard as a term.
-pub(crate) fn term_of(truths: &mut Truths, guard: Guard) -> Result<TermId, Memory> {
-    match guard {
-        Guard::Sure => put(truths, Term::Constant(1, 1)),
-        Guard::On(term) => Ok(term),
     }
 }
 

@@ -10,7 +10,7 @@ use std::alloc::Global;
 /// The most words of 64 units for all nodes together.
 const MOST_WORDS: usize = 1 << 22;
 
-/// The units that are read from each node on, in the part of the graph that matters.
+/// The units that are read from each node on, so far as edges lead to nodes that matter; also from nodes that are not reached.
 pub fn live_units(
     alloc: Global,
     graph: &Graph,
@@ -47,7 +47,7 @@ fn pass(
     for behind in 0..graph.nodes().len() {
         let number = graph.nodes().len() - 1 - behind;
         let node = NodeId(number_of(number)?);
-        if !blocks.matters.get(node.0) {
+        if !blocks.alive.get(node.0) {
             continue;
         }
         for edge in graph.outs(alloc, node)?.as_slice() {

@@ -84,14 +84,19 @@ fn pair(graph: &Graph, first: Way, second: Way) -> Ways {
     let (Some(test), Some(other)) = (first.test, second.test) else {
         return Ways::Kept;
     };
-    if !are_complements(graph.terms(), test, other) || first.to == second.to {
+    if !are_complements(graph.terms(), test, other) {
         return Ways::Kept;
     }
-    let is_check = is_error(graph, first.to) && !is_error(graph, second.to);
-    if is_bare(graph, first) && (is_check || is_bare(graph, second)) {
-        return Ways::Two(first, second);
+    let is_regular = match (is_error(graph, first.to), is_error(graph, second.to)) {
+        (true, false) => is_bare(graph, first),
+        (false, true) => is_bare(graph, second),
+        (true, true) | (false, false) => is_bare(graph, first) && is_bare(graph, second),
+    };
+    if is_regular {
+        Ways::Two(first, second)
+    } else {
+        Ways::Kept
     }
-    Ways::Kept
 }
 
 /// The ways out of a node.

@@ -1,15 +1,12 @@
 //! Walks beside replays on the values that the walks drew.
 
-use crate::chance::Chance;
-use crate::walking::{Stop, Walk, walk_on};
+use crate::walking::{Walk, walk_by_chance};
 use c_graph::Graph;
 use c_rules::Examined;
+use graph_rows::Stop;
 use lv_base::Memory;
 use run_replay::{Ending, Replay};
 use std::alloc::Global;
-
-// The most steps of a walk.
-const MOST_STEPS: u32 = 2000;
 
 // The most turns of a replay.
 const MOST_TURNS: u64 = 1_000_000;
@@ -44,8 +41,7 @@ pub fn compare<R: Print>(
     let mut replay = Replay::new(alloc, examined)?;
     let mut others = 0u64;
     for round in 0..rounds {
-        let mut chance = Chance::new(round);
-        let walked = walk_on(alloc, graph, &mut chance, MOST_STEPS)?;
+        let walked = walk_by_chance(alloc, graph, round)?;
         let ending = replay.run(&walked.drawn, MOST_TURNS);
         if !agree(&walked, ending, kept) {
             others = others.saturating_add(1);
@@ -66,10 +62,10 @@ fn agree(walked: &Walk, ending: Ending, kept: Kept) -> bool {
         (Stop::Error(kind, at), Ending::Error(other, place, drawn)) => {
             kind == other && at == place && drawn == walked.drawn.len()
         }
-        (Stop::Error(_, _), _) => false,
+        (Stop::Error(_, _) | Stop::Dry | Stop::Forked, _) => false,
         (Stop::End, Ending::Ended) => true,
-        (Stop::Cut, Ending::BadInput(_)) => false,
-        (Stop::Cut, _) => true,
+        (Stop::Loop, Ending::BadInput(_)) => false,
+        (Stop::Loop, _) => true,
         (Stop::End | Stop::Stuck, _) => kept == Kept::Errors && !is_error,
     }
 }

@@ -275,6 +275,9 @@ fn calls_as_copies() {
 #[test]
 fn chains_of_edges() {
     edge_chain_laws::chains_keep_errors();
+    join_laws::blocks_keep();
+    join_laws::chains_keep();
+    join_laws::error_flow_fails();
 }
 
 #[test]

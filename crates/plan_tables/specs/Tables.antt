@@ -38,6 +38,10 @@ abbrev pub list_of : Option (Vec ℕ Global) → List ℕ
 list_of None = []
 list_of (Some units) = units.items
 
+-- the words of a node, none past the end: a unit is a bit of one of them
+abbrev pub words_of : Live → ℕ → List ℕ
+words_of live v = list_of (slice_get live.rows.items v)
+
 -- the units that a term is said to read
 abbrev pub units_of : Reads → ℕ → List ℕ
 units_of reads t = list_of (slice_get reads.lists.items t)

@@ -1,6 +1,6 @@
 //! The units of cells, and which are read. The cells of one object are one unit; a saved cell is one of its own.
 ghost use Rattle.std.specs.Prelude.{◌≡◌, ◌<◌, ◌/◌, ◌%◌, slice_get};
-ghost use Rattle.plan_tables.specs.Tables.{bit_in, has_bit, is_live_in, unit_at, units_of};
+ghost use Rattle.plan_tables.specs.Tables.{bit_in, has_bit, is_live_in, unit_at, units_of, words_of};
 
 use bv_term::{Term, TermId, Terms};
 use c_graph::{Cell, Origin};
@@ -150,6 +150,23 @@ impl Live {
             return false;
         }
         add_words(&mut self.rows[at], scratch)
+    }
+
+    /// Whether it is known what is read.
+    pub fn is_known(&self) -> bool
+        ensures { result ≡ self.now.is_whole }
+    {
+        self.is_whole
+    }
+
+    /// The words of a node, none past the end; the lowest bit of the first one is that of unit 0.
+    pub fn words(&self, node: u32) -> &[u64]
+        ensures { result.now ≡ words_of self.now node }
+    {
+        match self.rows.get(node as usize) {
+            None => &[],
+            Some(row) => row,
+        }
     }
 
     /// Whether a unit may be read from a node on; where what is read is not known, each is.

@@ -11,18 +11,19 @@ use Rattle.cert_verdicts.specs.Judged.{HasNoErrors}
 use Rattle.request_answers.specs.Laws.{IsCertified}
 
 -- a source is secure where its graph has no run to an error
-secure_by : (model : Model) (source : List ℕ) (p : Program) (g : Flow) → (replay : IsReplay model source p) → StandsFor g p → HasNoErrors g → Secure replay.tree model
+pub secure_by : (model : Model) (source : List ℕ) (p : Program) (g : Flow) → (replay : IsReplay model source p) → StandsFor g p → HasNoErrors g → Secure replay.tree model
 secure_by model source p g replay (inl follow) none inputs kind at reaches =
     let met = follow reaches.turns inputs kind at (length inputs) (replay.runs reaches.turns inputs ∙ reaches.ends) in
     none (take (length inputs) inputs) met.0 kind at met.1.0 met.1.1 met.1.2
 secure_by model source p g replay (inr some) none inputs kind at reaches = none some.0 some.3.0 some.1 some.2 some.3.1.0 some.3.1.1 some.3.1.2
 
-pub certified : (model : Model) (source : List ℕ) (p : Program) (g : Flow) → IsReplay model source p → IsFlow g → HasNoErrors g → IsCertified model source
-certified model source p g replay flow none = record {
+pub certified : (model : Model) (source : List ℕ) (p : Program) (g : Flow) → IsReplay model source p → StandsFor g p → IsFlow g → HasNoErrors g → IsCertified model source
+certified model source p g replay stands flow none = record {
   program = p;
   graph = g;
   replay = replay;
+  stands = stands;
   flow = flow;
   safe = none;
-  secure = λ stands. secure_by model source p g replay stands none;
+  secure = secure_by model source p g replay stands none;
 }

@@ -7,13 +7,13 @@ use Rattle.request_answers.specs.Answers.{IsVerifyAnswer}
 use Rattle.request_answers.specs.Answers.IsVerifyAnswer.{too_long, refused, verified, read_failed, no_memory}
 use Rattle.request_answers.specs.Laws.{SafeIsProved, UnsafeReaches, IsCertified}
 use Rattle.request_answers.proofs.Refusals.{refusal_is}
-use Rattle.request_answers.proofs.Certified.{certified}
+use Rattle.request_answers.proofs.Certified.{certified, secure_by}
 
 -- without a read fault, under any count of faults
 verify_more : (more : Type 0) (model : Model) (units learn : ℕ) (source : List ℕ) (v : Verdict) → IsVerifyAnswer ⊥ model units learn source v → IsVerifyAnswer more model units learn source v
 verify_more more model units learn source v (too_long h is) = too_long h is
 verify_more more model units learn source v (refused h) = refused h
-verify_more more model units learn source v (verified p g replay flow is) = verified p g replay flow is
+verify_more more model units learn source v (verified p g replay stands flow is) = verified p g replay stands flow is
 verify_more more model units learn source v (read_failed h is) = absurd h
 verify_more more model units learn source v (no_memory is) = no_memory is
 
@@ -24,14 +24,15 @@ verify_behind more model units learn source bytes v e h = subst (λ (x : List �
 pub safe_proved : SafeIsProved
 safe_proved before behind model units learn source text (too_long h is) = absurd (cc)
 safe_proved before behind model units learn source text (refused r) = absurd (refusal_is model source (Safe text) r)
-safe_proved before behind model units learn source text (verified p g replay flow is) = (replay.tree, replay.read, (g, flow, is))
+safe_proved before behind model units learn source text (verified p g replay stands flow is) =
+    (replay.tree, replay.read, secure_by model source p g replay stands is.is.safe, (p, g, replay.runs, stands, flow, is))
 safe_proved before behind model units learn source text (read_failed h is) = absurd (cc)
 safe_proved before behind model units learn source text (no_memory is) = absurd (cc)
 
 pub unsafe_reached : UnsafeReaches
 unsafe_reached before behind model units learn source kind place values text (too_long h is) = absurd (cc)
 unsafe_reached before behind model units learn source kind place values text (refused r) = absurd (refusal_is model source (Unsafe kind place values text) r)
-unsafe_reached before behind model units learn source kind place values text (verified p g replay flow is) =
+unsafe_reached before behind model units learn source kind place values text (verified p g replay stands flow is) =
     let meets = is.0 in
     (replay.tree, replay.read, (meets.at, meets.is_at, record { turns = meets.turns; ends = sym (replay.runs meets.turns values) ∙ meets.ends }))
 unsafe_reached before behind model units learn source kind place values text (read_failed h is) = absurd (cc)
@@ -42,7 +43,7 @@ unsafe_reached before behind model units learn source kind place values text (no
 pub safe_certified : (rose : Type 0) (model : Model) (units learn : ℕ) (source text : List ℕ) → IsVerifyAnswer rose model units learn source (Safe text) → IsCertified model source
 safe_certified rose model units learn source text (too_long h is) = absurd (cc)
 safe_certified rose model units learn source text (refused r) = absurd (refusal_is model source (Safe text) r)
-safe_certified rose model units learn source text (verified p g replay flow is) = certified model source p g replay flow is.is.safe
+safe_certified rose model units learn source text (verified p g replay stands flow is) = certified model source p g replay stands flow is.is.safe
 safe_certified rose model units learn source text (read_failed h is) = absurd (cc)
 safe_certified rose model units learn source text (no_memory is) = absurd (cc)
 
@@ -50,6 +51,6 @@ safe_certified rose model units learn source text (no_memory is) = absurd (cc)
 pub verify_not_accepted : (rose : Type 0) (model : Model) (units learn : ℕ) (source : List ℕ) → IsVerifyAnswer rose model units learn source Accepted → ⊥
 verify_not_accepted rose model units learn source (too_long h is) = cc
 verify_not_accepted rose model units learn source (refused r) = refusal_is model source Accepted r
-verify_not_accepted rose model units learn source (verified p g replay flow is) = is
+verify_not_accepted rose model units learn source (verified p g replay stands flow is) = is
 verify_not_accepted rose model units learn source (read_failed h is) = cc
 verify_not_accepted rose model units learn source (no_memory is) = cc

@@ -8,6 +8,7 @@ use Rattle.c_tree.specs.Tree.{Items}
 use Rattle.c_typed.specs.Tree.{Program}
 use Rattle.c_graph.specs.Shape.{Flow, IsFlow}
 use Rattle.source_reading.specs.Reading.{source_read, IsReplay}
+use Rattle.program_graphs.specs.Standing.{StandsFor}
 use Rattle.request_words.specs.Asked.{Asked, Check, Verify}
 use Rattle.verdicts.specs.declared.verdict.Verdict.{Verdict}
 use Rattle.verdicts.specs.declared.verdict.Verdict.TheVariants.{Faulty, Over, ReadFault, NoMemory}
@@ -32,12 +33,12 @@ pub data IsRefused (model : Model) (source : List ℕ) (v : Verdict) : Type 0 wh
   over : (tree : Items) (e : SourceFail) → source_read model source ≡ Ok tree → v ≡ limit_for e → IsRefused model source v
   no_memory : v ≡ NoMemory → IsRefused model source v
 
--- The answer to the check of a certificate's bytes against a source. The graph is the one that was made of the typed tree.
+-- The answer to the check of a certificate's bytes against a source. The graph stands for the typed tree that it was made of.
 pub data IsCheckAnswer (rose : Type 0) (model : Model) (source cert : List ℕ) (v : Verdict) : Type 0 where
   too_long : 1048576 < length source → v ≡ Over 1 1048577 → IsCheckAnswer rose model source cert v
   refused : IsRefused model source v → IsCheckAnswer rose model source cert v
   long_cert : (p : Program) → IsReplay model source p → 67108864 < length cert → v ≡ Over 8 67108865 → IsCheckAnswer rose model source cert v
-  judged : (p : Program) (g : Flow) → IsReplay model source p → IsFlow g → IsJudged g source model cert v → IsCheckAnswer rose model source cert v
+  judged : (p : Program) (g : Flow) → IsReplay model source p → StandsFor g p → IsFlow g → IsJudged g source model cert v → IsCheckAnswer rose model source cert v
   read_failed : rose → v ≡ ReadFault → IsCheckAnswer rose model source cert v
   no_memory : v ≡ NoMemory → IsCheckAnswer rose model source cert v
 
@@ -45,7 +46,7 @@ pub data IsCheckAnswer (rose : Type 0) (model : Model) (source cert : List ℕ) 
 pub data IsVerifyAnswer (rose : Type 0) (model : Model) (units learn : ℕ) (source : List ℕ) (v : Verdict) : Type 0 where
   too_long : 1048576 < length source → v ≡ Over 1 1048577 → IsVerifyAnswer rose model units learn source v
   refused : IsRefused model source v → IsVerifyAnswer rose model units learn source v
-  verified : (p : Program) (g : Flow) → IsReplay model source p → IsFlow g → IsVerified p g source model units learn v → IsVerifyAnswer rose model units learn source v
+  verified : (p : Program) (g : Flow) → IsReplay model source p → StandsFor g p → IsFlow g → IsVerified p g source model units learn v → IsVerifyAnswer rose model units learn source v
   read_failed : rose → v ≡ ReadFault → IsVerifyAnswer rose model units learn source v
   no_memory : v ≡ NoMemory → IsVerifyAnswer rose model units learn source v
 

@@ -13,7 +13,7 @@ use Rattle.cert_text.specs.Content.{content_of}
 use Rattle.cert_text.specs.Reading.{read_cert_of}
 use Rattle.cert_verdicts.specs.Judged.{HasNoErrors, IsCertificate}
 use Rattle.source_verdicts.specs.Verified.{IsProved}
-use Rattle.source_reading.specs.Reading.{source_read, IsReplay}
+use Rattle.source_reading.specs.Reading.{source_read, IsReplay, RunsAs}
 use Rattle.program_graphs.specs.Standing.{StandsFor}
 use Rattle.c_typed.specs.Tree.{Program}
 use Rattle.verdicts.specs.declared.verdict.Verdict.{Verdict}
@@ -22,30 +22,33 @@ use Rattle.request_words.specs.Asked.{Asked, Check, Verify}
 use Rattle.verdicts.specs.Lines.{status_of}
 use Rattle.request_answers.specs.Answers.{IsAnswer, IsCheckAnswer, IsVerifyAnswer}
 
--- A certificate is accepted only where its bytes are read to one of the source under the model, which is accepted on the graph
--- that was made of the source's tree: no run of that graph meets an error.
+-- A certificate is accepted only where the source is secure, and the bytes are read to one of the source under the model, which is
+-- accepted on a graph that stands for the source's tree: no run of that graph meets an error.
 abbrev pub AcceptedIsCertified : Type 0
 AcceptedIsCertified =
     (before behind : ℕ) (model : Model) (source bytes : List ℕ) → IsCheckAnswer (Rose before behind) model source bytes Accepted
-    → (tree : Items) × (source_read model source ≡ Ok tree)
-    × ((g : Flow) × IsFlow g × ((c : Cert) × (read_cert_of bytes ≡ Ok (content_of c)) × IsCertificate g source model c))
+    → (tree : Items) × (source_read model source ≡ Ok tree) × Secure tree model
+    × ((p : Program) × (g : Flow) × RunsAs p tree model × StandsFor g p × IsFlow g
+    × ((c : Cert) × (read_cert_of bytes ≡ Ok (content_of c)) × IsCertificate g source model c))
 
--- A source is called safe only with the text of a certificate that is accepted on the graph that was made of its tree: no run of
--- that graph meets an error.
+-- A source is called safe only where it is secure, with the text of a certificate that is accepted on a graph that stands for its
+-- tree: no run of that graph meets an error.
 abbrev pub SafeIsProved : Type 0
 SafeIsProved =
     (before behind : ℕ) (model : Model) (units learn : ℕ) (source text : List ℕ) → IsVerifyAnswer (Rose before behind) model units learn source (Safe text)
-    → (tree : Items) × (source_read model source ≡ Ok tree) × ((g : Flow) × IsFlow g × IsProved g source model text)
+    → (tree : Items) × (source_read model source ≡ Ok tree) × Secure tree model
+    × ((p : Program) × (g : Flow) × RunsAs p tree model × StandsFor g p × IsFlow g × IsProved g source model text)
 
--- The source has a typed tree that runs as it does, and no run of a graph that was made of the tree meets an error: where that graph stands
--- for the tree, no run of the source meets one, whatever the inputs are.
+-- The source has a typed tree that runs as it does, and a graph that stands for the tree, no run of which meets an error: so no run of
+-- the source meets one, whatever the inputs are.
 pub record IsCertified (model : Model) (source : List ℕ) : Type 0 where
   pub program : Program
   pub graph : Flow
   pub replay : IsReplay model source program
+  pub stands : StandsFor graph program
   pub flow : IsFlow graph
   pub safe : HasNoErrors graph
-  pub secure : StandsFor graph program → Secure replay.tree model
+  pub secure : Secure replay.tree model
 
 -- the source that is asked about is certified
 abbrev pub IsCertifiedFor : Asked → (List ℕ → List ℕ) → Type 0

@@ -2,6 +2,7 @@ ghost use Rattle.std.specs.Prelude.{◌≡◌, ◌≤◌, ◌<◌, ◌^◌, ℕ,
 ghost use Rattle.lv_outside.specs.Counts.{Rose};
 ghost use Rattle.c_typed.specs.Parts.{tree_of};
 ghost use Rattle.source_reading.specs.Reading.{IsReplay};
+ghost use Rattle.program_graphs.specs.Standing.{StandsFor};
 ghost use Rattle.request_words.specs.Views.{asked_by};
 ghost use Rattle.request_answers.specs.Answers.{IsAnswer, IsCheckAnswer, IsVerifyAnswer};
 
@@ -94,6 +95,7 @@ fn check_cert<R: Threads + Sync, F: Folder, G: Gate>(
     gate: &G,
 ) -> Verdict
     requires replay { IsReplay checking.model source.now (tree_of parts.now.examined.typed) }
+    requires stands { StandsFor parts.now.graph (tree_of parts.now.examined.typed) }
     ensures answer { F.tells folder.old → IsCheckAnswer (Rose (F.read_faults folder.old) (F.read_faults folder.new)) checking.entry.model source.now (F.file folder.old checking.entry.cert.now) result }
     ensures read_fault { result ≡ Verdict.ReadFault → Rose (F.read_faults folder.old) (F.read_faults folder.new) }
     ensures tells { F.tells folder.old → F.tells folder.new }
@@ -156,6 +158,7 @@ fn verify_source(alloc: Global, source: &[u8], verifying: Verifying<'_>) -> Verd
 fn verify_loaded(alloc: Global, source: &[u8], parts: &Loaded, verifying: Verifying<'_>) -> Verdict
     requires small { length source.now ≤ 2 ^ 20 }
     requires replay { IsReplay verifying.model source.now (tree_of parts.now.examined.typed) }
+    requires stands { StandsFor parts.now.graph (tree_of parts.now.examined.typed) }
     ensures answer { IsVerifyAnswer ⊥ verifying.entry.model verifying.entry.units verifying.entry.learn source.now result }
     ensures no_fault { result ≡ Verdict.ReadFault → ⊥ }
 {

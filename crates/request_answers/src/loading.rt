@@ -2,6 +2,7 @@
 ghost use Rattle.std.specs.Prelude.{◌≡◌, ◌≤◌, ◌^◌, length, MatchResult};
 ghost use Rattle.c_typed.specs.Parts.{tree_of};
 ghost use Rattle.source_reading.specs.Reading.{IsReplay};
+ghost use Rattle.program_graphs.specs.Standing.{StandsFor};
 ghost use Rattle.request_answers.specs.Answers.{IsRefused, refused_for, limit_for};
 
 use c_graph::Graph;
@@ -22,7 +23,7 @@ pub(crate) struct Loaded {
 /// The typed tree and the graph of a source, or the answer to it where it is refused.
 pub(crate) fn load_source(alloc: Global, source: &[u8], model: Model) -> Result<Loaded, Verdict>
     requires small { length source.now ≤ 2 ^ 20 }
-    ensures { MatchResult result (λ s. IsReplay model source.now (tree_of s.examined.typed)) (λ v. IsRefused model source.now v) }
+    ensures { MatchResult result (λ s. IsReplay model source.now (tree_of s.examined.typed) × StandsFor s.graph (tree_of s.examined.typed)) (λ v. IsRefused model source.now v) }
 {
     match examined(alloc, source, model) {
         Ok(examined) => with_graph(alloc, source, model, examined),
@@ -37,7 +38,7 @@ fn with_graph(
     examined: Examined,
 ) -> Result<Loaded, Verdict>
     requires replay { IsReplay _model _source.now (tree_of examined.typed) }
-    ensures { MatchResult result (λ s. IsReplay _model _source.now (tree_of s.examined.typed)) (λ v. IsRefused _model _source.now v) }
+    ensures { MatchResult result (λ s. IsReplay _model _source.now (tree_of s.examined.typed) × StandsFor s.graph (tree_of s.examined.typed)) (λ v. IsRefused _model _source.now v) }
 {
     match blocks_of(alloc, &examined) {
         Ok(graph) => Ok(Loaded { examined, graph }),

@@ -71,8 +71,10 @@ pub fn whole_graph(alloc: Global, examined: &Examined) -> Result<Graph, SourceFa
     inline(alloc, &graphs)
 }
 
-/// The graph of a program's blocks.
-pub fn blocks_of(alloc: Global, examined: &Examined) -> Result<Graph, SourceFail> {
+/// The graph of a program's blocks: each run of the program that ends in an error has a run of the graph to that error.
+pub fn blocks_of(alloc: Global, examined: &Examined) -> Result<Graph, SourceFail>
+    ensures { IfOk result (λ g. StandsFor g (tree_of examined.now.typed)) }
+{
     let graph = whole_graph(alloc, examined)?;
     match join_blocks(alloc, &graph) {
         Ok(blocks) => Ok(blocks),

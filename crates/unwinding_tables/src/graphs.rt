@@ -1,34 +1,10 @@
 //! `graph PARTS` gives parts of a graph. `whole PARTS` and `broken PARTS`: with these behind them they are a graph, or are none.
 //! `outs NODE = EDGES`: the edges that leave a node, by their numbers. `counts NODES EDGES CELLS TERMS`, and `ENTRY LOOPS`.
 
-use crate::parting::Parts;
-use c_graph::{Graph, LAYOUT, NodeId, edge_count, is_graph};
+use c_graph::{LAYOUT, NodeId, edge_count};
+use graph_rows::whole_graph;
 use row_text::{RowFail, halves, number, numbers};
 use std::alloc::Global;
-
-/// The graph of these parts, none where they are none.
-pub(crate) fn graph_of(alloc: Global, text: &str, more: &str) -> Result<Option<Graph>, RowFail> {
-    let Parts {
-        nodes,
-        edges,
-        cells,
-        terms,
-        entry,
-        loops,
-    } = Parts::of(alloc, text, more)?;
-    if !is_graph(&nodes, &edges, &cells, &terms, entry, &loops) {
-        return Ok(None);
-    }
-    Ok(Some(Graph::new(alloc, nodes, edges, cells, terms, entry, loops)?))
-}
-
-/// The graph of these parts, which have to be one.
-pub(crate) fn whole_graph(alloc: Global, text: &str) -> Result<Graph, RowFail> {
-    match graph_of(alloc, text, "")? {
-        Some(graph) => Ok(graph),
-        None => Err(RowFail::Bad),
-    }
-}
 
 /// Tries the row of the edges that leave a node.
 pub(crate) fn has_outs(alloc: Global, text: &str, rest: &str) -> Result<bool, RowFail> {

@@ -7,13 +7,13 @@ mod asking;
 mod graphs;
 mod journeys;
 mod kinds;
-mod parting;
 mod plain;
 mod random;
 mod stores;
 mod trees;
 mod units;
 
+use graph_rows::graph_of;
 use row_text::{RowFail, Table, fields, run_tables};
 use std::alloc::Global;
 use std::process::ExitCode;
@@ -28,8 +28,8 @@ struct UnwindingTable {
 // Tries a row about a graph of these parts.
 fn of_graph(alloc: Global, graph: &str, kind: &str, rest: &str) -> Result<bool, RowFail> {
     match kind {
-        "whole" => Ok(graphs::graph_of(alloc, graph, rest)?.is_some()),
-        "broken" => Ok(graphs::graph_of(alloc, graph, rest)?.is_none()),
+        "whole" => Ok(graph_of(alloc, graph, rest)?.is_some()),
+        "broken" => Ok(graph_of(alloc, graph, rest)?.is_none()),
         "outs" => graphs::has_outs(alloc, graph, rest),
         "counts" => graphs::has_counts(alloc, graph, rest),
         "tree" => trees::goes(alloc, graph, rest),

@@ -6,9 +6,9 @@ ghost use Rattle.std.specs.Prelude.{◌<◌, All, IsTrue, length};
 ghost use Rattle.c_graph.specs.Shape.{HasWidth};
 ghost use Rattle.reach_tree.specs.Trees.{IsLabel};
 
-use crate::graphs::whole_graph;
 use bv_term::{TermId, Terms};
 use c_graph::Graph;
+use graph_rows::whole_graph;
 use reach_tree::{Label, NewLabel, Tree, VertexId};
 use row_text::{RowFail, fields, halves, number, numbers, one_term};
 use std::alloc::Global;

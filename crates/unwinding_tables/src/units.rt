@@ -6,9 +6,9 @@ ghost use Rattle.reach_tree.specs.Trees.{vertex_at};
 ghost use Rattle.cover_engine.specs.Units.{Legal};
 
 use crate::asking::ask;
-use crate::graphs::whole_graph;
 use c_graph::{Graph, Node};
 use cover_engine::Unwinding;
+use graph_rows::whole_graph;
 use reach_tree::{Vertex, VertexId};
 use row_text::{RowFail, fields, number};
 use std::alloc::Global;

@@ -1,0 +1,5 @@
+pub mod Growing
+pub mod Leaving
+pub mod Straight
+pub mod Beginning
+pub mod Same

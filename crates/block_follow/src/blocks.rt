@@ -1,0 +1,168 @@
+//! Whether each cut point has a block by the rule, or the edges that it had.
+ghost use Rattle.std.specs.Prelude.{ℕ, ◌≡◌, IfOk, IfSome, IsTrue, length};
+ghost use Rattle.c_graph.specs.Shape.{IsFlow};
+ghost use Rattle.truth_terms.specs.Truths.{Grew};
+ghost use Rattle.block_rule.specs.Blocked.{Begins, IsBlocked};
+ghost use Rattle.block_rule.specs.Plans.{ArePlaces};
+ghost use Rattle.block_walk.specs.Known.{plan_of};
+ghost use Rattle.block_walk.specs.Walks.{places_of};
+ghost use Rattle.block_follow.specs.Following.{Follows, IsFirst};
+
+use crate::growth::grows;
+use crate::keeping::keeps;
+use block_places::places_of_nodes;
+use block_steps::{Cursor, leads_from};
+use block_walk::{Known, Place, Stop, block, matters};
+use c_graph::{Graph, NodeId};
+use lv_base::Memory;
+use plan_tests::is_plan;
+use std::alloc::Global;
+
+/// Whether the second graph has for each cut point of the first a block by the rule, or the edges that it had. What is known of the
+/// first graph is tested too. The members of each node are a guess of the places of its block, the node itself first; a node whose
+/// members have no regular ways out has to keep its edges.
+pub fn follows_rule(
+    alloc: Global,
+    old: &Graph,
+    new: &Graph,
+    known: &Known,
+    members: &[Vec<NodeId>],
+) -> Result<bool, Memory>
+    ensures { IfOk result (λ b. IsTrue b → IsBlocked old.now new.now (plan_of known.now)) }
+{
+    if !grows(old, new) {
+        return Ok(false);
+    }
+    if !is_plan(old, known) {
+        return Ok(false);
+    }
+    all_follow(alloc, old, new, known, members)
+}
+
+fn all_follow(
+    alloc: Global,
+    old: &Graph,
+    new: &Graph,
+    known: &Known,
+    members: &[Vec<NodeId>],
+) -> Result<bool, Memory>
+    requires { Grew old.now.terms new.now.terms }
+    ensures { IfOk result (λ b. IsTrue b → (v : ℕ) → Follows old.now new.now (plan_of known.now) v) }
+{
+    let firsts = first_edges(alloc, new)?;
+    for node in 0..count_nodes(old) {
+        if !follows(alloc, old, new, known, members, &firsts, node)? {
+            return Ok(false);
+        }
+    }
+    Ok(true)
+}
+
+fn count_nodes(graph: &Graph) -> u32
+    ensures value { result ≡ length graph.now.nodes }
+    ensures flow { IsFlow graph.now }
+{
+    graph.nodes().len() as u32
+}
+
+fn count_cells(graph: &Graph) -> u32
+    ensures { result ≡ length graph.now.cells }
+{
+    graph.cells().len() as u32
+}
+
+// The first edge that leads from each node, the number of all where there is none.
+fn first_edges(alloc: Global, graph: &Graph) -> Result<Vec<usize>, Memory> {
+    let edges = graph.edges();
+    let mut firsts = vec![in alloc; edges.len(); graph.nodes().len()]?;
+    for number in 0..edges.len() {
+        let from = edges[number].from.0 as usize;
+        if from < firsts.len() && firsts[from] == edges.len() {
+            firsts[from] = number;
+        }
+    }
+    Ok(firsts)
+}
+
+/// Whether a node, if it is a cut point that matters, has a block by the rule, or the edges that it had.
+fn follows(
+    alloc: Global,
+    old: &Graph,
+    new: &Graph,
+    known: &Known,
+    members: &[Vec<NodeId>],
+    firsts: &[usize],
+    node: u32,
+) -> Result<bool, Memory>
+    requires { Grew old.now.terms new.now.terms }
+    ensures { IfOk result (λ b. IsTrue b → Follows old.now new.now (plan_of known.now) node) }
+{
+    if !known.cuts.get(node) {
+        return Ok(true);
+    }
+    if !matters(known, node) {
+        return Ok(true);
+    }
+    let first = firsts.get(node as usize).copied().unwrap_or(usize::MAX);
+    match places_at(alloc, old, known, members, node)? {
+        None => keeps(alloc, old, new, known, node, first),
+        Some(places) => begins(alloc, old, new, known, &places, node, first),
+    }
+}
+
+/// The places of a node's members, where each has regular ways out.
+fn places_at(
+    alloc: Global,
+    old: &Graph,
+    known: &Known,
+    members: &[Vec<NodeId>],
+    node: u32,
+) -> Result<Option<Vec<Place>>, Memory>
+    ensures { IfOk result (λ o. IfSome o (λ ps. ArePlaces old.now (plan_of known.now) (length old.now.cells) (places_of old.now ps.items))) }
+{
+    match members.get(node as usize) {
+        None => Ok(None),
+        Some(nodes) => places_of_nodes(alloc, old, known, nodes),
+    }
+}
+
+/// Whether a node has the block of these places, from the edge of a number on.
+fn begins(
+    alloc: Global,
+    old: &Graph,
+    new: &Graph,
+    known: &Known,
+    places: &[Place],
+    node: u32,
+    first: usize,
+) -> Result<bool, Memory>
+    requires grew { Grew old.now.terms new.now.terms }
+    requires places { ArePlaces old.now (plan_of known.now) (length old.now.cells) (places_of old.now places.now) }
+    ensures { IfOk result (λ b. IsTrue b → Begins old.now new.now (plan_of known.now) node) }
+{
+    if !is_first(places, node) {
+        return Ok(false);
+    }
+    if !leads_from(new, first, node) {
+        return Ok(false);
+    }
+    let cursor = Cursor {
+        edge_at: first,
+        op_at: 0,
+    };
+    match block(alloc, old, new, known, places, count_cells(old), cursor) {
+        Ok(_) => Ok(true),
+        Err(Stop::Differs) => Ok(false),
+        Err(Stop::Memory) => Err(Memory),
+    }
+}
+
+/// Whether the first place is the node's.
+fn is_first(places: &[Place], node: u32) -> bool
+    ensures { IsTrue result → IsFirst places.now node }
+{
+    if places.is_empty() {
+        return false;
+    }
+    places[0].node == node
+}

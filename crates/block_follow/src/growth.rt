@@ -1,0 +1,76 @@
+//! Whether a graph begins with what another one has.
+ghost use Rattle.std.specs.Prelude.{◌≡◌, ◌++◌, IsTrue, List, length};
+ghost use Rattle.bv_term.specs.declared.term.Term.{Term};
+ghost use Rattle.c_graph.specs.declared.graph.Cell.{Cell};
+ghost use Rattle.c_graph.specs.declared.graph.Node.{Node};
+ghost use Rattle.block_follow.specs.Following.{Grows};
+
+use bv_term::{Term, TermId, Terms};
+use c_graph::{Cell, Graph, Node};
+
+/// Whether the nodes, cells and terms of the second graph begin with those of the first, and both begin at one node.
+pub(crate) fn grows(old: &Graph, new: &Graph) -> bool
+    ensures { IsTrue result → Grows old.now new.now }
+{
+    if old.entry().0 != new.entry().0 {
+        return false;
+    }
+    if !more_nodes(old.nodes(), new.nodes()) {
+        return false;
+    }
+    if !more_cells(old.cells(), new.cells()) {
+        return false;
+    }
+    more_terms(old.terms(), new.terms())
+}
+
+/// Whether the second nodes begin with the first.
+fn more_nodes(old: &[Node], new: &[Node]) -> bool
+    ensures { IsTrue result → (more : List Node) × (new.now ≡ old.now ++ more) }
+{
+    if old.len() > new.len() {
+        return false;
+    }
+    for number in 0..old.len() {
+        if old[number] != new[number] {
+            return false;
+        }
+    }
+    true
+}
+
+/// Whether the second cells begin with the first.
+fn more_cells(old: &[Cell], new: &[Cell]) -> bool
+    ensures { IsTrue result → (more : List Cell) × (new.now ≡ old.now ++ more) }
+{
+    if old.len() > new.len() {
+        return false;
+    }
+    for number in 0..old.len() {
+        if old[number] != new[number] {
+            return false;
+        }
+    }
+    true
+}
+
+/// Whether the second terms begin with the first.
+fn more_terms(old: &Terms, new: &Terms) -> bool
+    ensures { IsTrue result → (more : List Term) × (new.now.terms ≡ old.now.terms ++ more) }
+{
+    if old.count() > new.count() {
+        return false;
+    }
+    for number in 0..old.count() {
+        if !same_term(old.get(TermId(number)), new.get(TermId(number))) {
+            return false;
+        }
+    }
+    true
+}
+
+fn same_term(old: Term, new: Term) -> bool
+    ensures { IsTrue result → new ≡ old }
+{
+    old == new
+}

@@ -1,0 +1,143 @@
+//! Whether a node has the edges that it had.
+ghost use Rattle.std.specs.Prelude.{◌≡◌, IfOk, IfSome, IsTrue, None, length};
+ghost use Rattle.truth_terms.specs.Truths.{Grew};
+ghost use Rattle.block_rule.specs.Blocked.{Keeps, plain_deeds};
+ghost use Rattle.block_rule.specs.Deeds.{Code, Does, Leading};
+ghost use Rattle.block_rule.specs.Rule.{guarded};
+ghost use Rattle.block_steps.specs.Cursors.{Meets};
+ghost use Rattle.block_walk.specs.Known.{plan_of};
+ghost use Rattle.block_follow.specs.Following.{AreKept, IsKept, IsKeptEdge, straight};
+
+use block_steps::{Cursor, Test, assumes, ends, leads_from, stores};
+use block_walk::{Known, matters};
+use bv_term::Terms;
+use c_graph::{Edge, EdgeId, Graph, NodeId, Operation};
+use lv_base::Memory;
+use std::alloc::Global;
+
+/// Whether the edges of a node that lead to nodes that matter lead to cut points, and stand in the other graph one behind the other,
+/// the first having this number.
+pub(crate) fn keeps(
+    alloc: Global,
+    old: &Graph,
+    new: &Graph,
+    known: &Known,
+    node: u32,
+    first: usize,
+) -> Result<bool, Memory>
+    requires { Grew old.now.terms new.now.terms }
+    ensures { IfOk result (λ b. IsTrue b → Keeps old.now new.now (plan_of known.now) node) }
+{
+    let outs = old.outs(alloc, NodeId(node))?;
+    Ok(are_kept(old, new, known, node, first, &outs))
+}
+
+fn are_kept(
+    old: &Graph,
+    new: &Graph,
+    known: &Known,
+    node: u32,
+    first: usize,
+    outs: &[EdgeId],
+) -> bool
+    requires { Grew old.now.terms new.now.terms }
+    ensures { IsTrue result → AreKept old.now new.now (plan_of known.now) node outs.now }
+{
+    let mut at = first;
+    for number in 0..outs.len() {
+        let Some(next) = kept_at(old, new, known, node, outs[number], at) else {
+            return false;
+        };
+        at = next;
+    }
+    true
+}
+
+/// The number behind that of an edge that is kept, or the same number where the edge leads to a node that does not matter.
+fn kept_at(
+    old: &Graph,
+    new: &Graph,
+    known: &Known,
+    node: u32,
+    edge: EdgeId,
+    at: usize,
+) -> Option<usize>
+    requires { Grew old.now.terms new.now.terms }
+    ensures { IfSome result (λ n. IsKept old.now new.now (plan_of known.now) node edge.0) }
+{
+    let edges = old.edges();
+    let number = edge.0 as usize;
+    if number >= edges.len() {
+        return None;
+    }
+    kept_edge(old, new, known, node, &edges[number], at)
+}
+
+fn kept_edge(
+    old: &Graph,
+    new: &Graph,
+    known: &Known,
+    node: u32,
+    edge: &Edge,
+    at: usize,
+) -> Option<usize>
+    requires { Grew old.now.terms new.now.terms }
+    ensures { IfSome result (λ n. IsKeptEdge old.now new.now (plan_of known.now) node edge.now) }
+{
+    if !matters(known, edge.to.0) {
+        return Some(at);
+    }
+    if !known.cuts.get(edge.to.0) {
+        return None;
+    }
+    same_edge(old, new, node, edge, at)
+}
+
+/// The number behind that of an edge from the node that does the same and leads to the same node.
+fn same_edge(old: &Graph, new: &Graph, node: u32, edge: &Edge, at: usize) -> Option<usize>
+    requires { Grew old.now.terms new.now.terms }
+    ensures { IfSome result (λ n. Leading new.now node (plain_deeds old.now.terms edge.now.ops) edge.now.to.0) }
+{
+    if !leads_from(new, at, node) {
+        return None;
+    }
+    let cursor = Cursor {
+        edge_at: at,
+        op_at: 0,
+    };
+    let Some(done) = passed(old.terms(), new, cursor, edge.ops.as_slice()) else {
+        return None;
+    };
+    let Some(next) = ends(new, done, edge.to.0) else {
+        return None;
+    };
+    Some(next.edge_at)
+}
+
+/// The place behind operations as they are.
+fn passed(old: &Terms, new: &Graph, cursor: Cursor, ops: &[Operation]) -> Option<Cursor>
+    requires { Grew old.now new.now.terms }
+    ensures { IfSome result (λ n. (code : Code) → Meets new.now n code → Meets new.now cursor (straight old.now ops.now code)) }
+{
+    let mut at = cursor;
+    for number in 0..ops.len() {
+        let Some(next) = step(old, new, at, ops[number]) else {
+            return None;
+        };
+        at = next;
+    }
+    Some(at)
+}
+
+/// The place behind an operation as it is.
+fn step(old: &Terms, new: &Graph, cursor: Cursor, operation: Operation) -> Option<Cursor>
+    requires { Grew old.now new.now.terms }
+    ensures { IfSome result (λ n. (code : Code) → Meets new.now n code → Meets new.now cursor (Does (guarded old.now None operation) code)) }
+{
+    match operation {
+        Operation::Assume(term) => assumes(old, new, cursor, Test::Under(None, term)),
+        Operation::Set(_, _) | Operation::SetAt(_, _, _, _) | Operation::Draw(_, _) => {
+            stores(old, new, cursor, None, operation)
+        }
+    }
+}

@@ -1,0 +1,52 @@
+-- Errors kept by a graph with joined chains, and by one graph after another.
+use Rattle.std.proofs.Common.{Result, Ok, Err, IfOk, ◌≡◌, ◌⊎◌, inl, inr, List, sym, ap, ◌∙◌, subst}
+use Rattle.bv_term.specs.WellFormed.{Table}
+use Rattle.c_graph.specs.declared.graph.Cell.{Cell}
+use Rattle.c_graph.specs.declared.graph.Edge.{Edge}
+use Rattle.c_graph.specs.declared.graph.LoopAt.{LoopAt}
+use Rattle.c_graph.specs.declared.graph.Node.{Node}
+use Rattle.c_graph.specs.declared.graph.NodeId.{NodeId}
+use Rattle.c_graph.specs.Parts.{error_flow}
+use Rattle.c_graph.specs.Shape.{Flow}
+use Rattle.edge_chains.specs.Joining.{IsJoined}
+use Rattle.edge_chain_laws.specs.Keeping.{with_edges}
+use Rattle.program_graphs.specs.Standing.{MeetsSome}
+use Rattle.join_laws.specs.Keeping.{KeepsErrors}
+use Rattle.join_laws.proofs.Errors.{chains_keep, error_flow_fails}
+
+pub weaken : {A : Type 0} → {E : Type 0} → (r : Result A E) (P Q : A → Type 0) → ((x : A) → P x → Q x) → IfOk r P → IfOk r Q
+weaken (Ok x) P Q f h = f x h
+weaken (Err e) P Q f h = tt
+
+abbrev flow : List Node → List Edge → List Cell → Table → NodeId → List LoopAt → Flow
+flow nodes edges cells terms entry loops = record { nodes = nodes; edges = edges; cells = cells; terms = terms; entry = entry; loops = loops }
+
+-- the parts of a graph with other edges
+same-parts : (g : Flow) (nodes : List Node) (joined : List Edge) (cells : List Cell) (terms : Table) (entry : NodeId) (loops : List LoopAt)
+    → nodes ≡ g.nodes → cells ≡ g.cells → terms ≡ g.terms → entry ≡ g.entry → loops ≡ g.loops
+    → flow nodes joined cells terms entry loops ≡ with_edges g joined
+same-parts g nodes joined cells terms entry loops a b c d e =
+    ap (λ (x : List Node). flow x joined cells terms entry loops) a
+    ∙ ap (λ (x : List Cell). flow g.nodes joined x terms entry loops) b
+    ∙ ap (λ (x : Table). flow g.nodes joined g.cells x entry loops) c
+    ∙ ap (λ (x : NodeId). flow g.nodes joined g.cells g.terms x loops) d
+    ∙ ap (λ (x : List LoopAt). flow g.nodes joined g.cells g.terms g.entry x) e
+
+-- the graph of a graph's parts and joined edges
+pub chained : (g h : Flow) (nodes : List Node) (edges joined : List Edge) (cells : List Cell) (terms : Table) (entry : NodeId) (loops : List LoopAt)
+    → nodes ≡ g.nodes → edges ≡ g.edges → cells ≡ g.cells → terms ≡ g.terms → entry ≡ g.entry → loops ≡ g.loops
+    → IsJoined nodes entry edges joined
+    → (h ≡ record { nodes = nodes; edges = joined; cells = cells; terms = terms; entry = entry; loops = loops }) ⊎ (h ≡ error_flow)
+    → KeepsErrors g h ⊎ MeetsSome h
+chained g h nodes edges joined cells terms entry loops a o b c d e is (inl made) =
+    let one : IsJoined g.nodes entry edges joined = subst (λ (x : List Node). IsJoined x entry edges joined) a is in
+    let two : IsJoined g.nodes g.entry edges joined = subst (λ (x : NodeId). IsJoined g.nodes x edges joined) d one in
+    let three : IsJoined g.nodes g.entry g.edges joined = subst (λ (x : List Edge). IsJoined g.nodes g.entry x joined) o two in
+    let whole : h ≡ with_edges g joined = made ∙ same-parts g nodes joined cells terms entry loops a b c d e in
+    inl (subst (λ (x : Flow). KeepsErrors g x) (sym whole) (chains_keep g joined three))
+chained g h nodes edges joined cells terms entry loops a o b c d e is (inr none) = inr (subst MeetsSome (sym none) error_flow_fails)
+
+-- one graph after another
+pub kept-on : (g b h : Flow) → KeepsErrors g b → KeepsErrors b h ⊎ MeetsSome h → KeepsErrors g h ⊎ MeetsSome h
+kept-on g b h first (inl second) = inl (λ draws kind at met. second draws kind at (first draws kind at met))
+kept-on g b h first (inr some) = inr some

@@ -1,0 +1,61 @@
+-- Ways that cover all edges from a node, and operations that are moves.
+use Rattle.std.proofs.Common.{◌≡◌, ℕ, ◌+◌, ◌<◌, ◌≤◌, List, [], ◌∷◌, ◌++◌, Some, zero, suc, length, ap, ◌∙◌, sym, arith, subst, slice_get, drop}
+use Rattle.bv_term.specs.declared.term.TermId.{TermId}
+use Rattle.c_graph.specs.declared.graph.NodeId.{NodeId}
+use Rattle.c_graph.specs.declared.graph.EdgeId.{EdgeId}
+use Rattle.c_graph.specs.declared.graph.Node.TheVariants.{Plain}
+use Rattle.c_graph.specs.declared.graph.Operation.{Operation}
+use Rattle.c_graph.specs.declared.graph.Operation.TheVariants.{SetAt}
+use Rattle.c_graph.specs.Shape.{Flow, outs}
+use Rattle.plan_tables.specs.Tables.{is_live_in, unit_at}
+use Rattle.block_rule.specs.Plans.{Plan, AreMoves, ArePlaces, AreRegular, IsMove, IsPlace}
+use Rattle.block_walk.specs.declared.known.Known.{Known}
+use Rattle.block_walk.specs.declared.state.Place.{Place}
+use Rattle.block_walk.specs.declared.state.Ways.{Ways}
+use Rattle.block_walk.specs.Known.{on_unit, plan_of}
+use Rattle.block_walk.specs.Walks.{place_of, places_of, ways_of}
+use Rattle.block_places.specs.Covering.{AreCovered}
+use Rattle.block_places.proofs.Leaving.{edge_id, leaving}
+
+pub front : (ops : List Operation) (op : Operation) → slice_get ops 0 ≡ Some op → ops ≡ op ∷ drop 1 ops
+front [] op s = absurd (cc)
+front (x ∷ ops) op s = let z : x ≡ op = cc in ap (λ (y : Operation). y ∷ ops) z
+
+pub only : (ops : List Operation) (op : Operation) → length ops ≡ 1 → slice_get ops 0 ≡ Some op → ops ≡ op ∷ []
+only [] op l s = absurd (cc)
+only (x ∷ []) op l s = let z : x ≡ op = cc in ap (λ (y : Operation). y ∷ []) z
+only (x ∷ y ∷ ops) op l s = absurd (omega (arith, l))
+
+-- a move, and the moves behind it
+pub moves-from : (plan : Plan) (n : ℕ) (ops : List Operation) (k : ℕ) (op : Operation) → slice_get ops k ≡ Some op → IsMove plan n op
+    → AreMoves plan n (drop (suc k) ops) → AreMoves plan n (drop k ops)
+moves-from plan n [] k op s is are = absurd (cc)
+moves-from plan n (x ∷ ops) zero op s is are = let z : x ≡ op = cc in (subst (IsMove plan n) (sym z) is, are)
+moves-from plan n (x ∷ ops) (suc k) op s is are = moves-from plan n ops k op s is are
+
+-- a store into an array whose cells have one unit
+pub array-moves : (known : Known) (n first m end : ℕ) → end ≡ first + m → end ≤ n
+    → ((c : ℕ) → first ≤ c → c < end → unit_at known.units c ≡ unit_at known.units first)
+    → (i t : TermId) → IsMove (plan_of known) n (SetAt first m i t)
+array-moves known n first m end is le one i t = (
+  omega (arith, is, le),
+  λ v k lt live.
+      let e : unit_at known.units (first + k) ≡ unit_at known.units first = one (first + k) (omega arith) (omega (arith, is, lt)) in
+      sym (ap (on_unit (is_live_in known.live v)) e) ∙ live,
+)
+
+pub place-is : (g : Flow) (plan : Plan) (v : NodeId) (ways : Ways) (all : List EdgeId) → slice_get g.nodes v.0 ≡ Some Plain → all ≡ outs g v
+    → AreCovered g ways all → AreRegular g plan (length g.cells) (ways_of g ways)
+    → IsPlace g plan (length g.cells) (place_of g (record { node = v.0; ways = ways }))
+place-is g plan v ways all plain is covered regular = record {
+  plain = plain;
+  covers = λ k e s f.
+      let (j, t) = leaving g v k e s f in
+      covered j (edge_id k) (subst (λ (xs : List EdgeId). slice_get xs j ≡ Some (edge_id k)) (sym is) t) e s;
+  regular = regular;
+}
+
+pub more-places : (g : Flow) (plan : Plan) (n : ℕ) (ps : List Place) (p : Place) → ArePlaces g plan n (places_of g ps) → IsPlace g plan n (place_of g p)
+    → ArePlaces g plan n (places_of g (ps ++ p ∷ []))
+more-places g plan n [] p are is = (is, tt)
+more-places g plan n (q ∷ ps) p are is = (are.0, more-places g plan n ps p are.1 is)

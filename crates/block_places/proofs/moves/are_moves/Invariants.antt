@@ -1,0 +1,7 @@
+use Rattle.std.proofs.Common.{drop}
+use Rattle.block_rule.specs.Plans.{AreMoves}
+use Rattle.block_walk.specs.Known.{plan_of}
+use Rattle.block_places.proofs.moves.are_moves.Given as goal
+
+abbrev pub invariant-loop-number : goal.invariant-loop-number
+invariant-loop-number l = AreMoves (plan_of l.known) l.cells (drop l.number l.ops) → AreMoves (plan_of l.known) l.cells (drop l.skip l.ops)

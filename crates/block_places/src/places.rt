@@ -1,0 +1,81 @@
+//! The places of nodes.
+ghost use Rattle.std.specs.Prelude.{◌≡◌, IfOk, IfSome, IsTrue, Some, length, slice_get};
+ghost use Rattle.c_graph.specs.declared.graph.Node.TheVariants.{Plain};
+ghost use Rattle.c_graph.specs.Shape.{outs};
+ghost use Rattle.block_rule.specs.Plans.{ArePlaces, IsPlace};
+ghost use Rattle.block_walk.specs.Known.{plan_of};
+ghost use Rattle.block_walk.specs.Walks.{place_of, places_of};
+
+use crate::edges::are_covered;
+use crate::exits::guess;
+use crate::regular::is_regular;
+use block_walk::{Known, Place, Ways};
+use c_graph::{EdgeId, Graph, Node, NodeId};
+use lv_base::Memory;
+use std::alloc::Global;
+
+fn is_plain(graph: &Graph, node: u32) -> bool
+    ensures { IsTrue result → slice_get graph.now.nodes node ≡ Some Plain }
+{
+    match graph.nodes().get(node as usize) {
+        Some(Node::Plain) => true,
+        _ => false,
+    }
+}
+
+/// The place with these ways, if they pass the tests.
+fn tested(
+    graph: &Graph,
+    known: &Known,
+    node: NodeId,
+    numbers: &[EdgeId],
+    ways: Ways,
+) -> Option<Place>
+    requires plain { slice_get graph.now.nodes node.0 ≡ Some Plain }
+    requires all { numbers.now ≡ outs graph.now node }
+    ensures { IfSome result (λ p. IsPlace graph.now (plan_of known.now) (length graph.now.cells) (place_of graph.now p)) }
+{
+    if !are_covered(graph, ways, numbers) || !is_regular(graph, known, ways) {
+        return None;
+    }
+    Some(Place { node: node.0, ways })
+}
+
+/// The place of a node with its ways out, if it is plain and these are regular. Of two edges that both lead to errors, and of two that
+/// lead to none, the first comes first; an error that only one of them leads to comes before the other's way.
+pub fn place_of_node(
+    alloc: Global,
+    graph: &Graph,
+    known: &Known,
+    node: u32,
+) -> Result<Option<Place>, Memory>
+    ensures { IfOk result (λ o. IfSome o (λ p. IsPlace graph.now (plan_of known.now) (length graph.now.cells) (place_of graph.now p))) }
+{
+    if !is_plain(graph, node) {
+        return Ok(None);
+    }
+    let numbers = graph.outs(alloc, NodeId(node))?;
+    match guess(graph, &numbers) {
+        None => Ok(None),
+        Some(ways) => Ok(tested(graph, known, NodeId(node), &numbers, ways)),
+    }
+}
+
+/// The places of these nodes in their order, if each has one.
+pub fn places_of_nodes(
+    alloc: Global,
+    graph: &Graph,
+    known: &Known,
+    nodes: &[NodeId],
+) -> Result<Option<Vec<Place>>, Memory>
+    ensures { IfOk result (λ o. IfSome o (λ ps. ArePlaces graph.now (plan_of known.now) (length graph.now.cells) (places_of graph.now ps.items))) }
+{
+    let mut places = Vec::new(alloc);
+    for node in nodes {
+        let Some(place) = place_of_node(alloc, graph, known, node.0)? else {
+            return Ok(None);
+        };
+        places.push(place)?;
+    }
+    Ok(Some(places))
+}

@@ -1,0 +1,107 @@
+//! `block_tables FILE..` tries tables of graphs: each row states where a walk of a graph and of the graph of its blocks ends, or what
+//! the graph of its blocks looks like, and is printed where it is not so, behind what was found. The first word of a row says what it
+//! states, of the graph that an earlier row gave:
+//!
+//! - `graph PARTS`: the parts of a graph;
+//! - `from VALUES`: the first values of the first cells for the walks behind it; the others are 0, as all are without such a row;
+//! - `walk VALUES = END`: where the walk ends that draws these values and no others: `error KIND OFFSET`, `end`, `stuck` or `loop`;
+//! - `edges COUNT`: how many edges the graph of the blocks has;
+//! - `outs NODE = COUNT`: how many of them lead from a node;
+//! - `does NODE = DEEDS`: what the operations of the only one that leads from a node do, in order.
+#![tactic(auto)]
+
+mod deeds;
+mod ends;
+mod walking;
+mod walks;
+
+use block_join::join_blocks;
+use c_graph::Graph;
+use graph_rows::whole_graph;
+use row_text::{RowFail, Table, fields, halves, number, run_tables, wides};
+use std::alloc::{AllocError, Global};
+use std::process::ExitCode;
+
+// What tries the rows.
+#[derive(Drop)]
+struct BlockTable<R: Print + Drop> {
+    rt: R,
+    // The parts of the graph that the rows behind it are about.
+    graph: String,
+    // The first values of its first cells.
+    firsts: Vec<u128>,
+}
+
+impl<R: Print + Drop> BlockTable<R> {
+    fn begin(&mut self, alloc: Global, parts: &str) -> Result<bool, RowFail> {
+        self.graph = String::from_str(alloc, parts)?;
+        self.firsts = Vec::new(alloc);
+        whole_graph(alloc, parts)?;
+        Ok(true)
+    }
+
+    fn start(&mut self, alloc: Global, values: &str) -> Result<bool, RowFail> {
+        self.firsts = wides(alloc, values)?;
+        Ok(true)
+    }
+
+    // Tries a row about a graph and the graph of its blocks.
+    fn of_graph(&self, alloc: Global, kind: &str, rest: &str) -> Result<bool, RowFail> {
+        let graph = whole_graph(alloc, self.graph.as_str())?;
+        let blocks = join_blocks(alloc, &graph)?;
+        match kind {
+            "walk" => walks::ends_so(alloc, &self.rt, &graph, &blocks, &self.firsts, rest),
+            "edges" => Ok(self.is_count(blocks.edges().len(), number(Some(rest))?)),
+            "outs" => self.has_outs(&blocks, rest),
+            "does" => deeds::does_so(alloc, &self.rt, &blocks, rest),
+            _ => Err(RowFail::Bad),
+        }
+    }
+
+    // Whether there are as many as a row says.
+    fn is_count(&self, found: usize, wanted: u32) -> bool {
+        if found == wanted as usize {
+            return true;
+        }
+        let _ = println!(self.rt; "there are {found}");
+        false
+    }
+
+    // Tries the row of how many edges lead from a node.
+    fn has_outs(&self, blocks: &Graph, rest: &str) -> Result<bool, RowFail> {
+        let (node, wanted) = halves(rest)?;
+        let (node, wanted) = (number(Some(node))?, number(Some(wanted))?);
+        let mut found = 0usize;
+        for edge in blocks.edges() {
+            if edge.from.0 == node {
+                found = found.saturating_add(1);
+            }
+        }
+        Ok(self.is_count(found, wanted))
+    }
+}
+
+impl<R: Print + Drop> Table for BlockTable<R> {
+    fn is_so(&mut self, alloc: Global, row: &str) -> Result<bool, RowFail> {
+        let (kind, rest) = fields(row);
+        match kind {
+            "graph" => self.begin(alloc, rest),
+            "from" => self.start(alloc, rest),
+            _ => self.of_graph(alloc, kind, rest),
+        }
+    }
+}
+
+fn main(rt: HostRuntime) -> ExitCode {
+    let prints: Result<HostRuntime, AllocError> = rt.clone();
+    let Ok(prints) = prints else {
+        return ExitCode::from(2);
+    };
+    let alloc = rt.alloc();
+    let mut table = BlockTable {
+        rt: prints,
+        graph: String::new(alloc),
+        firsts: Vec::new(alloc),
+    };
+    run_tables(&rt, &mut table)
+}

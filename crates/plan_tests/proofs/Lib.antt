@@ -1,0 +1,4 @@
+pub mod Flowing
+pub mod Uniting
+pub mod Covering
+pub mod Passing

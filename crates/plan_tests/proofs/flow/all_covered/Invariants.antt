@@ -1,0 +1,6 @@
+use Rattle.std.proofs.Common.{◌≡◌, ◌<◌, ℕ, Some, slice_get}
+use Rattle.plan_tests.specs.Flow.{IsCovered}
+use Rattle.plan_tests.proofs.flow.all_covered.Given as goal
+
+abbrev pub invariant-loop-number : goal.invariant-loop-number
+invariant-loop-number l = (k u : ℕ) → k < l.number → slice_get l.units k ≡ Some u → IsCovered l.known l.node l.before u

@@ -1,0 +1,9 @@
+use Rattle.std.proofs.Common.{◌≡◌, ◌<◌, ℕ, true, Some, slice_get}
+use Rattle.c_graph.specs.declared.graph.Edge.{Edge}
+use Rattle.block_rule.specs.Plans.{matters}
+use Rattle.block_rule.specs.Blocked.{Flows}
+use Rattle.block_walk.specs.Known.{plan_of}
+use Rattle.plan_tests.proofs.flow.all_flow.Given as goal
+
+abbrev pub invariant-loop-number : goal.invariant-loop-number
+invariant-loop-number l = (k : ℕ) (e : Edge) → k < l.number → slice_get l.edges k ≡ Some e → matters (plan_of l.known) e.to.0 ≡ true → Flows (plan_of l.known) e

@@ -1,0 +1,8 @@
+use Rattle.std.proofs.Common.{◌≡◌, ◌<◌, ℕ, Some, slice_get, take}
+use Rattle.c_graph.specs.declared.graph.Operation.{Operation}
+use Rattle.block_walk.specs.Known.{plan_of}
+use Rattle.plan_tests.specs.Flow.{ReadsFlow}
+use Rattle.plan_tests.proofs.flow.all_reads_flow.Given as goal
+
+abbrev pub invariant-loop-number : goal.invariant-loop-number
+invariant-loop-number l = (k : ℕ) (op : Operation) → k < l.number → slice_get l.ops k ≡ Some op → ReadsFlow (plan_of l.known) l.node (take k l.ops) op

@@ -1,0 +1,6 @@
+use Rattle.std.proofs.Common.{◌+◌, ◌*◌, ◌<◌, ℕ}
+use Rattle.plan_tests.specs.Flow.{IsKept}
+use Rattle.plan_tests.proofs.flow.are_bits_kept.Given as goal
+
+abbrev pub invariant-loop-bit : goal.invariant-loop-bit
+invariant-loop-bit l = (b : ℕ) → b < l.bit → IsKept l.known l.from l.ops l.to (l.number * 64 + b)

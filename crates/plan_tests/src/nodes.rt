@@ -1,0 +1,55 @@
+//! Nodes that are reached, and nodes that are alive, along the edges.
+ghost use Rattle.std.specs.Prelude.{◌≡◌, IsTrue, true};
+ghost use Rattle.plan_tables.specs.Tables.{flag_at};
+ghost use Rattle.plan_tests.specs.Nodes.{AreSteps, AreWatched, IsStep, IsWatched};
+
+use block_walk::Known;
+use c_graph::{Edge, Graph, Node};
+use plan_tables::Flags;
+
+/// Whether along each edge what is reached leads to what is reached, and what is alive is led to by what is.
+pub(crate) fn are_steps(known: &Known, edges: &[Edge]) -> bool
+    ensures { IsTrue result → AreSteps known.now edges.now }
+{
+    for number in 0..edges.len() {
+        if !is_step(known, &edges[number]) {
+            return false;
+        }
+    }
+    true
+}
+
+fn is_step(known: &Known, edge: &Edge) -> bool
+    ensures { IsTrue result → IsStep known.now edge.now.from.0 edge.now.to.0 }
+{
+    leads(&known.reached, edge.from.0, edge.to.0) && leads(&known.alive, edge.to.0, edge.from.0)
+}
+
+/// Whether the second number's truth is true where the first one's is.
+fn leads(flags: &Flags, from: u32, to: u32) -> bool
+    ensures { IsTrue result → flag_at flags.now from ≡ true → flag_at flags.now to ≡ true }
+{
+    !flags.get(from) || flags.get(to)
+}
+
+/// Whether each error node is alive.
+pub(crate) fn are_watched(known: &Known, graph: &Graph) -> bool
+    ensures { IsTrue result → AreWatched known.now graph.now.nodes }
+{
+    let nodes = graph.nodes();
+    for number in 0..nodes.len() {
+        if !is_watched(known, nodes[number], number as u32) {
+            return false;
+        }
+    }
+    true
+}
+
+fn is_watched(known: &Known, node: Node, number: u32) -> bool
+    ensures { IsTrue result → IsWatched node (flag_at known.now.alive number) }
+{
+    match node {
+        Node::Error(_, _) => known.alive.get(number),
+        Node::Plain | Node::End | Node::Call(_, _) => true,
+    }
+}
