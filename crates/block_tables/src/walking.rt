@@ -13,6 +13,7 @@ pub(crate) struct Walk {
 }
 
 // Values of a list, and how many of them were drawn.
+#[derive(Drop)]
 struct Listed<'a> {
     values: &'a [i128],
     drawn: usize,
