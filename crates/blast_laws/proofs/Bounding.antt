@@ -54,9 +54,9 @@ terms_small table h t is o lt =
     omega (arith, i, begun-few h.next h.one, net-count h.next (b.defs ++ r.defs), weights-append b.defs r.defs)
 
 pub stores_small : StoresSmall
-stores_small h f m index value some le al =
+stores_small h f m index value some few le al =
     let b = begun h.next h.one in
     let N = h.next + length b.defs in
     let s = store_in b.lit N h.cells f m index value (known_index m (spelled_of b.lit index)) in
-    let i = store-few b.lit N h.cells f m index value (known_index m (spelled_of b.lit index)) refl some le al in
+    let i = store-few b.lit N h.cells f m index value (known_index m (spelled_of b.lit index)) refl some few le al in
     omega (arith, i, begun-few h.next h.one, net-count h.next (b.defs ++ s.defs), weights-append b.defs s.defs)

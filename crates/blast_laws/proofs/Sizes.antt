@@ -100,7 +100,13 @@ stored-weights one n w (p ∷ es) (c ∷ cs) value e a =
     let q = one-more (length cs) w (weights r.defs) (weights s.defs) i (omega (arith, j, k, e)) in
     omega (arith, q, weights-append s.defs r.defs)
 
--- the places of an index and a choice or a store among m cells of w bits, with an index of b bits
+-- the places of an index of b bits, and a store among m cells of w bits: a place costs two conjunctions, and each bit beyond them one
+store-bounded : (m w b d p : ℕ) → d ≤ 14 * m + 7 * b → b ≤ 128 → p ≤ 18 * (m * w) → 1 ≤ w → d + p ≤ store_bound m w
+store-bounded m w b d p h few g o =
+    let t : m * 1 ≤ m * w = mul-le m 1 m w (omega arith) o in
+    omega (arith, h, few, g, t, o)
+
+-- the places of an index and a choice among m cells of w bits, with an index of b bits
 places-bound : (m w b d p : ℕ) → d ≤ 14 * m + 7 * b → p ≤ 18 * (m * w) → 1 ≤ w → d + p ≤ 64 * (m * max w b) + 1024 * max w b
 places-bound m w b d p h g o =
     let x : w ≤ max w b = le-max_left w b in
@@ -127,23 +133,22 @@ element-few one n w cs index None e a some h =
 
 -- a store at an index
 pub store-few : (one : Lit) (n : ℕ) (cells : List (List Lit)) (f m : ℕ) (index value : List Lit) (o : Option ℕ) → o ≡ known_index m (spelled_of one index)
-    → 1 ≤ length value → f + m ≤ length cells → AllLong (length value) (take m (drop f cells))
-    → weights (store_in one n cells f m index value o).defs ≤ store_bound m (length value) (length index)
-store-few one n cells f m index value (Some k) e h l a = omega arith
-store-few one n cells f zero index value None e h l a = absurd (none-is-some 0 e)
-store-few one n cells f (suc m) index value None e h l a =
+    → 1 ≤ length value → length index ≤ 128 → f + m ≤ length cells → AllLong (length value) (take m (drop f cells))
+    → weights (store_in one n cells f m index value o).defs ≤ store_bound m (length value)
+store-few one n cells f m index value (Some k) e h few l a = omega arith
+store-few one n cells f zero index value None e h few l a = absurd (none-is-some 0 e)
+store-few one n cells f (suc m) index value None e h few l a =
     let cs = take (suc m) (drop f cells) in
     let d = folded_made one n (decoded n one index (length cs)) in
     let s = stored one (n + length d.defs) d.outs cs value in
     let j = stored-weights one (n + length d.defs) (length value) d.outs cs value refl a in
     let di = folded-small one n (decoded n one index (length cs)) in
     let w = length value in
-    let b = length index in
     let lc : length cs ≡ suc m = length-take-le (suc m) (drop f cells) (omega (arith, length-drop f cells, l)) in
     let i = decoded-weights n one index (length cs) (omega (arith, lc)) in
-    let q = places-bound (length cs) w b (weights d.defs) (weights s.defs) (omega (arith, i, di)) j h in
-    let r : weights (d.defs ++ s.defs) ≤ 64 * (length cs * max w b) + 1024 * max w b = omega (arith, q, weights-append d.defs s.defs) in
-    let t : 64 * (length cs * max w b) ≡ 64 * (suc m * max w b) = ap (λ (x : ℕ). 64 * (x * max w b)) lc in
+    let q = store-bounded (length cs) w (length index) (weights d.defs) (weights s.defs) (omega (arith, i, di)) few j h in
+    let r : weights (d.defs ++ s.defs) ≤ store_bound (length cs) w = omega (arith, q, weights-append d.defs s.defs) in
+    let t : store_bound (length cs) w ≡ store_bound (suc m) w = ap (λ (x : ℕ). store_bound x w) lc in
     omega (arith, r, t)
 
 negated-length : (xs : List Lit) → length (map negated xs) ≡ length xs

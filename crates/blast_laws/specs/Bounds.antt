@@ -46,9 +46,9 @@ abbrev pub bounds_of : Table → List ℕ → ℕ
 bounds_of table [] = 0
 bounds_of table (k ∷ ks) = bounds_of table ks + bound_of table.cells (widths table) (term_at table.terms k)
 
--- of a value of this width that is stored at an index of so many bits, among n cells
-abbrev pub store_bound : ℕ → ℕ → ℕ → ℕ
-store_bound n w bits = 128 * (n * max w bits) + 1024 * max w bits
+-- of a value that is stored at an index among n cells of its width
+abbrev pub store_bound : ℕ → ℕ → ℕ
+store_bound n w = 128 * (n * w) + 1024 * w
 
 -- of the constant literal: its clause, where there is none yet
 abbrev pub constant_bound : Option Lit → ℕ

@@ -79,9 +79,9 @@ TermsSmall =
     (table : Table) (h : Held) (t : ℕ) → IsTable table → IsOver table h → t < length table.terms
     → count (net_clauses h.next (blast_of table t h).defs) ≤ constant_bound h.one + bounds_of table (cone_of table.terms h.done t)
 
--- a store at an index likewise
+-- a store at an index of at most 128 bits likewise
 abbrev pub StoresSmall : Type 0
 StoresSmall =
-    (h : Held) (f m : ℕ) (index value : List Lit) → 1 ≤ length value → f + m ≤ length h.cells
+    (h : Held) (f m : ℕ) (index value : List Lit) → 1 ≤ length value → length index ≤ 128 → f + m ≤ length h.cells
     → AllLong (length value) (take m (drop f h.cells))
-    → count (net_clauses h.next (store_of f m index value h).defs) ≤ constant_bound h.one + store_bound m (length value) (length index)
+    → count (net_clauses h.next (store_of f m index value h).defs) ≤ constant_bound h.one + store_bound m (length value)

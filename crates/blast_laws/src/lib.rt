@@ -59,8 +59,8 @@ pub fn terms_small()
     ensures { TermsSmall }
 {}
 
-/// The literals that `store_at` adds over n cells are at most 128 n w + 1024 w, w being the greater of the widths of value
-/// and index, and one where there was no constant literal yet.
+/// The literals that `store_at` adds over n cells of w bits are at most 128 n w + 1024 w, and one where there was no constant
+/// literal yet: the places that an index may name are found once for all cells, by conjunctions that they share.
 pub fn stores_small()
     ensures { StoresSmall }
 {}

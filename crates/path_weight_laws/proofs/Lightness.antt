@@ -10,6 +10,7 @@ use Rattle.bit_gates.specs.Net.{net_clauses}
 use Rattle.bit_gates.proofs.Cuts.{count-append}
 use Rattle.bit_words.specs.Elements.{AllLong}
 use Rattle.bv_term.specs.WellFormed.{Table, IsTable, IsArray, IsWidth, widths}
+use Rattle.bv_term.proofs.Growing.{widths-of}
 use Rattle.bit_blast.specs.Done.{is_done}
 use Rattle.bit_blast.specs.Cone.{cone_of}
 use Rattle.bit_blast.specs.Held.{Held, IsOver, begun, blast_of, fresh_of, new_of, renew_of, store_of}
@@ -67,8 +68,8 @@ blasted table t h is o lt =
     }
 
 -- a store at an index
-record StoredAt (table : Table) (first n bits : ℕ) (index value : List Lit) (h : Held) : Type 0 where
-  few : count (net_clauses h.next (store_of first n index value h).defs) ≤ 1 + store_bound n (slice_index table.cells first) bits
+record StoredAt (table : Table) (first n : ℕ) (index value : List Lit) (h : Held) : Type 0 where
+  few : count (net_clauses h.next (store_of first n index value h).defs) ≤ 1 + store_bound n (slice_index table.cells first)
   over : IsOver table (store_of first n index value h).held
 
 first_wide : (cells : List ℕ) (k : ℕ) → All IsWidth cells → k < length cells → 1 ≤ slice_index cells k
@@ -76,16 +77,22 @@ first_wide [] k a lt = absurd (omega (arith, lt))
 first_wide (w ∷ ws) zero a lt = (All-head IsWidth w ws a).0
 first_wide (w ∷ ws) (suc k) a lt = first_wide ws k (All-tail IsWidth w ws a) (omega (arith, lt))
 
-stored : (table : Table) (first n bits : ℕ) (index value : List Lit) (h : Held) → IsTable table → IsOver table h → IsArray table.cells first n
-    → length index ≡ bits → length value ≡ slice_index table.cells first → StoredAt table first n bits index value h
-stored table first n bits index value h is o a ei ev =
+-- a term's word has at most 128 literals
+term_short : (table : Table) (k : ℕ) (word : List Lit) → IsTable table → k < length table.terms → length word ≡ slice_index (widths table) k → length word ≤ 128
+term_short table k word is lt e =
+    let wide = widths-of table is in
+    let x : (1 ≤ slice_index (widths table) k) × (slice_index (widths table) k ≤ 128) = wide.1 k 0 (omega (arith, wide.0, lt)) in
+    omega (arith, x.1, e)
+
+stored : (table : Table) (first n : ℕ) (index value : List Lit) (h : Held) → IsTable table → IsOver table h → IsArray table.cells first n
+    → length index ≤ 128 → length value ≡ slice_index table.cells first → StoredAt table first n index value h
+stored table first n index value h is o a few ev =
     let there = array_there table h first n o a in
     let alike : AllLong (length value) (take n (drop first h.cells)) = array_long table h first n (length value) o a ev in
     let wide = first_wide table.cells first is.cells (omega (arith, a.0, a.1)) in
     let some : 1 ≤ length value = omega (arith, wide, ev) in
-    let l = stores_small h first n index value some there alike in
-    let same : store_bound n (length value) (length index) ≡ store_bound n (slice_index table.cells first) bits
-    = ap (λ (i : ℕ). store_bound n i (length index)) ev ∙ ap (λ (i : ℕ). store_bound n (slice_index table.cells first) i) ei in
+    let l = stores_small h first n index value some few there alike in
+    let same : store_bound n (length value) ≡ store_bound n (slice_index table.cells first) = ap (store_bound n) ev in
     let c = one_constant h.one in
     record {
       few = omega (arith, l, c, same);
@@ -117,7 +124,7 @@ operation_light table (SetAt first n i t) h is f o =
     let Y = blasted table t.0 x.held is X.over f.2 in
     let l = cones_less table h.done x.held.done i.0 t.0 f.1 f.2 X.dones in
     let s = store_of first n x.outs y.outs y.held in
-    let S = stored table first n (slice_index (widths table) i.0) x.outs y.outs y.held is Y.over f.0 X.long (Y.long ∙ f.3) in
+    let S = stored table first n x.outs y.outs y.held is Y.over f.0 (term_short table i.0 x.outs is f.1 X.long) (Y.long ∙ f.3) in
     let A = net_clauses h.next x.defs in
     let B = net_clauses x.held.next y.defs in
     let C = net_clauses y.held.next s.defs in

@@ -2,7 +2,7 @@
 use Rattle.std.specs.Prelude.{ℕ, ◌+◌, ◌<◌, ◌≡◌, Bool, true, false, List, [], ◌∷◌, length, sum_by, slice_index}
 use Rattle.prop.specs.Trues.{listed}
 use Rattle.bv_term.specs.declared.term.Term.{Term}
-use Rattle.bv_term.specs.WellFormed.{Table, widths}
+use Rattle.bv_term.specs.WellFormed.{Table}
 use Rattle.bit_blast.specs.Cone.{falling, operands_at}
 use Rattle.c_graph.specs.declared.graph.EdgeId.{EdgeId}
 use Rattle.c_graph.specs.declared.graph.Operation.{Operation}
@@ -37,11 +37,11 @@ terms_of (Set c t) = t.0 ∷ []
 terms_of (SetAt first n i t) = i.0 ∷ t.0 ∷ []
 terms_of (Draw c signed) = []
 
--- the bound of an operation's store at an index, the greater of the widths of cell and index counting
+-- the bound of an operation's store at an index, by the width of the cells
 abbrev pub store_weight : Table → Operation → ℕ
 store_weight table (Assume t) = 0
 store_weight table (Set c t) = 0
-store_weight table (SetAt first n i t) = store_bound n (slice_index table.cells first) (slice_index (widths table) i.0)
+store_weight table (SetAt first n i t) = store_bound n (slice_index table.cells first)
 store_weight table (Draw c signed) = 0
 
 -- the bounds of the terms below an operation, each once, that of its store, and 64
