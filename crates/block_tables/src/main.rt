@@ -6,19 +6,19 @@
 //! - `from VALUES`: the first values of the first cells for the walks behind it; the others are 0, as all are without such a row;
 //! - `walk VALUES = END`: where the walk ends that draws these values and no others: `error KIND OFFSET`, `end`, `stuck` or `loop`;
 //! - `edges COUNT`: how many edges the graph of the blocks has;
-//! - `outs NODE = COUNT`: how many of them lead from a node;
+//! - `outs NODE = NODES`: to which nodes they lead from a node, in order;
 //! - `does NODE = DEEDS`: what the operations of the only one that leads from a node do, in order.
 #![tactic(auto)]
 
 mod deeds;
+mod edges;
 mod ends;
 mod walking;
 mod walks;
 
 use block_join::join_blocks;
-use c_graph::Graph;
 use graph_rows::whole_graph;
-use row_text::{RowFail, Table, fields, halves, number, run_tables, wides};
+use row_text::{RowFail, Table, fields, run_tables, wides};
 use std::alloc::{AllocError, Global};
 use std::process::ExitCode;
 
@@ -51,33 +51,11 @@ impl<R: Print + Drop> BlockTable<R> {
         let blocks = join_blocks(alloc, &graph)?;
         match kind {
             "walk" => walks::ends_so(alloc, &self.rt, &graph, &blocks, &self.firsts, rest),
-            "edges" => Ok(self.is_count(blocks.edges().len(), number(Some(rest))?)),
-            "outs" => self.has_outs(&blocks, rest),
+            "edges" => edges::are_so_many(&self.rt, &blocks, rest),
+            "outs" => edges::lead_so(alloc, &self.rt, &blocks, rest),
             "does" => deeds::does_so(alloc, &self.rt, &blocks, rest),
             _ => Err(RowFail::Bad),
         }
-    }
-
-    // Whether there are as many as a row says.
-    fn is_count(&self, found: usize, wanted: u32) -> bool {
-        if found == wanted as usize {
-            return true;
-        }
-        let _ = println!(self.rt; "there are {found}");
-        false
-    }
-
-    // Tries the row of how many edges lead from a node.
-    fn has_outs(&self, blocks: &Graph, rest: &str) -> Result<bool, RowFail> {
-        let (node, wanted) = halves(rest)?;
-        let (node, wanted) = (number(Some(node))?, number(Some(wanted))?);
-        let mut found = 0usize;
-        for edge in blocks.edges() {
-            if edge.from.0 == node {
-                found = found.saturating_add(1);
-            }
-        }
-        Ok(self.is_count(found, wanted))
     }
 }
 
