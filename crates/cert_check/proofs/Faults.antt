@@ -32,5 +32,5 @@ logs_cause g c m stored is count (WrongMap fault) h = absurd h
 logs_cause g c m stored is count (Count a b) h = absurd h
 logs_cause g c m stored is count (BadStep n k) h = (m, stored, is, (count, h))
 logs_cause g c m stored is count (NoEmpty n) h = (m, stored, is, (count, h))
-logs_cause g c m stored is count (Over size) h = h
+logs_cause g c m stored is count (Over size) h = (m, stored, is, (count, h))
 logs_cause g c m stored is count Memory h = h

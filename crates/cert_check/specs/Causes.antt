@@ -1,5 +1,6 @@
 -- Why a certificate is not accepted.
 use Rattle.std.specs.Prelude.{ℕ, ◌≡◌, ◌<◌, List, length, take, nat_lt, Some, slice_get, if◌then◌else◌}
+use Rattle.prop.specs.declared.BlastFail.TheVariants.{Over as TooMany}
 use Rattle.bv_term.specs.declared.term.Term.{Term as ATerm}
 use Rattle.bv_term.specs.WellFormed.{Table, IsTable, FitsTable}
 use Rattle.c_graph.specs.Shape.{Flow, HasWidth, widths_of}
@@ -11,7 +12,7 @@ use Rattle.resolution_log.specs.declared.LogFail.TheVariants.{BadStep as BadChai
 use Rattle.resolution_log.specs.Chains.{IsRefutation}
 use Rattle.resolution_log.specs.Verdict.{IsCause}
 use Rattle.obligations.specs.Questions.{count_of}
-use Rattle.obligations.specs.Stated.{obligation_says}
+use Rattle.obligations.specs.Stated.{IsCutOff, obligation_says}
 use Rattle.cert_check.specs.declared.fails.MapFault.{MapFault}
 use Rattle.cert_check.specs.declared.fails.MapFault.TheVariants.{Layout, Nodes, Term, Formula}
 use Rattle.cert_check.specs.declared.fails.CheckFail.{CheckFail}
@@ -66,11 +67,12 @@ IsMapCause g c (WrongMap fault) = IsMapFault g c fault
 IsMapCause g c Memory = Unit {0}
 IsMapCause g c _ = ⊥
 
--- the log of one obligation: what the check of a log says of it, and the obligation's number
+-- the log of one obligation: what the check of a log says of it, and the obligation's number; or the limit cuts the obligation's clauses
+-- off, at this size
 abbrev pub IsLogCause : Flow → Formulas → ℕ → List Chain → CheckFail → Type 0
 IsLogCause g m n log (BadStep number k) = (number ≡ n) × IsCause (obligation_says g m n) log (BadChain k)
 IsLogCause g m n log (NoEmpty number) = (number ≡ n) × IsCause (obligation_says g m n) log LacksEmpty
-IsLogCause g m n log (Over size) = 67108864 < size
+IsLogCause g m n log (Over size) = IsCutOff (obligation_says g m n) (TooMany size)
 IsLogCause g m n log Memory = Unit {0}
 IsLogCause g m n log _ = ⊥
 
@@ -83,10 +85,16 @@ abbrev pub FailsFirst : Flow → Formulas → List (List Chain) → ℕ → LogF
 FailsFirst g m logs n fail =
     AreRefutedBefore g m logs n × ((log : List Chain) × (slice_get logs n ≡ Some log) × IsCause (obligation_says g m n) log fail)
 
+-- the obligations before one of them are refuted, and the limit cuts that one's clauses off, at this size
+abbrev pub IsCutFirst : Flow → Formulas → List (List Chain) → ℕ → Type 0
+IsCutFirst g m logs size =
+    (n : ℕ) × AreRefutedBefore g m logs n
+    × ((log : List Chain) × (slice_get logs n ≡ Some log) × IsCutOff (obligation_says g m n) (TooMany size))
+
 abbrev pub IsLogsCause : Flow → Formulas → List (List Chain) → CheckFail → Type 0
 IsLogsCause g m logs (BadStep n k) = FailsFirst g m logs n (BadChain k)
 IsLogsCause g m logs (NoEmpty n) = FailsFirst g m logs n LacksEmpty
-IsLogsCause g m logs (Over size) = 67108864 < size
+IsLogsCause g m logs (Over size) = IsCutFirst g m logs size
 IsLogsCause g m logs Memory = Unit {0}
 IsLogsCause g m logs _ = ⊥
 
@@ -99,11 +107,12 @@ abbrev pub WithMap : Flow → Cert → (Formulas → Type 0) → Type 0
 WithMap g c P = (m : Formulas) × IsMapIn g c m × IsMapOf g m × P m
 
 -- Why a certificate is not accepted: what of its map does not fit; or the map fits, and the number of logs is not that of
--- obligations; or it is, and an obligation fails, those before it being refuted. `Over` comes only past the limit.
+-- obligations; or it is, and an obligation fails, those before it being refuted. `Over` names the number of literals up to the first
+-- clause of that obligation that passes the limit.
 abbrev pub IsCheckCause : Flow → Cert → CheckFail → Type 0
 IsCheckCause g c (WrongMap fault) = IsMapFault g c fault
 IsCheckCause g c (Count stored wanted) = WithMap g c (λ m. IsCountCause c.logs.items (count_of g) (Count stored wanted))
 IsCheckCause g c (BadStep n k) = WithMap g c (λ m. (length c.logs.items ≡ count_of g) × FailsFirst g m c.logs.items n (BadChain k))
 IsCheckCause g c (NoEmpty n) = WithMap g c (λ m. (length c.logs.items ≡ count_of g) × FailsFirst g m c.logs.items n LacksEmpty)
-IsCheckCause g c (Over size) = 67108864 < size
+IsCheckCause g c (Over size) = WithMap g c (λ m. (length c.logs.items ≡ count_of g) × IsCutFirst g m c.logs.items size)
 IsCheckCause g c Memory = Unit {0}

@@ -28,7 +28,7 @@ pub enum CheckFail {
     BadStep(u32, u32),
     /// The steps of this obligation's log are valid, and do not end with the empty clause.
     NoEmpty(u32),
-    /// The literals of an obligation's clauses pass the limit; this is how many there would be.
+    /// The literals of an obligation's clauses pass the limit; this is how many there are up to the first clause that passes it.
     Over(u64),
     /// Memory ran out.
     Memory,

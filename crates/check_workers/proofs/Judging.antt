@@ -115,7 +115,7 @@ module _ (g : Flow) (m : Formulas) (logs : List (List Chain)) where
       by_cause : (e : CheckFail) → AreRefutedBefore g m logs n → (log : List Chain) → slice_get logs n ≡ Some log → IsLogCause g m n log e → IsLogsCause g m logs e
       by_cause (BadStep k chain) before log at (same, cause) = subst (λ (j : ℕ). IsLogsCause g m logs (BadStep j chain)) (sym same) (before, (log, at, cause))
       by_cause (NoEmpty k) before log at (same, cause) = subst (λ (j : ℕ). IsLogsCause g m logs (NoEmpty j)) (sym same) (before, (log, at, cause))
-      by_cause (Over size) before log at large = large
+      by_cause (Over size) before log at off = (n, before, (log, at, off))
       by_cause Memory before log at u = u
       by_cause (WrongMap fault) before log at never = absurd never
       by_cause (Count stored wanted) before log at never = absurd never
@@ -200,5 +200,5 @@ logs_cause g c m stored is count (WrongMap fault) h = absurd h
 logs_cause g c m stored is count (Count a b) h = absurd h
 logs_cause g c m stored is count (BadStep n k) h = (m, stored, is, (count, h))
 logs_cause g c m stored is count (NoEmpty n) h = (m, stored, is, (count, h))
-logs_cause g c m stored is count (Over size) h = h
+logs_cause g c m stored is count (Over size) h = (m, stored, is, (count, h))
 logs_cause g c m stored is count Memory h = h

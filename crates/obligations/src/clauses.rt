@@ -1,8 +1,9 @@
 //! The clauses of the entry's obligation and of those of error nodes.
 ghost use Rattle.std.specs.Prelude.{◌≡◌, ◌<◌, ◌++◌, [], length, IfErr, IfOk, OnOk};
+ghost use Rattle.bit_gates.specs.Cut.{Cut};
 ghost use Rattle.bit_blast.specs.Held.{IsOver};
 ghost use Rattle.c_graph.specs.Runs.{IsMapOf};
-ghost use Rattle.obligations.specs.Stated.{IsPast, begun_over, formula_at, node_says, stated};
+ghost use Rattle.obligations.specs.Stated.{IsCutOff, IsPast, begun_over, formula_at, node_says, stated};
 
 use bit_blast::{Bits, blast};
 use c_graph::{Graph, Map, NodeId};
@@ -26,6 +27,7 @@ pub fn state(
     ensures held { OnOk result (bits.new ≡ (stated holds map.now.terms (formula_at map.now node) bits.old).held) }
     ensures over { OnOk result (IsOver map.now.terms bits.new) }
     ensures past { IfErr result IsPast }
+    ensures cut { IfErr result (λ e. Cut e clauses.old (stated holds map.now.terms (formula_at map.now node) bits.old).clauses clauses.new) }
 {
     let _nodes = graph.nodes();
     let formula = map.at()[node.0 as usize];
@@ -45,6 +47,7 @@ pub fn begin(alloc: Global, map: &Map, clauses: &mut Clauses) -> Result<Bits, Bl
     ensures begun { IfOk result (λ b. b ≡ begun_over map.now) }
     ensures over { IfOk result (IsOver map.now.terms) }
     ensures past { IfErr result IsPast }
+    ensures memory { IfErr result (λ e. e ≡ BlastFail.Memory) }
 {
     Bits::new(alloc, clauses, map.terms().cells())
 }
@@ -62,6 +65,7 @@ pub fn node_clauses(
     requires node { node.0 < length graph.now.nodes }
     ensures clauses { IfOk result (λ c. c ≡ node_says holds map.now node) }
     ensures past { IfErr result IsPast }
+    ensures cut { IfErr result (IsCutOff (node_says holds map.now node)) }
 {
     let mut clauses = Clauses::new(alloc);
     let mut bits = begin(alloc, map, &mut clauses)?;

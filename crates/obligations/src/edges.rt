@@ -1,11 +1,12 @@
 //! The clauses of the obligations of edges.
 ghost use Rattle.std.specs.Prelude.{◌≡◌, ◌<◌, ◌++◌, ◌∷◌, [], length, IfErr, IfOk, OnOk};
 ghost use Rattle.bv_term.specs.WellFormed.{Table};
+ghost use Rattle.bit_gates.specs.Cut.{Cut};
 ghost use Rattle.bit_blast.specs.Held.{IsOver, renew_of};
 ghost use Rattle.c_graph.specs.Runs.{IsMapOf};
 ghost use Rattle.path_formula.specs.Added.{added_all};
 ghost use Rattle.path_formula.specs.Needs.{operations_at};
-ghost use Rattle.obligations.specs.Stated.{IsPast, edge_says, from_of, kept_for, to_of};
+ghost use Rattle.obligations.specs.Stated.{IsCutOff, IsPast, edge_says, from_of, kept_for, to_of};
 
 use crate::clauses::{begin, state};
 use bit_blast::Bits;
@@ -59,6 +60,7 @@ fn kept_operations(
     requires edge { edge.0 < length graph.now.edges }
     ensures kept { IfOk result (λ k. k.items ≡ kept_for graph.now map.now edge.0) }
     ensures past { IfErr result IsPast }
+    ensures memory { IfErr result (λ e. e ≡ BlastFail.Memory) }
 {
     let end = end_of(graph, edge);
     let formula = map.at()[end.0 as usize];
@@ -89,6 +91,7 @@ fn operate(
     ensures held { OnOk result (bits.new ≡ renew_of (added_all graph.now.terms (renew_of bits.old) (operations_at graph.now.edges edge.0) kept.now).held) }
     ensures over { OnOk result (IsOver map.now.terms bits.new) }
     ensures past { IfErr result IsPast }
+    ensures cut { IfErr result (λ e. Cut e clauses.old (added_all graph.now.terms (renew_of bits.old) (operations_at graph.now.edges edge.0) kept.now).clauses clauses.new) }
 {
     let _terms = graph.terms();
     next_step(clauses, bits);
@@ -113,6 +116,7 @@ pub fn edge_clauses(
     requires edge { edge.0 < length graph.now.edges }
     ensures clauses { IfOk result (λ c. c ≡ edge_says graph.now map.now edge.0) }
     ensures past { IfErr result IsPast }
+    ensures cut { IfErr result (IsCutOff (edge_says graph.now map.now edge.0)) }
 {
     let start = start_of(graph, edge);
     let end = end_of(graph, edge);

@@ -2,7 +2,7 @@
 ghost use Rattle.std.specs.Prelude.{◌≡◌, ◌<◌, IfErr, IfOk};
 ghost use Rattle.c_graph.specs.Runs.{IsMapOf};
 ghost use Rattle.obligations.specs.Questions.{count_of};
-ghost use Rattle.obligations.specs.Stated.{IsPast, obligation_says};
+ghost use Rattle.obligations.specs.Stated.{IsCutOff, IsPast, obligation_says};
 
 use crate::clauses::node_clauses;
 use crate::edges::edge_clauses;
@@ -24,6 +24,7 @@ pub fn obligation(
     requires number { number < count_of graph.now }
     ensures clauses { IfOk result (λ c. c ≡ obligation_says graph.now map.now number) }
     ensures past { IfErr result IsPast }
+    ensures cut { IfErr result (IsCutOff (obligation_says graph.now map.now number)) }
 {
     match question_at(graph, number) {
         Question::Entry => node_clauses(alloc, graph, map, graph.entry(), false),
