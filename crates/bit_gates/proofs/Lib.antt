@@ -12,3 +12,4 @@ pub mod Lengths
 pub mod ShiftLaws
 pub mod Weights
 pub mod Gates
+pub mod Refusals

@@ -1,6 +1,7 @@
-use Rattle.std.specs.Prelude.{ℕ, List, ◌++◌, ◌+◌, ◌≡◌, ◌<◌, ◌≤◌, length, take, suc}
+use Rattle.std.specs.Prelude.{ℕ, List, [], ◌++◌, ◌+◌, ◌≡◌, ◌<◌, ◌≤◌, length, take, suc}
 use Rattle.prop.specs.declared.Lit.{Lit}
 use Rattle.prop.specs.declared.BlastFail.{BlastFail}
+use Rattle.prop.specs.declared.BlastFail.TheVariants.{Over, Memory}
 use Rattle.prop.specs.Logic.{count, OnFail}
 use Rattle.bit_gates.specs.declared.netlist.Def.{Def}
 use Rattle.bit_gates.specs.Net.{net_clauses}
@@ -11,6 +12,12 @@ pub record Cut (e : BlastFail) (old emitted new : List (List Lit)) : Type 0 wher
   pub kept : ℕ
   pub stands : new ≡ old ++ take kept emitted
   pub cause : OnFail e ((kept < length emitted) × (67108864 < count (old ++ take (suc kept) emitted))) (count (old ++ take (suc kept) emitted))
+
+-- a whole list of clauses is cut off: those that stand are within the limit, the next one is the first that passes it, and the
+-- number is that of the literals up to this one
+abbrev pub IsCutOff : List (List Lit) → BlastFail → Type 0
+IsCutOff clauses (Over n) = (left : List (List Lit)) × Cut (Over n) [] clauses left × (count left ≤ 67108864)
+IsCutOff clauses Memory = Unit {0}
 
 -- the clauses of the definitions ds of the variables from n on were added whole, within the limit, and m is the next
 -- variable

@@ -10,7 +10,7 @@ use Rattle.reach_tree.specs.Trees.{vertex_at}
 use Rattle.cover_engine.specs.Unwindings.{Unwound, is_complete, may_settle}
 use Rattle.cover_engine.specs.Steering.{IsHighestOpen}
 use Rattle.refine.specs.Refinements.{IsDriven, IsErrorLeaf, IsLeafRefused, edges_of, question_at}
-use Rattle.refine.specs.Refusals.{IsPairRefused}
+use Rattle.refine.specs.Refusals.{IsRefused}
 use Rattle.explore.specs.Ends.{IsAsked, IsEnd, IsFeasible, end_of}
 use Rattle.explore.proofs.Leaves.{open_incomplete}
 
@@ -42,7 +42,7 @@ path_asked g units u v Why there highest error more why = record {
 pub leaf_ends : (g : Flow) (units learn : ℕ) (old new : Unwound) (v : VertexId) (e : QueryFail) → v.0 < length old.vertices → IsHighestOpen g old v → IsErrorLeaf g old v
     → length old.journal < units → IsLeafRefused g old new v learn e → IsEnd g units learn new (end_of e)
 leaf_ends g units learn old new v (Over n) there highest error more (same, why) =
-    subst (λ (u : Unwound). IsEnd g units learn u (end_of (Over n))) (sym same) (path_asked g units old v (λ clauses. 67108864 < n) there highest error more why.0)
+    subst (λ (u : Unwound). IsEnd g units learn u (end_of (Over n))) (sym same) (path_asked g units old v _ there highest error more why)
 leaf_ends g units learn old new v (OverLog log) there highest error more (same, why) =
     subst (λ (u : Unwound). IsEnd g units learn u (end_of (OverLog log))) (sym same) (path_asked g units old v _ there highest error more why)
 leaf_ends g units learn old new v Memory there highest error more h = tt
@@ -60,9 +60,9 @@ pair_asked g units u v w Why is-open left right may more why = record {
 
 pub pair_ends : (g : Flow) (units learn : ℕ) (old new : Unwound) (v w : VertexId) (e : QueryFail) → is_complete g old ≡ false → v.0 < length old.vertices → w.0 < length old.vertices
     → may_settle old v w ≡ true → length old.journal < units → new ≡ old
-    → IsPairRefused (pair_of old.terms (vertex_at old.vertices v.0).label (vertex_at old.vertices w.0).label) learn e → IsEnd g units learn new (end_of e)
+    → IsRefused (pair_of old.terms (vertex_at old.vertices v.0).label (vertex_at old.vertices w.0).label) learn e → IsEnd g units learn new (end_of e)
 pair_ends g units learn old new v w (Over n) is-open left right may more same why =
-    subst (λ (u : Unwound). IsEnd g units learn u (end_of (Over n))) (sym same) (pair_asked g units old v w (λ clauses. 67108864 < n) is-open left right may more why)
+    subst (λ (u : Unwound). IsEnd g units learn u (end_of (Over n))) (sym same) (pair_asked g units old v w _ is-open left right may more why)
 pair_ends g units learn old new v w (OverLog log) is-open left right may more same why =
     subst (λ (u : Unwound). IsEnd g units learn u (end_of (OverLog log))) (sym same) (pair_asked g units old v w _ is-open left right may more why)
 pair_ends g units learn old new v w Memory is-open left right may more same why = tt

@@ -1,6 +1,8 @@
 -- What an exploration keeps, and the unwinding with which it ended.
 use Rattle.std.specs.Prelude.{ℕ, ℤ, ◌≡◌, ◌<◌, ◌≤◌, ◌⊎◌, Bool, true, false, List, Option, Some, length, slice_get}
 use Rattle.prop.specs.declared.Lit.{Lit}
+use Rattle.prop.specs.declared.BlastFail.TheVariants.{Over as PastLiterals}
+use Rattle.bit_gates.specs.Cut.{IsCutOff}
 use Rattle.lv_base.specs.declared.fault.ErrorKind.{ErrorKind}
 use Rattle.c_graph.specs.declared.graph.NodeId.{NodeId}
 use Rattle.c_graph.specs.Runs.{RunsTo}
@@ -98,7 +100,7 @@ IsEnd g units learn u NoneOpen = is_complete g u ≡ true
 IsEnd g units learn u NoneLeft = (units ≤ length u.journal) × (is_complete g u ≡ false)
 IsEnd g units learn u (DoesDrive values) = IsFeasible g u values
 IsEnd g units learn u (DidLearn log) = IsAsked g units u (λ clauses. IsSpent clauses learn log)
-IsEnd g units learn u (IsTooLong n) = IsAsked g units u (λ clauses. 67108864 < n)
+IsEnd g units learn u (IsTooLong n) = IsAsked g units u (λ clauses. IsCutOff clauses (PastLiterals n))
 IsEnd g units learn u (IsTooHeavy log) = IsAsked g units u (λ clauses. IsHeavy clauses learn 134217728 log)
 IsEnd g units learn u NoRoom = Unit {0}
 
@@ -116,5 +118,5 @@ IsExplored g units learn (Complete u) = (is_complete g u ≡ true) × (length u.
 IsExplored g units learn (Feasible u values) = IsFeasible g u values
 IsExplored g units learn (Units u) = (is_complete g u ≡ false) × (length u.journal ≡ units)
 IsExplored g units learn (Learned u log) = IsAsked g units u (λ clauses. IsSpent clauses learn log)
-IsExplored g units learn (Over u n) = IsAsked g units u (λ clauses. 67108864 < n)
+IsExplored g units learn (Over u n) = IsAsked g units u (λ clauses. IsCutOff clauses (PastLiterals n))
 IsExplored g units learn (OverLog u log) = IsAsked g units u (λ clauses. IsHeavy clauses learn 134217728 log)

@@ -1,13 +1,11 @@
 -- What cuts a part of an obligation's clauses off cuts off the whole.
-use Rattle.std.proofs.Common.{◌≡◌, ℕ, ◌+◌, ◌<◌, ◌≤◌, Bool, true, false, length, List, [], ◌∷◌, ◌++◌, ap, arith, map, sym, ◌∙◌, subst}
+use Rattle.std.proofs.Common.{◌≡◌, ℕ, ◌+◌, ◌<◌, ◌≤◌, Bool, true, false, length, List, [], ◌∷◌, ◌++◌, ap, map, sym, ◌∙◌, subst}
 use Rattle.std.proofs.lemmas.Bool.{false≢true}
 use Rattle.prop.specs.declared.Lit.{Lit}
 use Rattle.prop.specs.declared.BlastFail.{BlastFail}
 use Rattle.prop.specs.declared.BlastFail.TheVariants.{Over, Memory}
 use Rattle.prop.specs.Logic.{count, negated, OnFail}
-use Rattle.prop.specs.Pieces.{Rising, pieces}
-use Rattle.prop.proofs.Pieces.{count-pieces}
-use Rattle.bit_gates.specs.Cut.{Cut}
+use Rattle.bit_gates.specs.Cut.{Cut, IsCutOff}
 use Rattle.bit_gates.specs.Net.{net_clauses}
 use Rattle.bv_term.specs.WellFormed.{Table}
 use Rattle.bit_blast.specs.Held.{Held, blast_of, renew_of}
@@ -16,22 +14,8 @@ use Rattle.c_graph.specs.Shape.{Flow}
 use Rattle.c_graph.specs.Runs.{Formulas}
 use Rattle.path_formula.specs.Added.{Added, added_all}
 use Rattle.path_formula.specs.Needs.{operations_at}
-use Rattle.path_formula.proofs.Refusals.{first_cut, last_cut, pushed_cut}
-use Rattle.obligations.specs.Stated.{IsCutOff, IsPast, Stated, begun_over, edge_says, formula_at, from_of, kept_for, node_says, signed, stated, to_of}
-
-pub cut_off : (e : BlastFail) (clauses left : List (List Lit)) → count left ≤ 67108864 → Cut e [] clauses left → IsCutOff clauses e
-cut_off (Over n) clauses left within c = (left, c, within)
-cut_off Memory clauses left within c = tt
-
-pub memory_off : (e : BlastFail) (clauses : List (List Lit)) → e ≡ Memory → IsCutOff clauses e
-memory_off e clauses is = subst (λ (x : BlastFail). IsCutOff clauses x) (sym is) tt
-
--- a list of clauses that was made is within the limit
-pub made_within : (clauses : List (List Lit)) (ends : List ℕ) (lits : List Lit) → pieces 0 ends lits ≡ clauses → Rising 0 ends (length lits)
-    → length lits ≤ 67108864 → count clauses ≤ 67108864
-made_within clauses ends lits view rising few =
-    let all = count-pieces 0 ends lits rising in
-    omega (arith, all, ap count view, few)
+use Rattle.bit_gates.proofs.Refusals.{cut_off, first_cut, last_cut, pushed_cut}
+use Rattle.obligations.specs.Stated.{IsPast, Stated, begun_over, edge_says, formula_at, from_of, kept_for, node_says, signed, stated, to_of}
 
 -- what is cut off is past the limit
 pub off_past : (e : BlastFail) (clauses : List (List Lit)) → IsCutOff clauses e → IsPast e

@@ -1,10 +1,9 @@
 -- The clauses of an obligation.
-use Rattle.std.specs.Prelude.{ℕ, ◌≡◌, ◌<◌, ◌≤◌, Bool, true, false, List, [], ◌∷◌, ◌++◌, map, slice_index_or, zero, suc}
+use Rattle.std.specs.Prelude.{ℕ, ◌≡◌, ◌<◌, Bool, true, false, List, [], ◌∷◌, ◌++◌, map, slice_index_or, zero, suc}
 use Rattle.prop.specs.declared.Lit.{Lit}
 use Rattle.prop.specs.declared.BlastFail.{BlastFail}
 use Rattle.prop.specs.declared.BlastFail.TheVariants.{Over, Memory}
-use Rattle.prop.specs.Logic.{all_hold, count, negated}
-use Rattle.bit_gates.specs.Cut.{Cut}
+use Rattle.prop.specs.Logic.{all_hold, negated}
 use Rattle.bit_gates.specs.Net.{net_clauses}
 use Rattle.bv_term.specs.WellFormed.{Table}
 use Rattle.bit_blast.specs.Held.{Held, blast_of, new_of, renew_of}
@@ -88,8 +87,3 @@ AreRefuted cs = (v : ℕ → Bool) → all_hold v cs ≡ true → ⊥
 abbrev pub IsPast : BlastFail → Type 0
 IsPast (Over n) = 67108864 < n
 IsPast Memory = Unit {0}
-
--- the limit cuts clauses off: what is left are those before the first that passes it, and the number is that of the literals with this one
-abbrev pub IsCutOff : List (List Lit) → BlastFail → Type 0
-IsCutOff clauses (Over n) = (left : List (List Lit)) × Cut (Over n) [] clauses left × (count left ≤ 67108864)
-IsCutOff clauses Memory = Unit {0}

@@ -1,9 +1,9 @@
 //! The clauses of the entry's obligation and of those of error nodes.
 ghost use Rattle.std.specs.Prelude.{◌≡◌, ◌<◌, ◌++◌, [], length, IfErr, IfOk, OnOk};
-ghost use Rattle.bit_gates.specs.Cut.{Cut};
+ghost use Rattle.bit_gates.specs.Cut.{Cut, IsCutOff};
 ghost use Rattle.bit_blast.specs.Held.{IsOver};
 ghost use Rattle.c_graph.specs.Runs.{IsMapOf};
-ghost use Rattle.obligations.specs.Stated.{IsCutOff, IsPast, begun_over, formula_at, node_says, stated};
+ghost use Rattle.obligations.specs.Stated.{IsPast, begun_over, formula_at, node_says, stated};
 
 use bit_blast::{Bits, blast};
 use c_graph::{Graph, Map, NodeId};

@@ -1,12 +1,12 @@
 //! The clauses of the obligations of edges.
 ghost use Rattle.std.specs.Prelude.{◌≡◌, ◌<◌, ◌++◌, ◌∷◌, [], length, IfErr, IfOk, OnOk};
 ghost use Rattle.bv_term.specs.WellFormed.{Table};
-ghost use Rattle.bit_gates.specs.Cut.{Cut};
+ghost use Rattle.bit_gates.specs.Cut.{Cut, IsCutOff};
 ghost use Rattle.bit_blast.specs.Held.{IsOver, renew_of};
 ghost use Rattle.c_graph.specs.Runs.{IsMapOf};
 ghost use Rattle.path_formula.specs.Added.{added_all};
 ghost use Rattle.path_formula.specs.Needs.{operations_at};
-ghost use Rattle.obligations.specs.Stated.{IsCutOff, IsPast, edge_says, from_of, kept_for, to_of};
+ghost use Rattle.obligations.specs.Stated.{IsPast, edge_says, from_of, kept_for, to_of};
 
 use crate::clauses::{begin, state};
 use bit_blast::Bits;

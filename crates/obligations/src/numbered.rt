@@ -2,7 +2,8 @@
 ghost use Rattle.std.specs.Prelude.{◌≡◌, ◌<◌, IfErr, IfOk};
 ghost use Rattle.c_graph.specs.Runs.{IsMapOf};
 ghost use Rattle.obligations.specs.Questions.{count_of};
-ghost use Rattle.obligations.specs.Stated.{IsCutOff, IsPast, obligation_says};
+ghost use Rattle.bit_gates.specs.Cut.{IsCutOff};
+ghost use Rattle.obligations.specs.Stated.{IsPast, obligation_says};
 
 use crate::clauses::node_clauses;
 use crate::edges::edge_clauses;

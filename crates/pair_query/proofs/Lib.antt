@@ -1,2 +1,4 @@
+pub mod Underway
 pub mod Blasting
+pub mod PairCuts
 pub mod Exact

@@ -1,8 +1,6 @@
 -- The clauses of a pair of labels.
-use Rattle.std.specs.Prelude.{◌<◌, List, [], ◌∷◌, ◌++◌, map}
+use Rattle.std.specs.Prelude.{List, [], ◌∷◌, ◌++◌, map}
 use Rattle.prop.specs.declared.Lit.{Lit}
-use Rattle.prop.specs.declared.BlastFail.{BlastFail}
-use Rattle.prop.specs.declared.BlastFail.TheVariants.{Over, Memory}
 use Rattle.prop.specs.Logic.{negated}
 use Rattle.bit_gates.specs.Net.{net_clauses}
 use Rattle.bv_term.specs.declared.term.TermId.{TermId}
@@ -39,8 +37,3 @@ pair_says table left right h =
     let a = blasted_each table left h in
     let b = blasted_each table right a.held in
     ((a.clauses ++ units a.lits) ++ b.clauses) ++ closing b.lits b.held
-
--- a refusal for the clauses' size comes only past the limit
-abbrev pub IsPast : BlastFail → Type 0
-IsPast (Over n) = 67108864 < n
-IsPast Memory = Unit {0}

@@ -2,10 +2,11 @@
 
 ghost use Rattle.std.specs.Prelude.{◌≡◌, ◌<◌, ◌++◌, ◌∷◌, [], All, length, map, IfErr, IfOk, OnOk};
 ghost use Rattle.prop.specs.Logic.{negated};
+ghost use Rattle.bit_gates.specs.Cut.{Cut, IsCutOff};
 ghost use Rattle.bit_gates.specs.Net.{net_clauses};
 ghost use Rattle.c_graph.specs.Shape.{HasWidth};
 ghost use Rattle.bit_blast.specs.Held.{IsOver, blast_of, new_of};
-ghost use Rattle.pair_query.specs.Pairs.{IsPast, blasted_each, closing, pair_says, units};
+ghost use Rattle.pair_query.specs.Pairs.{blasted_each, closing, pair_says, units};
 
 use bit_blast::{Bits, blast};
 use bv_term::{TermId, Terms};
@@ -26,7 +27,7 @@ fn blast_term(
     ensures lit { IfOk result (λ l. l ∷ [] ≡ (blast_of terms.now term.0 bits.old).outs) }
     ensures held { OnOk result (bits.new ≡ (blast_of terms.now term.0 bits.old).held) }
     ensures over { OnOk result (IsOver terms.now bits.new) }
-    ensures past { IfErr result IsPast }
+    ensures cut { IfErr result (λ e. Cut e clauses.old (net_clauses bits.old.next (blast_of terms.now term.0 bits.old).defs) clauses.new) }
 {
     match blast(alloc, terms, term, clauses, bits) {
         Err(end) => Err(end),
@@ -48,7 +49,7 @@ fn blast_each(
     ensures lits { IfOk result (λ r. r.items ≡ (blasted_each terms.now label.now bits.old).lits) }
     ensures held { OnOk result (bits.new ≡ (blasted_each terms.now label.now bits.old).held) }
     ensures over { OnOk result (IsOver terms.now bits.new) }
-    ensures past { IfErr result IsPast }
+    ensures cut { IfErr result (λ e. Cut e clauses.old (blasted_each terms.now label.now bits.old).clauses clauses.new) }
 {
     let mut lits = Vec::new(alloc);
     for conjunct in label {
@@ -63,7 +64,7 @@ fn blast_each(
 // Adds that each literal is true.
 fn push_units(lits: &[Lit], clauses: &mut Clauses) -> Result<(), BlastFail>
     ensures clauses { OnOk result (clauses.new ≡ clauses.old ++ units lits.now) }
-    ensures past { IfErr result IsPast }
+    ensures cut { IfErr result (λ e. Cut e clauses.old (units lits.now) clauses.new) }
 {
     for lit in lits {
         clauses.push(&[*lit])?;
@@ -74,7 +75,7 @@ fn push_units(lits: &[Lit], clauses: &mut Clauses) -> Result<(), BlastFail>
 // The complements of literals.
 fn complements(alloc: Global, lits: &[Lit]) -> Result<Vec<Lit>, BlastFail>
     ensures complements { IfOk result (λ r. r.items ≡ map negated lits.now) }
-    ensures past { IfErr result IsPast }
+    ensures memory { IfErr result (λ e. e ≡ BlastFail.Memory) }
 {
     let mut fails = Vec::new(alloc);
     for lit in lits {
@@ -94,7 +95,7 @@ fn push_closing(
 ) -> Result<(), BlastFail>
     ensures clauses { OnOk result (clauses.new ≡ clauses.old ++ closing lits.now bits.old) }
     ensures cells { OnOk result (bits.new.cells ≡ bits.old.cells) }
-    ensures past { IfErr result IsPast }
+    ensures cut { IfErr result (λ e. Cut e clauses.old (closing lits.now bits.old) clauses.new) }
 {
     if !lits.is_empty() {
         let fails = complements(alloc, lits)?;
@@ -122,7 +123,7 @@ fn push_pair(
     requires over { IsOver terms.now bits.old }
     ensures clauses { OnOk result (clauses.new ≡ clauses.old ++ pair_says terms.now left.now right.now bits.old) }
     ensures cells { OnOk result (bits.new.cells ≡ bits.old.cells) }
-    ensures past { IfErr result IsPast }
+    ensures cut { IfErr result (λ e. Cut e clauses.old (pair_says terms.now left.now right.now bits.old) clauses.new) }
 {
     let holds = blast_each(alloc, terms, left, clauses, bits)?;
     push_units(&holds, clauses)?;
@@ -143,7 +144,7 @@ pub fn pair_clauses(
     ensures clauses { IfOk result (λ r. r.0 ≡ pair_says terms.now left.now right.now (new_of [] terms.now.cells)) }
     ensures cells { IfOk result (λ r. r.1.cells ≡ (new_of [] terms.now.cells).cells) }
     ensures few { OnOk result (length terms.now.cells < 4294967296) }
-    ensures past { IfErr result IsPast }
+    ensures cut { IfErr result (IsCutOff (pair_says terms.now left.now right.now (new_of [] terms.now.cells))) }
 {
     let mut clauses = Clauses::new(alloc);
     let mut bits = Bits::new(alloc, &mut clauses, terms.cells())?;

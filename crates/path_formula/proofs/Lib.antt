@@ -4,6 +4,5 @@ pub mod There
 pub mod Backing
 pub mod Adding
 pub mod Drafts
-pub mod Refusals
 pub mod Operating
 pub mod Asking

@@ -9,7 +9,7 @@ use Rattle.bit_gates.proofs.Cuts.{cut_more}
 use Rattle.bv_term.specs.WellFormed.{Table}
 use Rattle.bit_blast.specs.Held.{Held, Made, blast_of, store_of}
 use Rattle.path_formula.specs.Added.{assumed, stored_at}
-use Rattle.path_formula.proofs.Refusals.{first_cut, last_cut, pushed_cut}
+use Rattle.bit_gates.proofs.Refusals.{first_cut, last_cut, pushed_cut}
 
 pub assumed_whole : (table : Table) (t : ℕ) (h : Held) (old cur new : List (List Lit)) (l : Lit)
     → cur ≡ old ++ net_clauses h.next (blast_of table t h).defs → l ∷ [] ≡ (blast_of table t h).outs → new ≡ cur ++ (l ∷ []) ∷ []

@@ -3,8 +3,7 @@ ghost use Rattle.std.specs.Prelude.{◌≡◌, ◌<◌, ◌≤◌, ◌+◌, ◌+
 ghost use Rattle.c_graph.specs.Shape.{widths_of};
 ghost use Rattle.bit_blast.specs.Held.{IsOver};
 ghost use Rattle.path_query.specs.Facts.{IsQuery};
-ghost use Rattle.prop.specs.declared.Lit.{Lit};
-ghost use Rattle.bit_gates.specs.Cut.{Cut};
+ghost use Rattle.bit_gates.specs.Cut.{Cut, IsCutOff};
 ghost use Rattle.path_formula.specs.Needs.{kept_of, needed_by_all, operations_at};
 ghost use Rattle.path_formula.specs.Questions.{Begun, Stepped, needed_along, planned, plans, question_in, question_of, stepped};
 ghost use Rattle.path_formula.specs.Paths.{AreThere, bundles_of, IsDraft, IsStep};
@@ -181,12 +180,12 @@ fn take_step(alloc: Global, graph: &Graph, step: &Step, draft: &mut Draft) -> Re
 }
 
 /// The clauses of a path, whose satisfying assignments are the path's runs. It fails where the literals would pass the
-/// limit, or for want of memory or variables. It takes time in proportion to the operations of the path and to the cells
+/// limit, which it tells with the literals up to the first clause that passes it, or for want of memory or variables. It takes time in proportion to the operations of the path and to the cells
 /// that are needed at its cuts, times a logarithm.
 pub fn path_clauses(alloc: Global, graph: &Graph, path: &[EdgeId]) -> Result<PathQuery, BlastFail>
     ensures query { IfOk result (IsQuery (widths_of graph.now.cells) (length path.now)) }
     ensures question { IfOk result (λ q. q ≡ question_of graph.now path.now) }
-    ensures cut { IfErr result (λ e. (left : List (List Lit)) × Cut e [] (question_of graph.now path.now).clauses left) }
+    ensures cut { IfErr result (IsCutOff (question_of graph.now path.now).clauses) }
 {
     let mut needed = BTreeSet::new(alloc);
     let mut steps = match steps_of(alloc, graph, path, &mut needed) {
@@ -195,7 +194,13 @@ pub fn path_clauses(alloc: Global, graph: &Graph, path: &[EdgeId]) -> Result<Pat
     };
     let mut draft = begin(alloc, graph, &needed)?;
     while let Some(step) = steps.pop() {
-        take_step(alloc, graph, &step, &mut draft)?;
+        match take_step(alloc, graph, &step, &mut draft) {
+            Ok(()) => {}
+            Err(end) => {
+                let _literals = draft.clauses.literals();
+                return Err(end);
+            }
+        }
     }
     Ok(finished(graph, draft))
 }

@@ -6,7 +6,7 @@ ghost use Rattle.reach_tree.specs.Trees.{vertex_at};
 ghost use Rattle.cover_engine.specs.Unwindings.{may_settle};
 ghost use Rattle.cover_engine.specs.Units.{Legal};
 ghost use Rattle.refine.specs.Decisions.{IsClosedLabel, IsDecision, IsPairSettled, IsSubset, IsConjunct};
-ghost use Rattle.refine.specs.Refusals.{IsPairRefused};
+ghost use Rattle.refine.specs.Refusals.{IsRefused};
 ghost use Rattle.refine.specs.Witnesses.{AreKnown};
 
 use crate::answers::{Settled, answer_to, no_clauses, no_memory};
@@ -78,7 +78,7 @@ fn asked(
     requires left { AreBits terms.now left.now }
     requires right { AreBits terms.now right.now }
     ensures decided { IfOk result (IsDecision terms.now left.now right.now learn) }
-    ensures refused { IfErr result (IsPairRefused (pair_of terms.now left.now right.now) learn) }
+    ensures refused { IfErr result (IsRefused (pair_of terms.now left.now right.now) learn) }
 {
     let _cells = terms.cells();
     let (clauses, bits) = match pair_clauses(alloc, terms, left, right) {
@@ -111,7 +111,7 @@ fn asked_and_kept(
     requires known { AreKnown terms.now witnesses.old }
     ensures known { AreKnown terms.now witnesses.new }
     ensures decided { IfOk result (IsDecision terms.now left.now right.now learn) }
-    ensures refused { IfErr result (IsPairRefused (pair_of terms.now left.now right.now) learn) }
+    ensures refused { IfErr result (IsRefused (pair_of terms.now left.now right.now) learn) }
 {
     let decision = asked(alloc, terms, left, right, learn)?;
     let Decision::Apart(store) = &decision else {
@@ -141,7 +141,7 @@ fn decide(
     requires known { AreKnown terms.now witnesses.old }
     ensures known { AreKnown terms.now witnesses.new }
     ensures decided { IfOk result (IsDecision terms.now left.now right.now learn) }
-    ensures refused { IfErr result (IsPairRefused (pair_of terms.now left.now right.now) learn) }
+    ensures refused { IfErr result (IsRefused (pair_of terms.now left.now right.now) learn) }
 {
     let _cells = terms.cells();
     if is_among(left, right) || is_closed(terms, left) {
@@ -177,7 +177,7 @@ pub fn settle_with(
     ensures settled { IfOk result (IsPairSettled unwinding.old unwinding.new v w learn) }
     ensures legal { Legal graph.now unwinding.old → Legal graph.now unwinding.new }
     ensures unchanged { OnErr result (unwinding.new ≡ unwinding.old) }
-    ensures refused { IfErr result (IsPairRefused
+    ensures refused { IfErr result (IsRefused
         (pair_of unwinding.old.terms (vertex_at unwinding.old.vertices v.0).label (vertex_at unwinding.old.vertices w.0).label) learn) }
 {
     let decision = decide(
@@ -218,7 +218,7 @@ pub fn settle(
     ensures settled { IfOk result (IsPairSettled unwinding.old unwinding.new v w learn) }
     ensures legal { Legal graph.now unwinding.old → Legal graph.now unwinding.new }
     ensures unchanged { OnErr result (unwinding.new ≡ unwinding.old) }
-    ensures refused { IfErr result (IsPairRefused
+    ensures refused { IfErr result (IsRefused
         (pair_of unwinding.old.terms (vertex_at unwinding.old.vertices v.0).label (vertex_at unwinding.old.vertices w.0).label) learn) }
 {
     settle_with(

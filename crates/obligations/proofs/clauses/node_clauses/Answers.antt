@@ -1,5 +1,6 @@
 use Rattle.std.proofs.lemmas.Result.{err_from_is_err_and}
-use Rattle.obligations.proofs.CutOff.{made_within, node_off}
+use Rattle.bit_gates.proofs.Refusals.{made_within}
+use Rattle.obligations.proofs.CutOff.{node_off}
 use Rattle.obligations.proofs.clauses.node_clauses.Goals as goal
 
 pub returns-in_err-state-clause-cut : goal.returns-in_err-state-clause-cut

@@ -1,6 +1,7 @@
 use Rattle.std.proofs.Common.{◌∙◌}
 use Rattle.std.proofs.lemmas.Result.{err_from_is_err_and}
-use Rattle.obligations.proofs.CutOff.{end_off, made_within, middle_off, operated, start_off, started}
+use Rattle.bit_gates.proofs.Refusals.{made_within}
+use Rattle.obligations.proofs.CutOff.{end_off, middle_off, operated, start_off, started}
 use Rattle.obligations.proofs.edges.edge_clauses.Goals as goal
 
 pub returns-in_err-state-clause-cut : goal.returns-in_err-state-clause-cut

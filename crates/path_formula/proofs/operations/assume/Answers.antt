@@ -1,6 +1,6 @@
 use Rattle.bit_gates.specs.Net.{net_clauses}
 use Rattle.bit_blast.specs.Held.{blast_of}
-use Rattle.path_formula.proofs.Refusals.{first_cut}
+use Rattle.bit_gates.proofs.Refusals.{first_cut}
 use Rattle.path_formula.proofs.Operating.{assumed_cut}
 use Rattle.path_formula.proofs.operations.assume.Goals as goal
 

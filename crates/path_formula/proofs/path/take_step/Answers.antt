@@ -4,7 +4,7 @@ use Rattle.bit_gates.specs.Cut.{Cut}
 use Rattle.prop.specs.declared.BlastFail.{BlastFail}
 use Rattle.prop.specs.declared.BlastFail.TheVariants.{Memory}
 use Rattle.path_query.specs.declared.query.Bundle.{Bundle}
-use Rattle.path_formula.proofs.Refusals.{memory_whole}
+use Rattle.bit_gates.proofs.Refusals.{memory_whole}
 use Rattle.path_formula.proofs.Drafts.{draft_stepped, step_whole, more_clauses}
 use Rattle.path_formula.specs.Questions.{planned, stepped}
 use Rattle.path_formula.specs.Paths.{AreThere}

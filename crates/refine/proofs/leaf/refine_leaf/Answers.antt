@@ -1,8 +1,8 @@
-use Rattle.std.proofs.Common.{◌≡◌, ◌∙◌, true, List, [], ap, refl, subst, sym}
+use Rattle.std.proofs.Common.{◌≡◌, ◌∙◌, true, List, ap, refl, subst, sym}
 use Rattle.prop.specs.Logic.{all_hold}
 use Rattle.prop.specs.Trues.{listed}
 use Rattle.clause_learning.specs.Solve.{IsAnswer}
-use Rattle.bit_gates.specs.Cut.{Cut}
+use Rattle.bit_gates.specs.Cut.{IsCutOff}
 use Rattle.resolution_log.proofs.Refuting.{lean_refutes}
 use Rattle.c_graph.specs.declared.graph.EdgeId.{EdgeId}
 use Rattle.c_graph.specs.Shape.{widths_of}
@@ -39,7 +39,6 @@ returns-in-Ok-drawn_values-clause-refined c =
 pub returns-in-Err-path_clauses-clause-refused : goal.returns-in-Err-path_clauses-clause-refused
 returns-in-Err-path_clauses-clause-refused c =
     let e : c.as_slice-edges.result.now ≡ edges_of c.args.unwinding.now c.args.v = c.as_slice-edges.ensures ∙ c.in-Ok.ensures.edges in
-    let (left, cut) = c.in-Err-path_clauses.ensures.cut in
     subst (IsLeafRefused c.args.graph.now c.args.unwinding.now c.args.unwinding.now c.args.v c.args.learn) (sym c.no_clauses.ensures)
-    (leaf_refused c.args.graph.now c.args.unwinding.now c.args.v left c.args.learn c.in-Err-path_clauses.end
-    (subst (λ (es : List EdgeId). Cut c.in-Err-path_clauses.end [] (question_of c.args.graph.now es).clauses left) e cut))
+    (leaf_refused c.args.graph.now c.args.unwinding.now c.args.v c.args.learn c.in-Err-path_clauses.end
+    (subst (λ (es : List EdgeId). IsCutOff (question_of c.args.graph.now es).clauses c.in-Err-path_clauses.end) e c.in-Err-path_clauses.ensures.cut))
