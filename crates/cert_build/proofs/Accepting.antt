@@ -16,5 +16,5 @@ accepted g m learn c is table proofs layout terms formulas = record {
   stored = record { layout = layout; cells = is.cells; terms = sym terms; fits = table; at = sym formulas };
   is_map = is;
   count = proofs.count;
-  logs = λ n log at. lean_refutes (obligation_says g m n) log (proofs.each n log at).0;
+  logs = λ n log at. let proof = proofs.each n log at in record { within = proof.0; refuted = lean_refutes (obligation_says g m n) log proof.1.0 };
 }

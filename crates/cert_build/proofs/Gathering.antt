@@ -8,10 +8,8 @@ use Rattle.c_graph.specs.Runs.{Formulas}
 use Rattle.resolution_log.specs.declared.Chain.{Chain}
 use Rattle.clause_learning.specs.declared.QueryFail.{QueryFail}
 use Rattle.clause_learning.specs.declared.QueryFail.TheVariants.{Over, OverLog, Memory}
-use Rattle.clause_learning.specs.Solve.{IsRefuted}
 use Rattle.obligations.specs.Questions.{count_of}
-use Rattle.obligations.specs.Stated.{obligation_says}
-use Rattle.cert_build.specs.Proofs.{AreProofsTo, IsOneCause, IsProveCause}
+use Rattle.cert_build.specs.Proofs.{AreProofsTo, IsOneCause, IsProof, IsProveCause}
 
 get-front : (xs : List (List Chain)) (x : List Chain) (k : ℕ) → k < length xs → slice_get (xs ++ x ∷ []) k ≡ slice_get xs k
 get-front [] x k lt = absurd (omega (arith, lt))
@@ -28,7 +26,7 @@ get-within (y ∷ xs) zero x e = omega arith
 get-within (y ∷ xs) (suc k) x e = omega (arith, get-within xs k x e)
 
 pub proofs_more : (g : Flow) (m : Formulas) (learn n : ℕ) (logs new : List (List Chain)) (log : List Chain) → AreProofsTo g m learn n logs
-    → IsRefuted (obligation_says g m n) learn log → new ≡ logs ++ log ∷ [] → AreProofsTo g m learn (n + 1) new
+    → IsProof g m learn n log → new ≡ logs ++ log ∷ [] → AreProofsTo g m learn (n + 1) new
 proofs_more g m learn n logs new log h r e =
     let P : List (List Chain) → Type 0 = λ xs. AreProofsTo g m learn (n + 1) xs in
     let l : length (logs ++ log ∷ []) ≡ length logs + 1 = length-append logs (log ∷ []) in
@@ -39,8 +37,8 @@ proofs_more g m learn n logs new log h r e =
             let place : k ≡ length logs = omega (arith, q, h.count) in
             let s : Some log ≡ Some x = sym (get-last logs log) ∙ (ap (slice_get (logs ++ log ∷ [])) (sym place) ∙ at) in
             let same : log ≡ x = cc in
-            subst (λ (y : List Chain). IsRefuted (obligation_says g m k) learn y) same
-            (subst (λ (i : ℕ). IsRefuted (obligation_says g m i) learn log) (sym q) r)
+            subst (λ (y : List Chain). IsProof g m learn k y) same
+            (subst (λ (i : ℕ). IsProof g m learn i log) (sym q) r)
         | inr ne ↦
             let within = get-within (logs ++ log ∷ []) k x at in
             let lt : k < length logs = omega (arith, within, l, ne, h.count) in

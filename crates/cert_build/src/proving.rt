@@ -4,6 +4,7 @@ ghost use Rattle.c_graph.specs.Runs.{IsMapOf};
 ghost use Rattle.clause_learning.specs.Solve.{IsAnswer};
 ghost use Rattle.obligations.specs.Questions.{count_of};
 ghost use Rattle.obligations.specs.Stated.{obligation_says};
+ghost use Rattle.cert_check.specs.Answers.{IsWithin};
 ghost use Rattle.cert_build.specs.Proofs.{IsOneCause, IsProved, IsProveCause};
 
 use c_graph::{Graph, Map};
@@ -36,6 +37,7 @@ fn prove_one(
     requires number { number < count_of graph.now }
     requires learn { 0 < learn }
     ensures answer { IfOk result (IsAnswer (obligation_says graph.now map.now number) learn) }
+    ensures within { IfOk result (λ _. IsWithin graph.now map.now number) }
     ensures cause { IfErr result (IsOneCause graph.now map.now number learn) }
 {
     let clauses = match obligation(alloc, graph, map, number) {
@@ -43,6 +45,7 @@ fn prove_one(
         Err(BlastFail::Over(count)) => return Err(QueryFail::Over(count)),
         Err(BlastFail::Memory) => return Err(QueryFail::Memory),
     };
+    let _literals = clauses.literals();
     match solve(alloc, &clauses, learn) {
         Ok(answer) => Ok(answer),
         Err(SolveFail::OverLog(log)) => Err(QueryFail::OverLog(log)),
@@ -53,7 +56,8 @@ fn prove_one(
 /// Refutes the obligations of a map, one after another, each by a lean refutation of at most so many learned clauses. The answer is of the
 /// lowest obligation that is not refuted so, if there is one.
 ///
-/// `Over` says that an obligation's clauses would have too many literals, `OverLog` that its refutation would have too many steps.
+/// `Over` says that an obligation's clauses would have too many literals, and how many there are up to the first clause that passes the
+/// limit; `OverLog` says that its refutation would have too many steps.
 pub fn prove(alloc: Global, graph: &Graph, map: &Map, learn: u64) -> Result<Proved, QueryFail>
     requires map { IsMapOf graph.now map.now }
     requires learn { 0 < learn }

@@ -1,5 +1,6 @@
 -- What the check of a certificate answers.
-use Rattle.std.specs.Prelude.{ℕ, ◌≡◌, List, length, map, All, Some, slice_get}
+use Rattle.std.specs.Prelude.{ℕ, ◌≡◌, ◌≤◌, List, length, map, All, Some, slice_get}
+use Rattle.prop.specs.Logic.{count}
 use Rattle.bv_term.specs.declared.term.TermId.{TermId}
 use Rattle.bv_term.specs.declared.term.Term.{Term}
 use Rattle.bv_term.specs.WellFormed.{Table, IsTable}
@@ -36,11 +37,20 @@ pub record IsMapIn (g : Flow) (c : Cert) (m : Formulas) : Type 0 where
   pub fits : IsTable m.terms
   pub at : m.at ≡ numbered c.formulas.items
 
--- each log refutes its obligation
-abbrev pub AreRefutations : Flow → Formulas → List (List Chain) → Type 0
-AreRefutations g m logs = (n : ℕ) (log : List Chain) → slice_get logs n ≡ Some log → IsRefutation (obligation_says g m n) log
+-- the clauses of an obligation are within the limit on literals
+abbrev pub IsWithin : Flow → Formulas → ℕ → Type 0
+IsWithin g m n = count (obligation_says g m n) ≤ 67108864
 
--- the certificate is accepted: its map fits, and each of its logs, one for each obligation, refutes that obligation
+-- an obligation passes: its clauses are within the limit on literals, and its log refutes them
+pub record Passes (g : Flow) (m : Formulas) (n : ℕ) (log : List Chain) : Type 0 where
+  pub within : IsWithin g m n
+  pub refuted : IsRefutation (obligation_says g m n) log
+
+-- each obligation passes by its log
+abbrev pub AreRefutations : Flow → Formulas → List (List Chain) → Type 0
+AreRefutations g m logs = (n : ℕ) (log : List Chain) → slice_get logs n ≡ Some log → Passes g m n log
+
+-- the certificate is accepted: its map fits, and each obligation passes by its log, of which there is one for each
 pub record IsAccepted (g : Flow) (c : Cert) : Type 0 where
   pub formulas : Formulas
   pub stored : IsMapIn g c formulas

@@ -9,15 +9,15 @@ use Rattle.cert_text.specs.declared.Cert.{Cert}
 use Rattle.resolution_log.specs.declared.Chain.{Chain}
 use Rattle.resolution_log.specs.declared.LogFail.{LogFail}
 use Rattle.resolution_log.specs.declared.LogFail.TheVariants.{BadStep as BadChain, NoEmpty as LacksEmpty}
-use Rattle.resolution_log.specs.Chains.{IsRefutation}
 use Rattle.resolution_log.specs.Verdict.{IsCause}
 use Rattle.obligations.specs.Questions.{count_of}
-use Rattle.obligations.specs.Stated.{IsCutOff, obligation_says}
+use Rattle.bit_gates.specs.Cut.{IsCutOff}
+use Rattle.obligations.specs.Stated.{obligation_says}
 use Rattle.cert_check.specs.declared.fails.MapFault.{MapFault}
 use Rattle.cert_check.specs.declared.fails.MapFault.TheVariants.{Layout, Nodes, Term, Formula}
 use Rattle.cert_check.specs.declared.fails.CheckFail.{CheckFail}
 use Rattle.cert_check.specs.declared.fails.CheckFail.TheVariants.{WrongMap, Count, BadStep, NoEmpty, Over, Memory}
-use Rattle.cert_check.specs.Answers.{AreBits, IsMapIn, numbered, term_id}
+use Rattle.cert_check.specs.Answers.{AreBits, IsMapIn, IsWithin, Passes, numbered, term_id}
 
 -- a length as a number of 32 bits, the greatest where it is none
 abbrev pub capped : ℕ → ℕ
@@ -67,25 +67,26 @@ IsMapCause g c (WrongMap fault) = IsMapFault g c fault
 IsMapCause g c Memory = Unit {0}
 IsMapCause g c _ = ⊥
 
--- the log of one obligation: what the check of a log says of it, and the obligation's number; or the limit cuts the obligation's clauses
--- off, at this size
+-- the log of one obligation, whose clauses are within the limit on literals: what the check of a log says of it, and the obligation's
+-- number; or the limit cuts the obligation's clauses off, at this size
 abbrev pub IsLogCause : Flow → Formulas → ℕ → List Chain → CheckFail → Type 0
-IsLogCause g m n log (BadStep number k) = (number ≡ n) × IsCause (obligation_says g m n) log (BadChain k)
-IsLogCause g m n log (NoEmpty number) = (number ≡ n) × IsCause (obligation_says g m n) log LacksEmpty
+IsLogCause g m n log (BadStep number k) = (number ≡ n) × IsWithin g m n × IsCause (obligation_says g m n) log (BadChain k)
+IsLogCause g m n log (NoEmpty number) = (number ≡ n) × IsWithin g m n × IsCause (obligation_says g m n) log LacksEmpty
 IsLogCause g m n log (Over size) = IsCutOff (obligation_says g m n) (TooMany size)
 IsLogCause g m n log Memory = Unit {0}
 IsLogCause g m n log _ = ⊥
 
--- the logs of the obligations before this number refute them
+-- the obligations before this number pass by their logs
 abbrev pub AreRefutedBefore : Flow → Formulas → List (List Chain) → ℕ → Type 0
-AreRefutedBefore g m logs n = (i : ℕ) (log : List Chain) → i < n → slice_get logs i ≡ Some log → IsRefutation (obligation_says g m i) log
+AreRefutedBefore g m logs n = (i : ℕ) (log : List Chain) → i < n → slice_get logs i ≡ Some log → Passes g m i log
 
--- the obligations before this number are refuted, and this one's log fails so
+-- the obligations before this number pass; this one's clauses are within the limit on literals too, and its log fails so
 abbrev pub FailsFirst : Flow → Formulas → List (List Chain) → ℕ → LogFail → Type 0
 FailsFirst g m logs n fail =
-    AreRefutedBefore g m logs n × ((log : List Chain) × (slice_get logs n ≡ Some log) × IsCause (obligation_says g m n) log fail)
+    AreRefutedBefore g m logs n
+    × ((log : List Chain) × (slice_get logs n ≡ Some log) × IsWithin g m n × IsCause (obligation_says g m n) log fail)
 
--- the obligations before one of them are refuted, and the limit cuts that one's clauses off, at this size
+-- the obligations before one of them pass, and the limit cuts that one's clauses off, at this size
 abbrev pub IsCutFirst : Flow → Formulas → List (List Chain) → ℕ → Type 0
 IsCutFirst g m logs size =
     (n : ℕ) × AreRefutedBefore g m logs n
@@ -107,7 +108,7 @@ abbrev pub WithMap : Flow → Cert → (Formulas → Type 0) → Type 0
 WithMap g c P = (m : Formulas) × IsMapIn g c m × IsMapOf g m × P m
 
 -- Why a certificate is not accepted: what of its map does not fit; or the map fits, and the number of logs is not that of
--- obligations; or it is, and an obligation fails, those before it being refuted. `Over` names the number of literals up to the first
+-- obligations; or it is, and an obligation fails, those before it passing. `Over` names the number of literals up to the first
 -- clause of that obligation that passes the limit.
 abbrev pub IsCheckCause : Flow → Cert → CheckFail → Type 0
 IsCheckCause g c (WrongMap fault) = IsMapFault g c fault

@@ -1,7 +1,8 @@
 //! The checker of certificates: does a certificate's map fit the graph, and does each of its logs refute its obligation.
 //!
 //! The map comes first, then the number of logs, then the obligations in their order: each one's clauses are made, and its log is run
-//! over them. The first that fails is the answer. Nothing that a certificate states is trusted.
+//! over them. The first that fails is the answer, and so is the first whose clauses pass the limit on literals. Nothing that a certificate
+//! states is trusted.
 #![tactic(auto)]
 
 mod checking;

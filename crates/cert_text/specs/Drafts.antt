@@ -1,5 +1,5 @@
 -- What was read of a certificate so far.
-use Rattle.std.specs.Prelude.{ℕ, List, [], ◌∷◌, ◌++◌, Bool, true, false, slice_set, length, nat_lt, if◌then◌else◌}
+use Rattle.std.specs.Prelude.{ℕ, List, [], ◌∷◌, ◌++◌, Bool, slice_set, nat_lt, if◌then◌else◌}
 use Rattle.lv_base.specs.declared.kind.Model.{Model}
 use Rattle.lv_base.specs.declared.kind.Model.TheVariants.{Ilp32}
 use Rattle.bv_term.specs.declared.term.Term.{Term}

@@ -6,5 +6,6 @@ pub mod Fields
 pub mod Steps
 pub mod Drafts
 pub mod Reading
+pub mod Ranges
 pub mod Writing
 pub mod Laws

@@ -6,10 +6,9 @@ use Rattle.bv_term.specs.declared.term.Term.TheVariants.{Constant}
 use Rattle.cert_text.specs.declared.letters.Form.{Form}
 use Rattle.cert_text.specs.declared.letters.Operands.{Operands}
 use Rattle.cert_text.specs.declared.letters.Operands.TheVariants.{Wide as OWide, One, Two, Three}
-use Rattle.cert_text.specs.declared.place.Fixed.{Fixed}
-use Rattle.cert_text.specs.declared.place.Fixed.TheVariants.{Head, BeforeModel, RestIlp32, RestLp64, BeforeTerms, BeforeNodes, BeforeLogs, BeforeChains, Close}
+use Rattle.cert_text.specs.declared.place.Fixed.TheVariants.{BeforeModel, RestIlp32, RestLp64, BeforeTerms, BeforeNodes, BeforeLogs, BeforeChains, Close}
 use Rattle.cert_text.specs.declared.place.Slot.{Slot}
-use Rattle.cert_text.specs.declared.place.Slot.TheVariants.{Text, High, Low, Kind, Layout, Terms, Letter, Gap, First, Second, Third, Value, Nodes, Formula, Logs, Chains, Start, Pivot, Clause, Done}
+use Rattle.cert_text.specs.declared.place.Slot.TheVariants.{Text, High, Low, Kind, Layout, Terms, Letter, Gap, First, Second, Third, Value, Nodes, Formula, Logs, Chains, Start, Pivot, Clause}
 use Rattle.cert_text.specs.declared.place.Place.{Place}
 use Rattle.cert_text.specs.declared.place.Want.{Want}
 use Rattle.cert_text.specs.declared.place.Want.TheVariants.{Text as WText, Byte as WByte, Number as WNumber, Wide as WWide}
@@ -19,7 +18,6 @@ use Rattle.cert_text.specs.declared.field.More.{More}
 use Rattle.cert_text.specs.declared.field.More.TheVariants.{Refused as MRefused, Part as MPart, Text as MText, Number as MNumber, Wide as MWide}
 use Rattle.cert_text.specs.declared.steps.Act.{Act}
 use Rattle.cert_text.specs.declared.steps.Act.TheVariants.{Nothing, Byte, Said, Numbered, Adds, Maps, Begins, Pairs}
-use Rattle.cert_text.specs.declared.steps.Move.{Move}
 use Rattle.cert_text.specs.declared.steps.Next.{Next}
 use Rattle.cert_text.specs.declared.steps.Next.TheVariants.{Refused, Part as NPart, Moves}
 use Rattle.cert_text.specs.Letters.{form_of, operands_of, term_of}

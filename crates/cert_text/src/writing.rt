@@ -1,10 +1,11 @@
 //! Writes certificates.
 
-ghost use Rattle.std.specs.Prelude.{◌≡◌, ◌⊎◌, ◌<◌, ◌≤◌, ◌/◌, ◌%◌, ◌++◌, ◌∷◌, [], length, Ok, Err, MatchResult};
+ghost use Rattle.std.specs.Prelude.{◌≡◌, ◌⊎◌, ◌<◌, ◌≤◌, ◌/◌, ◌%◌, ◌++◌, ◌∷◌, [], length, Ok, Err, MatchResult, All, IfOk, OnOk};
 ghost use Rattle.stored_text.specs.declared.StoredFail.{StoredFail};
 ghost use Rattle.stored_text.specs.RunText.{number_text};
 ghost use Rattle.cert_text.specs.Content.{content_of};
 ghost use Rattle.cert_text.specs.CertText.{hex_digit, hex_text, model_text, number_line, numbers_text, term_text, terms_text, formulas_text, pairs_text, chain_text, chains_text, log_text, logs_text, head_text, terms_part, nodes_part, logs_part, cert_text};
+ghost use Rattle.cert_text.specs.Ranges.{ChainInRange, InRange, IsByte, IsShort, PairFits, TermFits};
 ghost use Rattle.cert_text.specs.Writing.{write_cert_of, Stops};
 
 use crate::Cert;
@@ -74,7 +75,8 @@ fn push_count(file: &mut Vec<u8>, word: &[u8], number: u64) -> Result<(), Stored
 
 // A blank and a number.
 fn push_next(file: &mut Vec<u8>, number: u32) -> Result<(), StoredFail>
-    ensures { MatchResult result (λ _. file.new.items ≡ file.old.items ++ 32 ∷ number_text number) (λ e. e ≡ StoredFail.Memory) }
+    ensures text { MatchResult result (λ _. file.new.items ≡ file.old.items ++ 32 ∷ number_text number) (λ e. e ≡ StoredFail.Memory) }
+    ensures short { IsShort number }
 {
     push_byte(file, b' ')?;
     push_number(file, number as u64)
@@ -89,7 +91,8 @@ fn hex(digit: u8) -> u8
 
 // Two digits for each byte.
 fn push_hex(file: &mut Vec<u8>, bytes: &[u8]) -> Result<(), StoredFail>
-    ensures { MatchResult result (λ _. file.new.items ≡ file.old.items ++ hex_text bytes.now) (λ e. e ≡ StoredFail.Memory) }
+    ensures text { MatchResult result (λ _. file.new.items ≡ file.old.items ++ hex_text bytes.now) (λ e. e ≡ StoredFail.Memory) }
+    ensures numbers { OnOk result (All IsByte bytes.now) }
 {
     for byte in bytes {
         push_byte(file, hex(*byte / 16))?;
@@ -140,7 +143,8 @@ fn push_constant(file: &mut Vec<u8>, width: u32, value: u128) -> Result<(), Stor
 }
 
 fn push_term(file: &mut Vec<u8>, term: Term) -> Result<(), StoredFail>
-    ensures { MatchResult result (λ _. file.new.items ≡ file.old.items ++ term_text term) (λ e. e ≡ StoredFail.Memory) }
+    ensures text { MatchResult result (λ _. file.new.items ≡ file.old.items ++ term_text term) (λ e. e ≡ StoredFail.Memory) }
+    ensures numbers { OnOk result (TermFits term) }
 {
     match term {
         Term::Constant(width, value) => push_constant(file, width, value),
@@ -170,7 +174,8 @@ fn push_term(file: &mut Vec<u8>, term: Term) -> Result<(), StoredFail>
 }
 
 fn push_terms(file: &mut Vec<u8>, terms: &[Term]) -> Result<(), StoredFail>
-    ensures { MatchResult result (λ _. file.new.items ≡ file.old.items ++ terms_text terms.now) (λ e. e ≡ StoredFail.Memory) }
+    ensures text { MatchResult result (λ _. file.new.items ≡ file.old.items ++ terms_text terms.now) (λ e. e ≡ StoredFail.Memory) }
+    ensures numbers { OnOk result (All TermFits terms.now) }
 {
     for term in terms {
         push_term(file, *term)?;
@@ -179,7 +184,8 @@ fn push_terms(file: &mut Vec<u8>, terms: &[Term]) -> Result<(), StoredFail>
 }
 
 fn push_formulas(file: &mut Vec<u8>, formulas: &[u32]) -> Result<(), StoredFail>
-    ensures { MatchResult result (λ _. file.new.items ≡ file.old.items ++ formulas_text formulas.now) (λ e. e ≡ StoredFail.Memory) }
+    ensures text { MatchResult result (λ _. file.new.items ≡ file.old.items ++ formulas_text formulas.now) (λ e. e ≡ StoredFail.Memory) }
+    ensures numbers { OnOk result (All IsShort formulas.now) }
 {
     for formula in formulas {
         push_line(file, *formula as u64)?;
@@ -189,7 +195,8 @@ fn push_formulas(file: &mut Vec<u8>, formulas: &[u32]) -> Result<(), StoredFail>
 
 // The pairs of a chain, and its line's end.
 fn push_pairs(file: &mut Vec<u8>, pairs: &[(u32, u32)]) -> Result<(), StoredFail>
-    ensures { MatchResult result (λ _. file.new.items ≡ file.old.items ++ pairs_text pairs.now) (λ e. e ≡ StoredFail.Memory) }
+    ensures text { MatchResult result (λ _. file.new.items ≡ file.old.items ++ pairs_text pairs.now) (λ e. e ≡ StoredFail.Memory) }
+    ensures numbers { OnOk result (All PairFits pairs.now) }
 {
     for pair in pairs {
         push_next(file, pair.0)?;
@@ -199,7 +206,8 @@ fn push_pairs(file: &mut Vec<u8>, pairs: &[(u32, u32)]) -> Result<(), StoredFail
 }
 
 fn push_chain(file: &mut Vec<u8>, chain: &Chain) -> Result<(), StoredFail>
-    ensures { MatchResult result (λ _. file.new.items ≡ file.old.items ++ chain_text chain.now) (λ e. e ≡ StoredFail.Memory) }
+    ensures text { MatchResult result (λ _. file.new.items ≡ file.old.items ++ chain_text chain.now) (λ e. e ≡ StoredFail.Memory) }
+    ensures numbers { OnOk result (ChainInRange chain.now) }
 {
     push_number(file, chain.first as u64)?;
     push_pairs(file, chain.pairs.as_slice())
@@ -216,7 +224,8 @@ fn within(file: &[u8]) -> Result<(), StoredFail>
 }
 
 fn push_chains(file: &mut Vec<u8>, chains: &[Chain]) -> Result<(), StoredFail>
-    ensures { MatchResult result (λ _. file.new.items ≡ file.old.items ++ chains_text chains.now) (λ e. Stops (file.old.items ++ chains_text chains.now) e) }
+    ensures text { MatchResult result (λ _. file.new.items ≡ file.old.items ++ chains_text chains.now) (λ e. Stops (file.old.items ++ chains_text chains.now) e) }
+    ensures numbers { OnOk result (All ChainInRange chains.now) }
 {
     for chain in chains {
         push_chain(file, chain)?;
@@ -226,14 +235,16 @@ fn push_chains(file: &mut Vec<u8>, chains: &[Chain]) -> Result<(), StoredFail>
 }
 
 fn push_log(file: &mut Vec<u8>, log: &Log) -> Result<(), StoredFail>
-    ensures { MatchResult result (λ _. file.new.items ≡ file.old.items ++ log_text log.now) (λ e. Stops (file.old.items ++ log_text log.now) e) }
+    ensures text { MatchResult result (λ _. file.new.items ≡ file.old.items ++ log_text log.now) (λ e. Stops (file.old.items ++ log_text log.now) e) }
+    ensures numbers { OnOk result (All ChainInRange log.now) }
 {
     push_count(file, b"log ", log.len() as u64)?;
     push_chains(file, log.chains())
 }
 
 fn push_logs(file: &mut Vec<u8>, logs: &[Log]) -> Result<(), StoredFail>
-    ensures { MatchResult result (λ _. file.new.items ≡ file.old.items ++ logs_text logs.now) (λ e. Stops (file.old.items ++ logs_text logs.now) e) }
+    ensures text { MatchResult result (λ _. file.new.items ≡ file.old.items ++ logs_text logs.now) (λ e. Stops (file.old.items ++ logs_text logs.now) e) }
+    ensures numbers { OnOk result (All (All ChainInRange) logs.now) }
 {
     for log in logs {
         push_log(file, log)?;
@@ -252,7 +263,8 @@ fn model_bytes(model: Model) -> &'static [u8]
 
 // The lines before the terms.
 fn push_head(file: &mut Vec<u8>, cert: &Cert) -> Result<(), StoredFail>
-    ensures { MatchResult result (λ _. file.new.items ≡ file.old.items ++ head_text (content_of cert.now)) (λ e. e ≡ StoredFail.Memory) }
+    ensures text { MatchResult result (λ _. file.new.items ≡ file.old.items ++ head_text (content_of cert.now)) (λ e. e ≡ StoredFail.Memory) }
+    ensures numbers { OnOk result ((length cert.now.hash ≡ 32) × All IsByte cert.now.hash × IsShort cert.now.layout) }
 {
     push_bytes(file, b"lac 1\nsource ")?;
     push_hex(file, &cert.hash)?;
@@ -263,7 +275,8 @@ fn push_head(file: &mut Vec<u8>, cert: &Cert) -> Result<(), StoredFail>
 
 // The terms and their count.
 fn push_table(file: &mut Vec<u8>, terms: &[Term]) -> Result<(), StoredFail>
-    ensures { MatchResult result (λ _. file.new.items ≡ file.old.items ++ terms_part terms.now) (λ e. e ≡ StoredFail.Memory) }
+    ensures text { MatchResult result (λ _. file.new.items ≡ file.old.items ++ terms_part terms.now) (λ e. e ≡ StoredFail.Memory) }
+    ensures numbers { OnOk result (All TermFits terms.now) }
 {
     push_count(file, b"terms ", terms.len() as u64)?;
     push_terms(file, terms)
@@ -271,7 +284,8 @@ fn push_table(file: &mut Vec<u8>, terms: &[Term]) -> Result<(), StoredFail>
 
 // The nodes' formulas and their count.
 fn push_nodes(file: &mut Vec<u8>, formulas: &[u32]) -> Result<(), StoredFail>
-    ensures { MatchResult result (λ _. file.new.items ≡ file.old.items ++ nodes_part formulas.now) (λ e. e ≡ StoredFail.Memory) }
+    ensures text { MatchResult result (λ _. file.new.items ≡ file.old.items ++ nodes_part formulas.now) (λ e. e ≡ StoredFail.Memory) }
+    ensures numbers { OnOk result (All IsShort formulas.now) }
 {
     push_count(file, b"map ", formulas.len() as u64)?;
     push_formulas(file, formulas)
@@ -279,14 +293,16 @@ fn push_nodes(file: &mut Vec<u8>, formulas: &[u32]) -> Result<(), StoredFail>
 
 // The logs and their count.
 fn push_proofs(file: &mut Vec<u8>, logs: &[Log]) -> Result<(), StoredFail>
-    ensures { MatchResult result (λ _. file.new.items ≡ file.old.items ++ logs_part logs.now) (λ e. Stops (file.old.items ++ logs_part logs.now) e) }
+    ensures text { MatchResult result (λ _. file.new.items ≡ file.old.items ++ logs_part logs.now) (λ e. Stops (file.old.items ++ logs_part logs.now) e) }
+    ensures numbers { OnOk result (All (All ChainInRange) logs.now) }
 {
     push_count(file, b"logs ", logs.len() as u64)?;
     push_logs(file, logs)
 }
 
 fn push_cert(file: &mut Vec<u8>, cert: &Cert) -> Result<(), StoredFail>
-    ensures { MatchResult result (λ _. file.new.items ≡ file.old.items ++ cert_text (content_of cert.now)) (λ e. Stops (file.old.items ++ cert_text (content_of cert.now)) e) }
+    ensures text { MatchResult result (λ _. file.new.items ≡ file.old.items ++ cert_text (content_of cert.now)) (λ e. Stops (file.old.items ++ cert_text (content_of cert.now)) e) }
+    ensures numbers { OnOk result (InRange (content_of cert.now)) }
 {
     push_head(file, cert)?;
     push_table(file, cert.terms.as_slice())?;
@@ -297,7 +313,8 @@ fn push_cert(file: &mut Vec<u8>, cert: &Cert) -> Result<(), StoredFail>
 
 /// The text of a certificate. A text of more than [`MOST_BYTES`] passes limit 8. [`read_cert`](crate::read_cert) reads it back.
 pub fn write_cert(alloc: Global, cert: &Cert) -> Result<Vec<u8>, StoredFail>
-    ensures { MatchResult result (λ file. write_cert_of (content_of cert.now) ≡ Ok file.items) (λ e. (e ≡ StoredFail.Memory) ⊎ (write_cert_of (content_of cert.now) ≡ Err e)) }
+    ensures text { MatchResult result (λ file. write_cert_of (content_of cert.now) ≡ Ok file.items) (λ e. (e ≡ StoredFail.Memory) ⊎ (write_cert_of (content_of cert.now) ≡ Err e)) }
+    ensures numbers { IfOk result (λ _. InRange (content_of cert.now)) }
 {
     let mut file = Vec::new(alloc);
     push_cert(&mut file, cert)?;

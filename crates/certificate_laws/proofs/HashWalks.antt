@@ -1,20 +1,18 @@
 -- The hash of a certificate is read to what it is.
-use Rattle.std.proofs.Common.{◌≡◌, ℕ, zero, suc, ◌+◌, ◌-◌, ◌*◌, ◌/◌, ◌%◌, ◌<◌, ◌≤◌, Bool, true, false, not, ◌&&◌, ◌||◌, List, [], ◌∷◌, ◌++◌, length, Option, Some, None, refl, sym, ap, ◌∙◌, subst, arith, ◌==◌, if◌then◌else◌, append_assoc, append-nil, length-append, lit<, lit≤, nat_le, nat_lt, inl, inr}
-use Rattle.std.specs.Prelude.{option_and_then, codes, ◌⊎◌, slice_set}
+use Rattle.std.proofs.Common.{◌≡◌, ℕ, ◌+◌, ◌-◌, ◌*◌, ◌/◌, ◌%◌, ◌<◌, Bool, true, false, List, [], ◌∷◌, ◌++◌, length, Option, Some, refl, sym, ap, ◌∙◌, arith, if◌then◌else◌, append_assoc, length-append, nat_le, nat_lt}
+use Rattle.std.specs.Prelude.{option_and_then, slice_set}
 use Rattle.std.proofs.lemmas.Bool.Decides.{nat_tests}
-use Rattle.stored_text.specs.RunText.{number_text}
 use Rattle.cert_text.specs.declared.place.Fixed.TheVariants.{BeforeModel}
-use Rattle.cert_text.specs.declared.place.Slot.{Slot}
 use Rattle.cert_text.specs.declared.place.Slot.TheVariants.{Text, High, Low}
 use Rattle.cert_text.specs.declared.place.Place.{Place}
 use Rattle.cert_text.specs.declared.place.Part.TheVariants.{Fresh}
-use Rattle.cert_text.specs.declared.steps.Act.TheVariants.{Nothing, Byte}
-use Rattle.cert_text.specs.declared.steps.Next.{Next}
+use Rattle.cert_text.specs.declared.steps.Act.TheVariants.{Byte}
 use Rattle.cert_text.specs.CertText.{hex_digit, hex_text}
 use Rattle.cert_text.specs.Fields.{hex_value}
 use Rattle.cert_text.specs.Steps.{place_of, go, digit_by, low_read}
 use Rattle.cert_text.specs.Drafts.{Said, acted}
-use Rattle.certificate_laws.specs.Fits.{AllFit, IsByte}
+use Rattle.cert_text.specs.Ranges.{IsByte}
+use Rattle.certificate_laws.specs.Fits.{AllFit}
 use Rattle.certificate_laws.proofs.Walks.{State, at, moved, walk}
 
 digit_told : (d : ℕ) → d < 16 → hex_value (hex_digit d) ≡ Some d

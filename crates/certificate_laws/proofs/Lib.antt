@@ -1,3 +1,4 @@
+pub mod Counts
 pub mod Walks
 pub mod ListWalks
 pub mod HashWalks
@@ -5,3 +6,10 @@ pub mod TermWalks
 pub mod LogWalks
 pub mod Whole
 pub mod Refusals
+mod Fronts
+mod Growing
+mod FrontSteps
+mod FrontLists
+mod FrontFields
+pub mod ReadBack
+mod Completing

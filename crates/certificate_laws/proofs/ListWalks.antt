@@ -1,14 +1,12 @@
 -- Lists of a certificate whose count stands before them.
-use Rattle.std.proofs.Common.{◌≡◌, ℕ, zero, suc, ◌+◌, ◌-◌, ◌*◌, ◌/◌, ◌%◌, ◌<◌, ◌≤◌, Bool, true, false, List, [], ◌∷◌, ◌++◌, length, Option, Some, None, refl, sym, ap, ◌∙◌, subst, arith, ◌==◌, if◌then◌else◌, append_assoc, append-nil, lit<, lit≤, nat_le, nat_lt}
-use Rattle.std.specs.Prelude.{option_and_then, codes}
+use Rattle.std.proofs.Common.{◌≡◌, ℕ, ◌-◌, Bool, false, List, [], ◌∷◌, ◌++◌, length, ap, ◌∙◌, arith, if◌then◌else◌, append_assoc, nat_le}
 use Rattle.std.proofs.lemmas.Bool.Decides.{nat_tests}
-use Rattle.stored_text.specs.RunText.{number_text}
 use Rattle.cert_text.specs.declared.place.Place.{Place}
 use Rattle.cert_text.specs.declared.place.Part.TheVariants.{Fresh}
 use Rattle.cert_text.specs.CertText.{each}
 use Rattle.cert_text.specs.Drafts.{Said}
 use Rattle.certificate_laws.specs.Fits.{AllFit}
-use Rattle.certificate_laws.proofs.Walks.{State, at, walk}
+use Rattle.certificate_laws.proofs.Walks.{at, walk}
 
 -- what is said behind one of a list, with so many left before it, and where reading stands
 abbrev pub next_said : {X : Type 0} → (List X → Said) → (List X → Said) → ℕ → List X → Said

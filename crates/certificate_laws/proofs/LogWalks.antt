@@ -1,6 +1,6 @@
 -- The logs of a certificate are read to what they are.
-use Rattle.std.proofs.Common.{◌≡◌, ℕ, zero, suc, ◌+◌, ◌-◌, ◌*◌, ◌/◌, ◌%◌, ◌<◌, ◌≤◌, Bool, true, false, not, ◌&&◌, ◌||◌, List, [], ◌∷◌, ◌++◌, length, Option, Some, None, refl, sym, ap, ◌∙◌, subst, arith, ◌==◌, if◌then◌else◌, append_assoc, append-nil, lit<, lit≤, nat_le, nat_lt, inl, inr}
-use Rattle.std.specs.Prelude.{option_and_then, codes, ◌⊎◌, slice_set}
+use Rattle.std.proofs.Common.{◌≡◌, ℕ, ◌-◌, Bool, true, false, List, [], ◌∷◌, ◌++◌, length, Option, Some, refl, sym, ap, ◌∙◌, arith, ◌==◌, if◌then◌else◌, append_assoc, append-nil, nat_le}
+use Rattle.std.specs.Prelude.{option_and_then}
 use Rattle.std.proofs.lemmas.Bool.Decides.{nat_tests}
 use Rattle.stored_text.specs.RunText.{number_text}
 use Rattle.resolution_log.specs.declared.Chain.{Chain}
@@ -10,11 +10,11 @@ use Rattle.cert_text.specs.declared.place.Place.{Place}
 use Rattle.cert_text.specs.declared.place.Part.TheVariants.{Fresh, Digits}
 use Rattle.cert_text.specs.declared.steps.Act.{Act}
 use Rattle.cert_text.specs.declared.steps.Act.TheVariants.{Nothing, Begins, Pairs}
-use Rattle.cert_text.specs.declared.steps.Next.{Next}
-use Rattle.cert_text.specs.CertText.{each, number_line, pairs_text, chain_text, chains_text, log_text}
-use Rattle.cert_text.specs.Steps.{place_of, moves, log_end, chain_end, chains_read}
+use Rattle.cert_text.specs.CertText.{number_line, pairs_text, chain_text, chains_text, log_text}
+use Rattle.cert_text.specs.Steps.{place_of, moves, log_end, chain_end}
 use Rattle.cert_text.specs.Drafts.{Said, acted, chain_of, chain_closed, log_closed}
-use Rattle.certificate_laws.specs.Fits.{IsShort, AllFit, PairFits, ChainFits, LogFits}
+use Rattle.cert_text.specs.Ranges.{PairFits}
+use Rattle.certificate_laws.specs.Fits.{AllFit, ChainFits, LogFits}
 use Rattle.certificate_laws.proofs.Walks.{State, at, moved, walk, number_walks}
 use Rattle.certificate_laws.proofs.ListWalks.{next_said, next_place, each_walks}
 

@@ -1,13 +1,10 @@
 -- Where a certificate is refused.
-use Rattle.std.proofs.Common.{◌≡◌, ℕ, zero, suc, ◌+◌, ◌<◌, ◌≤◌, Bool, true, false, List, [], ◌∷◌, ◌++◌, length, take, Option, Some, None, Ok, Err, refl, sym, ap, ◌∙◌, subst, arith, if◌then◌else◌, nat_lt}
+use Rattle.std.proofs.Common.{◌≡◌, ℕ, suc, ◌+◌, ◌<◌, ◌≤◌, Bool, true, false, List, [], ◌∷◌, ◌++◌, length, take, Option, Some, None, Ok, Err, refl, sym, ap, ◌∙◌, arith, if◌then◌else◌, nat_lt}
 use Rattle.std.specs.Prelude.{option_and_then}
 use Rattle.std.proofs.lemmas.Bool.Decides.{nat_tests}
 use Rattle.std.proofs.lemmas.Bool.{both_ways}
-use Rattle.std.proofs.lemmas.List.{take_all}
 use Rattle.stored_text.specs.declared.StoredFail.TheVariants.{Format, Over, Memory}
-use Rattle.cert_text.specs.declared.place.Part.{Part}
 use Rattle.cert_text.specs.declared.place.Part.TheVariants.{Fresh}
-use Rattle.cert_text.specs.declared.steps.Move.{Move}
 use Rattle.cert_text.specs.declared.steps.Next.{Next}
 use Rattle.cert_text.specs.declared.steps.Next.TheVariants.{Refused, Part as NPart, Moves}
 use Rattle.cert_text.specs.Content.{Content}
@@ -17,12 +14,12 @@ use Rattle.cert_text.specs.Steps.{step_of}
 use Rattle.cert_text.specs.Drafts.{nothing, applied, content_said}
 use Rattle.cert_text.specs.Reading.{Reading, start, answered, read_from, read_cert_of}
 use Rattle.certificate_laws.specs.Fits.{Fits}
-use Rattle.certificate_laws.specs.Laws.{NoneGoesOn, RefusedForGood, OverIsNamed}
+use Rattle.certificate_laws.specs.Laws.{NoneGoesOn, OverIsNamed}
 use Rattle.certificate_laws.proofs.Walks.{State, at, moved, step, walk}
 use Rattle.certificate_laws.proofs.Whole.{whole, text_walks}
 
 -- how reading ends
-abbrev Told : State → ℕ → List ℕ → Reading → Type 0
+abbrev pub Told : State → ℕ → List ℕ → Reading → Type 0
 Told s n bytes (Ok c) = (q : State) × (walk s bytes ≡ Some q) × (is_done_at q.place.slot ≡ true) × (content_said q.said ≡ c)
 Told s n bytes (Err (Format m)) =
     (k : ℕ) × (m ≡ n + k) × (k ≤ length bytes) × (k < length bytes → walk s (take (suc k) bytes) ≡ None)
@@ -38,7 +35,7 @@ later s q n b bytes (Err (Format m)) e t =
 later s q n b bytes (Err (Over m c)) e t = t
 later s q n b bytes (Err Memory) e t = t
 
-reads : (bytes : List ℕ) (s : State) (n : ℕ) → Told s n bytes (read_from s.said s.place s.part n bytes)
+pub reads : (bytes : List ℕ) (s : State) (n : ℕ) → Told s n bytes (read_from s.said s.place s.part n bytes)
 reads [] s n = by_end (is_done_at s.place.slot) refl
   where
     by_end : (d : Bool) → is_done_at s.place.slot ≡ d → Told s n [] (if d then Ok (content_said s.said) else Err (Format n))
@@ -89,8 +86,9 @@ refused file n (Err (Format m)) t e =
           both_ways (is_done_at q.place.slot) d (ap (λ (x : State). is_done_at x.place.slot) s)),
     )
 
-pub refused_for_good : RefusedForGood
-refused_for_good file n e = by_size (nat_lt 67108864 (length file)) refl e
+pub refused_there : (file : List ℕ) (n : ℕ) → read_cert_of file ≡ Err (Format n)
+    → (length file ≤ 67108864) × (n ≤ length file) × (n < length file → NoneGoesOn (take (n + 1) file)) × (n ≡ length file → (c : Content) → Fits c → file ≡ cert_text c → ⊥)
+refused_there file n e = by_size (nat_lt 67108864 (length file)) refl e
   where
     by_size : (over : Bool) → nat_lt 67108864 (length file) ≡ over → (if over then Err (Over 8 67108865) else read_from nothing start Fresh 0 file) ≡ Err (Format n)
         → (length file ≤ 67108864) × (n ≤ length file) × (n < length file → NoneGoesOn (take (n + 1) file)) × (n ≡ length file → (c : Content) → Fits c → file ≡ cert_text c → ⊥)

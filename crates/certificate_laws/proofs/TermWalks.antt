@@ -1,25 +1,23 @@
 -- The terms of a certificate are read to what they are.
-use Rattle.std.proofs.Common.{◌≡◌, ℕ, zero, suc, ◌+◌, ◌-◌, ◌*◌, ◌/◌, ◌%◌, ◌<◌, ◌≤◌, Bool, true, false, List, [], ◌∷◌, ◌++◌, length, Option, Some, None, refl, sym, ap, ◌∙◌, subst, arith, ◌==◌, if◌then◌else◌, append_assoc, append-nil, lit<, lit≤, nat_le, nat_lt, inl, inr}
-use Rattle.std.specs.Prelude.{option_and_then, codes, ◌⊎◌}
-use Rattle.std.proofs.lemmas.Bool.Decides.{nat_tests}
+use Rattle.std.proofs.Common.{◌≡◌, ℕ, ◌-◌, ◌≤◌, Bool, true, false, List, [], ◌∷◌, ◌++◌, Option, Some, refl, ap, ◌∙◌, if◌then◌else◌, append_assoc, nat_le, inl, inr}
+use Rattle.std.specs.Prelude.{option_and_then, ◌⊎◌}
 use Rattle.stored_text.specs.RunText.{number_text}
 use Rattle.bv_term.specs.declared.term.Term.{Term}
 use Rattle.bv_term.specs.declared.term.Term.TheVariants.{Constant, Cell, Element, Add, Subtract, Multiply, Divide, Remainder, And, Or, Xor, Not, ShiftLeft, ShiftRight, ShiftSigned, Equal, Less, LessSigned, Select, ZeroExtend, SignExtend, Truncate, Bit}
 use Rattle.cert_text.specs.declared.letters.Form.{Form}
 use Rattle.cert_text.specs.declared.letters.Form.TheVariants.{Constant as FConstant, Cell as FCell, Element as FElement, Add as FAdd, Subtract as FSubtract, Multiply as FMultiply, Divide as FDivide, Remainder as FRemainder, And as FAnd, Or as FOr, Xor as FXor, Not as FNot, ShiftLeft as FShiftLeft, ShiftRight as FShiftRight, ShiftSigned as FShiftSigned, Equal as FEqual, Less as FLess, LessSigned as FLessSigned, Select as FSelect, ZeroExtend as FZeroExtend, SignExtend as FSignExtend, Truncate as FTruncate, Bit as FBit}
 use Rattle.cert_text.specs.declared.letters.Operands.{Operands}
-use Rattle.cert_text.specs.declared.letters.Operands.TheVariants.{Wide, One, Two, Three}
+use Rattle.cert_text.specs.declared.letters.Operands.TheVariants.{One, Two, Three}
 use Rattle.cert_text.specs.declared.place.Fixed.TheVariants.{BeforeNodes}
-use Rattle.cert_text.specs.declared.place.Slot.TheVariants.{Text, Letter, Gap, First, Second, Third, Value}
+use Rattle.cert_text.specs.declared.place.Slot.TheVariants.{Text, Letter, First, Second, Third, Value}
 use Rattle.cert_text.specs.declared.place.Place.{Place}
 use Rattle.cert_text.specs.declared.place.Part.TheVariants.{Fresh, Digits, WideDigits}
-use Rattle.cert_text.specs.declared.steps.Act.TheVariants.{Nothing, Adds}
-use Rattle.cert_text.specs.declared.steps.Next.{Next}
+use Rattle.cert_text.specs.declared.steps.Act.TheVariants.{Adds}
 use Rattle.cert_text.specs.CertText.{numbers_text, term_text}
 use Rattle.cert_text.specs.Letters.{letter_of, form_of, operands_of, term_of}
-use Rattle.cert_text.specs.Steps.{place_of, go, blank, line, add, step_of, first_by, second_by, letter_by}
+use Rattle.cert_text.specs.Steps.{place_of, go, add, first_by, second_by, letter_by}
 use Rattle.cert_text.specs.Drafts.{Said, acted}
-use Rattle.certificate_laws.specs.Fits.{IsShort, TermFits}
+use Rattle.cert_text.specs.Ranges.{IsShort, TermFits}
 use Rattle.certificate_laws.proofs.Walks.{State, at, moved, walk, number_walks, wide_walks}
 
 letter_tells : (f : Form) → form_of (letter_of f) ≡ Some f

@@ -1,11 +1,11 @@
 -- Reading as a walk over the bytes.
-use Rattle.std.proofs.Common.{◌≡◌, ℕ, zero, suc, ◌+◌, ◌-◌, ◌*◌, ◌/◌, ◌%◌, ◌<◌, ◌≤◌, Bool, true, false, List, [], ◌∷◌, ◌++◌, length, Option, Some, None, Ok, Err, refl, sym, ap, ◌∙◌, subst, arith, ◌==◌, if◌then◌else◌, append_assoc, append-nil, lit<, lit≤, nat_le, nat_lt}
-use Rattle.std.specs.Prelude.{option_and_then, ◌^◌}
+use Rattle.std.proofs.Common.{◌≡◌, ℕ, zero, suc, ◌+◌, ◌-◌, ◌*◌, ◌/◌, ◌%◌, ◌<◌, ◌≤◌, Bool, true, false, List, [], ◌∷◌, ◌++◌, Option, Some, None, Ok, refl, sym, ap, ◌∙◌, subst, arith, ◌==◌, append_assoc, lit<, nat_lt}
+use Rattle.std.specs.Prelude.{option_and_then}
 use Rattle.std.proofs.lemmas.Bool.Decides.{nat_tests}
 use Rattle.stored_text.specs.RunText.{number_text}
 use Rattle.cert_text.specs.declared.place.Place.{Place}
 use Rattle.cert_text.specs.declared.place.Part.{Part}
-use Rattle.cert_text.specs.declared.place.Part.TheVariants.{Fresh, Matched, Digits, WideDigits}
+use Rattle.cert_text.specs.declared.place.Part.TheVariants.{Fresh, Digits, WideDigits}
 use Rattle.cert_text.specs.declared.place.Want.{Want}
 use Rattle.cert_text.specs.declared.place.Want.TheVariants.{Number, Wide}
 use Rattle.cert_text.specs.declared.steps.Next.{Next}

@@ -1,5 +1,5 @@
 -- The text of a certificate is read to what it says.
-use Rattle.std.proofs.Common.{◌≡◌, ℕ, zero, suc, ◌+◌, ◌-◌, ◌*◌, ◌<◌, ◌≤◌, Bool, true, false, List, [], ◌∷◌, ◌++◌, length, Option, Some, None, Result, Ok, Err, refl, sym, ap, ◌∙◌, subst, arith, ◌==◌, if◌then◌else◌, append_assoc, append-nil, lit<, lit≤, nat_le, nat_lt}
+use Rattle.std.proofs.Common.{◌≡◌, ℕ, ◌-◌, ◌<◌, ◌≤◌, Bool, true, false, List, [], ◌∷◌, ◌++◌, length, Option, Some, Result, Ok, Err, refl, sym, ap, ◌∙◌, arith, ◌==◌, if◌then◌else◌, append_assoc, nat_le, nat_lt}
 use Rattle.std.specs.Prelude.{option_and_then, codes}
 use Rattle.std.proofs.lemmas.Bool.Decides.{nat_tests}
 use Rattle.lv_base.specs.declared.kind.Model.{Model}
@@ -9,28 +9,25 @@ use Rattle.resolution_log.specs.declared.Chain.{Chain}
 use Rattle.stored_text.specs.declared.StoredFail.{StoredFail}
 use Rattle.stored_text.specs.declared.StoredFail.TheVariants.{Over}
 use Rattle.stored_text.specs.RunText.{number_text}
-use Rattle.cert_text.specs.declared.place.Fixed.TheVariants.{Head, BeforeModel, BeforeTerms, BeforeNodes, BeforeLogs, BeforeChains, Close}
+use Rattle.cert_text.specs.declared.place.Fixed.TheVariants.{BeforeModel, BeforeTerms, BeforeNodes, BeforeLogs, BeforeChains, Close}
 use Rattle.cert_text.specs.declared.place.Slot.{Slot}
-use Rattle.cert_text.specs.declared.place.Slot.TheVariants.{Text, High, Kind, Layout, Terms, Letter, Nodes, Formula, Logs, Done}
-use Rattle.cert_text.specs.declared.place.Place.{Place}
+use Rattle.cert_text.specs.declared.place.Slot.TheVariants.{Text, Kind, Layout, Terms, Letter, Nodes, Formula, Logs, Done}
 use Rattle.cert_text.specs.declared.place.Part.TheVariants.{Fresh, Digits}
-use Rattle.cert_text.specs.declared.place.Want.TheVariants.{Number}
 use Rattle.cert_text.specs.declared.steps.Act.TheVariants.{Nothing, Maps}
-use Rattle.cert_text.specs.declared.steps.Next.{Next}
 use Rattle.cert_text.specs.Content.{Content}
-use Rattle.cert_text.specs.CertText.{each, hex_text, model_text, number_line, term_text, terms_text, formulas_text, log_text, logs_text, head_text, terms_part, nodes_part, logs_part, cert_text}
-use Rattle.cert_text.specs.Places.{want_of}
+use Rattle.cert_text.specs.CertText.{hex_text, model_text, number_line, term_text, terms_text, formulas_text, log_text, logs_text, head_text, terms_part, nodes_part, logs_part, cert_text}
 use Rattle.cert_text.specs.Steps.{place_of, go, count, less}
-use Rattle.cert_text.specs.Drafts.{Said, nothing, chain_of, content_said}
+use Rattle.cert_text.specs.Drafts.{Said, nothing, chain_of}
 use Rattle.cert_text.specs.Reading.{start, read_from, read_cert_of}
-use Rattle.cert_text.specs.Writing.{write_cert_of}
-use Rattle.certificate_laws.specs.Fits.{Fits, IsShort, IsByte, AllFit, TermFits, LogFits}
+use Rattle.cert_text.specs.Ranges.{IsShort, IsByte, TermFits}
+use Rattle.certificate_laws.specs.Fits.{Fits, AllFit, LogFits}
 use Rattle.certificate_laws.specs.Laws.{CertTextIsRead, WrittenIsRead}
 use Rattle.certificate_laws.proofs.Walks.{State, at, moved, walk, walk_reads, number_walks}
 use Rattle.certificate_laws.proofs.ListWalks.{each_walks, next_said, next_place}
-use Rattle.certificate_laws.proofs.HashWalks.{with_hash, high_at, hash_walks}
+use Rattle.certificate_laws.proofs.Counts.{fits_of}
+use Rattle.certificate_laws.proofs.HashWalks.{high_at, hash_walks}
 use Rattle.certificate_laws.proofs.TermWalks.{behind, letter, term_walks}
-use Rattle.certificate_laws.proofs.LogWalks.{with_logs, open_log, behind_log, log_walks}
+use Rattle.certificate_laws.proofs.LogWalks.{open_log, behind_log, log_walks}
 
 -- what is said before the logs
 abbrev said_at : List ℕ → Model → ℕ → List Term → List ℕ → Said
@@ -162,22 +159,25 @@ text_walks c fits =
     ∙ nodes_walk c.hash c.model c.layout c.terms c.formulas (logs_part c.logs ++ (codes "end" ++ 10 ∷ [])) fits.node_count fits.formulas
     ∙ logs_walk before c.logs (codes "end" ++ 10 ∷ []) fits.log_count fits.logs
 
-pub text_read : CertTextIsRead
-text_read c fits short =
+text_fits : (c : Content) → Fits c → length (cert_text c) ≤ 67108864 → read_cert_of (cert_text c) ≡ Ok c
+text_fits c fits short =
     let test : nat_lt 67108864 (length (cert_text c)) ≡ false = grind (arith, nat_tests) in
     ap (λ (b : Bool). if b then Err (Over 8 67108865) else read_from nothing start Fresh 0 (cert_text c)) test
     ∙ walk_reads (cert_text c) (at nothing start Fresh) (whole c) 0 (text_walks c fits) refl
+
+pub text_read : CertTextIsRead
+text_read c range short = text_fits c (fits_of c range short) short
 
 abbrev the_file : Result (List ℕ) StoredFail → List ℕ
 the_file (Ok x) = x
 the_file (Err x) = []
 
 pub written_read : WrittenIsRead
-written_read c file fits e = by_size (nat_lt 67108864 (length (cert_text c))) refl e
+written_read c file range e = by_size (nat_lt 67108864 (length (cert_text c))) refl e
   where
     by_size : (over : Bool) → nat_lt 67108864 (length (cert_text c)) ≡ over → (if over then Err (Over 8 67108865) else Ok (cert_text c)) ≡ Ok file → read_cert_of file ≡ Ok c
     by_size true is e = absurd (cc e)
     by_size false is e =
         let short : length (cert_text c) ≤ 67108864 = grind (arith, nat_tests) in
         let same : cert_text c ≡ file = ap the_file e in
-        ap read_cert_of (sym same) ∙ text_read c fits short
+        ap read_cert_of (sym same) ∙ text_read c range short

@@ -1,55 +1,18 @@
--- The contents that have a text: those whose numbers are in range.
-use Rattle.std.specs.Prelude.{ℕ, ◌≡◌, ◌<◌, ◌≤◌, ◌^◌, List, [], ◌∷◌, length}
-use Rattle.bv_term.specs.declared.term.Term.{Term}
-use Rattle.bv_term.specs.declared.term.Term.TheVariants.{Constant, Cell, Element, Add, Subtract, Multiply, Divide, Remainder, And, Or, Xor, Not, ShiftLeft, ShiftRight, ShiftSigned, Equal, Less, LessSigned, Select, ZeroExtend, SignExtend, Truncate, Bit}
+-- The contents that have a text that is read: those whose numbers and counts are in range.
+use Rattle.std.specs.Prelude.{◌≡◌, List, [], ◌∷◌, length}
 use Rattle.resolution_log.specs.declared.Chain.{Chain}
 use Rattle.cert_text.specs.Content.{Content}
-
--- a number of 32 bits
-abbrev pub IsShort : ℕ → Type 0
-IsShort n = n ≤ 4294967295
+use Rattle.cert_text.specs.Ranges.{IsByte, IsShort, PairFits, TermFits}
 
 abbrev pub AllFit : {X : Type 0} → (X → Type 0) → List X → Type 0
 AllFit Fit [] = Unit {0}
 AllFit Fit (x ∷ xs) = Fit x × AllFit Fit xs
-
--- numbers of 32 bits, but for a constant's value, which has 128
-abbrev pub TermFits : Term → Type 0
-TermFits (Constant w v) = IsShort w × (v ≤ 340282366920938463463374607431768211455)
-TermFits (Cell i) = IsShort i
-TermFits (Element b n i) = IsShort b × IsShort n × IsShort i.0
-TermFits (Add i j) = IsShort i.0 × IsShort j.0
-TermFits (Subtract i j) = IsShort i.0 × IsShort j.0
-TermFits (Multiply i j) = IsShort i.0 × IsShort j.0
-TermFits (Divide i j) = IsShort i.0 × IsShort j.0
-TermFits (Remainder i j) = IsShort i.0 × IsShort j.0
-TermFits (And i j) = IsShort i.0 × IsShort j.0
-TermFits (Or i j) = IsShort i.0 × IsShort j.0
-TermFits (Xor i j) = IsShort i.0 × IsShort j.0
-TermFits (Not i) = IsShort i.0
-TermFits (ShiftLeft i j) = IsShort i.0 × IsShort j.0
-TermFits (ShiftRight i j) = IsShort i.0 × IsShort j.0
-TermFits (ShiftSigned i j) = IsShort i.0 × IsShort j.0
-TermFits (Equal i j) = IsShort i.0 × IsShort j.0
-TermFits (Less i j) = IsShort i.0 × IsShort j.0
-TermFits (LessSigned i j) = IsShort i.0 × IsShort j.0
-TermFits (Select i j k) = IsShort i.0 × IsShort j.0 × IsShort k.0
-TermFits (ZeroExtend w i) = IsShort w × IsShort i.0
-TermFits (SignExtend w i) = IsShort w × IsShort i.0
-TermFits (Truncate w i) = IsShort w × IsShort i.0
-TermFits (Bit w i) = IsShort w × IsShort i.0
-
-abbrev pub PairFits : ℕ × ℕ → Type 0
-PairFits p = IsShort p.0 × IsShort p.1
 
 abbrev pub ChainFits : Chain → Type 0
 ChainFits c = IsShort c.first × AllFit PairFits c.pairs
 
 abbrev pub LogFits : List Chain → Type 0
 LogFits cs = IsShort (length cs) × AllFit ChainFits cs
-
-abbrev pub IsByte : ℕ → Type 0
-IsByte b = b < 256
 
 pub record Fits (c : Content) : Type 0 where
   pub size : length c.hash ≡ 32

@@ -1,7 +1,7 @@
 //! Laws of certificates' text, each as the contract of a function that does nothing.
 #![tactic(auto)]
 
-ghost use Rattle.certificate_laws.specs.Laws.{CertTextIsRead, WrittenIsRead, RefusedForGood, OverIsNamed};
+ghost use Rattle.certificate_laws.specs.Laws.{CertTextIsRead, WrittenIsRead, ReadIsWritten, RefusedForGood, OverIsNamed};
 
 /// The text of a certificate is read to what it says, where it is not too long.
 pub fn cert_text_is_read()
@@ -13,7 +13,13 @@ pub fn written_is_read()
     ensures { WrittenIsRead }
 {}
 
-/// A refusal by form names a byte with which no certificate's text goes on, or the file's length where its end is too early.
+/// What is read is the text of what it says, byte by byte, and its numbers are in range.
+pub fn read_is_written()
+    ensures { ReadIsWritten }
+{}
+
+/// A refusal by form names the first byte with which no certificate's text goes on, or the file's length where its end is too early:
+/// some certificate's text begins with the bytes before it.
 pub fn refused_for_good()
     ensures { RefusedForGood }
 {}

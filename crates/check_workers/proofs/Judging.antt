@@ -3,14 +3,11 @@ use Rattle.std.proofs.Common.{subst, ◌≡◌, ℕ, zero, suc, ◌+◌, ◌<◌
 use Rattle.std.proofs.lemmas.Bool.Decides.{nat_tests}
 use Rattle.c_graph.specs.Shape.{Flow}
 use Rattle.c_graph.specs.Runs.{Formulas}
-use Rattle.cert_text.specs.declared.Cert.{Cert}
 use Rattle.resolution_log.specs.declared.Chain.{Chain}
-use Rattle.resolution_log.specs.Chains.{IsRefutation}
-use Rattle.obligations.specs.Stated.{obligation_says}
 use Rattle.cert_check.specs.declared.fails.CheckFail.{CheckFail}
-use Rattle.cert_check.specs.declared.fails.CheckFail.TheVariants.{WrongMap, Count, BadStep, NoEmpty, Over, Memory}
-use Rattle.cert_check.specs.Answers.{AreRefutations, IsMapIn}
-use Rattle.cert_check.specs.Causes.{AreRefutedBefore, IsCheckCause, IsLogCause, IsLogsCause}
+use Rattle.cert_check.specs.Answers.{AreRefutations, Passes}
+use Rattle.cert_check.specs.Causes.{IsLogCause, IsLogsCause}
+use Rattle.cert_check.proofs.Faults.{first_fails}
 use Rattle.work_claims.specs.declared.knowledge.Hand.{Hand}
 use Rattle.work_claims.specs.declared.words.Claimer.{Claimer}
 use Rattle.work_claims.specs.Counts.{times, once_below, least, total_of, least_of}
@@ -109,16 +106,8 @@ module _ (g : Flow) (m : Formulas) (logs : List (List Chain)) where
   all_passed low claimed passed all few n log at = let b = there-below logs n log at in passed n (omega arith) (omega arith) log at
 
   -- the lowest one that was reported fails so, and those before it have passed
-  pub first_fails : (n : ℕ) (fail : CheckFail) → ((i : ℕ) → i < n → IsPassed g m logs i) → IsFailure g m logs (record { number = n; fail = fail }) → IsLogsCause g m logs fail
-  first_fails n fail passed fails = by_cause fail (λ i other below there. passed i below other there) fails.log fails.at fails.cause
-    where
-      by_cause : (e : CheckFail) → AreRefutedBefore g m logs n → (log : List Chain) → slice_get logs n ≡ Some log → IsLogCause g m n log e → IsLogsCause g m logs e
-      by_cause (BadStep k chain) before log at (same, cause) = subst (λ (j : ℕ). IsLogsCause g m logs (BadStep j chain)) (sym same) (before, (log, at, cause))
-      by_cause (NoEmpty k) before log at (same, cause) = subst (λ (j : ℕ). IsLogsCause g m logs (NoEmpty j)) (sym same) (before, (log, at, cause))
-      by_cause (Over size) before log at off = (n, before, (log, at, off))
-      by_cause Memory before log at u = u
-      by_cause (WrongMap fault) before log at never = absurd never
-      by_cause (Count stored wanted) before log at never = absurd never
+  pub lowest_fails : (n : ℕ) (fail : CheckFail) → ((i : ℕ) → i < n → IsPassed g m logs i) → IsFailure g m logs (record { number = n; fail = fail }) → IsLogsCause g m logs fail
+  lowest_fails n fail passed fails = first_fails g m logs n fails.log fail (λ i other below there. passed i below other there) fails.at fails.cause
 
   -- what an end of a worker leaves settled: all has passed but the last number, which is above an answer, or was reported
   pub settled_all : (h : Hand) → HavePassed g m logs h → IsSettled g m logs h
@@ -159,15 +148,15 @@ module _ (g : Flow) (m : Formulas) (logs : List (List Chain)) where
       → low ≡ least_of (λ c. least (hand c).reported) cs → low ≤ least_of (λ c. (hand c).least) cs
       → low < claimed → IsFailure g m logs (record { number = low; fail = fail }) → IsLogsCause g m logs fail
   judged_first low claimed fail cs settled given reports answers there fails =
-      first_fails low fail (λ i below. below_passed low claimed cs settled given reports answers i below (omega arith)) fails
+      lowest_fails low fail (λ i below. below_passed low claimed cs settled given reports answers i below (omega arith)) fails
 
   -- a failure of this number
   pub at_number : (f : Failure) (n : ℕ) → f.number ≡ n → IsFailure g m logs f → IsFailure g m logs (record { number = n; fail = f.fail })
   at_number f n same fails = subst (λ (k : ℕ). IsFailure g m logs (record { number = k; fail = f.fail })) same fails
 
-  -- the log that refutes an obligation is the only one of its number
-  pub passed_at : (n : ℕ) (l : List Chain) → slice_get logs n ≡ Some l → IsRefutation (obligation_says g m n) l → IsPassed g m logs n
-  passed_at n l at refutes log there = subst (λ (x : List Chain). IsRefutation (obligation_says g m n) x) (ap (λ (o : Option (List Chain)). or_this o l) (sym at ∙ there)) refutes
+  -- the log by which an obligation passes is the only one of its number
+  pub passed_at : (n : ℕ) (l : List Chain) → slice_get logs n ≡ Some l → Passes g m n l → IsPassed g m logs n
+  passed_at n l at passes log there = subst (λ (x : List Chain). Passes g m n x) (ap (λ (o : Option (List Chain)). or_this o l) (sym at ∙ there)) passes
 
   pub fails_at : (n : ℕ) (l : List Chain) (fail : CheckFail) → slice_get logs n ≡ Some l → IsLogCause g m n l fail → IsFailure g m logs (record { number = n; fail = fail })
   fails_at n l fail at cause = record { log = l; at = at; cause = cause }
@@ -193,12 +182,3 @@ module _ (g : Flow) (m : Formulas) (logs : List (List Chain)) where
       All-cons (CanWork g m logs s) c cs
       (record { map = map; all = all; total = total; of = All-head (IsOf s) c cs of; begun = All-head (λ c. hand c ≡ fresh (terms s).total 1) c cs begun })
       (all_ready s cs map all total (All-tail (IsOf s) c cs of) (All-tail (λ c. hand c ≡ fresh (terms s).total 1) c cs begun))
-
--- what is said of logs over a map that fits
-pub logs_cause : (g : Flow) (c : Cert) (m : Formulas) → IsMapIn g c m → IsMapOf g m → length c.logs.items ≡ count_of g → (e : CheckFail) → IsLogsCause g m c.logs.items e → IsCheckCause g c e
-logs_cause g c m stored is count (WrongMap fault) h = absurd h
-logs_cause g c m stored is count (Count a b) h = absurd h
-logs_cause g c m stored is count (BadStep n k) h = (m, stored, is, (count, h))
-logs_cause g c m stored is count (NoEmpty n) h = (m, stored, is, (count, h))
-logs_cause g c m stored is count (Over size) h = (m, stored, is, (count, h))
-logs_cause g c m stored is count Memory h = h

@@ -3,10 +3,8 @@ use Rattle.std.specs.Prelude.{ℕ, ◌≡◌, ◌<◌, ◌⊎◌, List, length, 
 use Rattle.c_graph.specs.Shape.{Flow}
 use Rattle.c_graph.specs.Runs.{Formulas, IsMapOf}
 use Rattle.resolution_log.specs.declared.Chain.{Chain}
-use Rattle.resolution_log.specs.Chains.{IsRefutation}
 use Rattle.obligations.specs.Questions.{count_of}
-use Rattle.obligations.specs.Stated.{obligation_says}
-use Rattle.cert_check.specs.Answers.{AreRefutations}
+use Rattle.cert_check.specs.Answers.{AreRefutations, Passes}
 use Rattle.cert_check.specs.Causes.{IsLogCause, IsLogsCause}
 use Rattle.work_claims.specs.declared.knowledge.Hand.{Hand}
 use Rattle.work_claims.specs.declared.words.Claimer.{Claimer}
@@ -19,9 +17,9 @@ use Rattle.check_workers.specs.declared.worker.Worked.{Worked}
 use Rattle.check_workers.specs.declared.verdict.Verdict.{Verdict}
 use Rattle.check_workers.specs.declared.verdict.Verdict.TheVariants.{Passed, Failed, Open}
 
--- the log of an obligation refutes it
+-- an obligation passes by the log of its number
 abbrev pub IsPassed : Flow → Formulas → List (List Chain) → ℕ → Type 0
-IsPassed g m logs n = (log : List Chain) → slice_get logs n ≡ Some log → IsRefutation (obligation_says g m n) log
+IsPassed g m logs n = (log : List Chain) → slice_get logs n ≡ Some log → Passes g m n log
 
 -- all that a worker was given has passed
 abbrev pub HavePassed : Flow → Formulas → List (List Chain) → Hand → Type 0

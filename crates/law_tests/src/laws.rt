@@ -235,6 +235,7 @@ fn logs_of_steps() {
 fn certificates_as_text() {
     certificate_laws::cert_text_is_read();
     certificate_laws::written_is_read();
+    certificate_laws::read_is_written();
     certificate_laws::refused_for_good();
     certificate_laws::over_is_named();
 }
@@ -264,6 +265,7 @@ fn maps_and_obligations() {
     cert_check_laws::accepted_is_inductive();
     cert_check_laws::accepted_is_safe();
     cert_check_laws::accepted_is_not_refused();
+    cert_check_laws::check_is_unique();
 }
 
 #[test]
@@ -364,6 +366,9 @@ fn formulas_along_paths() {
 
 #[test]
 fn answers_to_requests() {
+    cert_verdicts::judged_is_unique();
+    cert_verdicts::certificate_is_accepted();
+    source_verdicts::written_is_accepted();
     request_answers::accepted_is_certified();
     request_answers::safe_is_proved();
     request_answers::zero_is_certified();

@@ -1,3 +1,4 @@
+pub mod Accepting
 pub mod Replays
 pub mod Writing
 pub mod Spending

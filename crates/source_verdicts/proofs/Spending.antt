@@ -1,5 +1,7 @@
 -- Budgets that were spent, and limits that were passed, on a question of an unwinding or on an obligation of a map.
-use Rattle.std.proofs.Common.{inr, refl, ℕ, List, ◌<◌}
+use Rattle.std.proofs.Common.{inr, refl, ℕ, List}
+use Rattle.prop.specs.declared.BlastFail.TheVariants.{Over as PastLiterals}
+use Rattle.bit_gates.specs.Cut.{IsCutOff}
 use Rattle.lv_base.specs.declared.kind.Model.{Model}
 use Rattle.c_typed.specs.Tree.{Program}
 use Rattle.c_graph.specs.Shape.{Flow}
@@ -23,9 +25,8 @@ module _ (p : Program) (g : Flow) (source : List ℕ) (model : Model) (units lea
   pub question_spent : (u : Unwound) (log : List Chain) → Legal g u → IsAsked g units u (λ clauses. IsSpent clauses learn log) → IsVerified p g source model units learn (OutOfLearn learn)
   question_spent u log legal asked = (refl, inr (log, of_question u legal asked))
 
-  pub question_long : (u : Unwound) (n : ℕ) → Legal g u → IsAsked g units u (λ clauses. 67108864 < n) → IsVerified p g source model units learn (Over 6 n)
-  question_long u n legal asked =
-      of_literals refl (asked.why, of_question u legal (record { incomplete = asked.incomplete; more = asked.more; clauses = asked.clauses; asked = asked.asked; why = tt }))
+  pub question_long : (u : Unwound) (n : ℕ) → Legal g u → IsAsked g units u (λ clauses. IsCutOff clauses (PastLiterals n)) → IsVerified p g source model units learn (Over 6 n)
+  question_long u n legal asked = of_literals refl (of_question u legal asked)
 
   pub question_heavy : (u : Unwound) (log : List Chain) → Legal g u → IsAsked g units u (λ clauses. IsHeavy clauses learn 134217728 log) → IsVerified p g source model units learn (Over 7 134217728)
   question_heavy u log legal asked = of_pairs refl refl (log, of_question u legal asked)
@@ -36,7 +37,7 @@ module _ (p : Program) (g : Flow) (source : List ℕ) (model : Model) (units lea
   obligation_spent m number log is lowest spent = (refl, inr (log, of_obligation m number is lowest spent))
 
   pub obligation_long : (m : Formulas) (n : ℕ) → IsMapOf g m → IsProveCause g m learn (TooLong n) → IsVerified p g source model units learn (Over 6 n)
-  obligation_long m n is (number, lowest, long) = of_literals refl (long, of_obligation m number is lowest tt)
+  obligation_long m n is (number, lowest, long) = of_literals refl (of_obligation m number is lowest long)
 
   pub obligation_heavy : (m : Formulas) (log : List Chain) → IsMapOf g m → IsProveCause g m learn (TooHeavy log) → IsVerified p g source model units learn (Over 7 134217728)
   obligation_heavy m log is (number, lowest, heavy) = of_pairs refl refl (log, of_obligation m number is lowest heavy)

@@ -13,6 +13,8 @@ use Rattle.c_typed.specs.Run.{run}
 use Rattle.c_graph.specs.Shape.{Flow}
 use Rattle.c_graph.specs.Runs.{Formulas, IsMapOf}
 use Rattle.prop.specs.declared.Lit.{Lit}
+use Rattle.prop.specs.declared.BlastFail.TheVariants.{Over as PastLiterals}
+use Rattle.bit_gates.specs.Cut.{IsCutOff}
 use Rattle.resolution_log.specs.declared.Chain.{Chain}
 use Rattle.clause_learning.specs.Solve.{IsHeavy, IsSpent}
 use Rattle.cover_engine.specs.Unwindings.{Unwound, is_complete}
@@ -24,17 +26,19 @@ use Rattle.stored_text.specs.declared.StoredFail.TheVariants as stored
 use Rattle.stored_text.specs.Writing.{write_run_of}
 use Rattle.cert_text.specs.declared.Cert.{Cert}
 use Rattle.cert_text.specs.Content.{content_of}
+use Rattle.cert_text.specs.Reading.{read_cert_of}
 use Rattle.cert_text.specs.Writing.{write_cert_of}
-use Rattle.cert_build.specs.Proofs.{HasModel, IsLowest}
+use Rattle.cert_build.specs.Proofs.{IsLowest}
 use Rattle.cert_verdicts.specs.Judged.{IsCertificate}
 use Rattle.source_verdicts.specs.declared.replaying.Met.{Met}
 use Rattle.verdicts.specs.declared.verdict.Verdict.{Verdict}
-use Rattle.verdicts.specs.declared.verdict.Verdict.TheVariants.{Safe, Unsafe, OutOfUnits, OutOfLearn, Unreplayed, Unproved, Accepted, Rejected, Faulty, Over, ReadFault, NoMemory}
+use Rattle.verdicts.specs.declared.verdict.Verdict.TheVariants.{Safe, Unsafe, OutOfUnits, OutOfLearn, Unreplayed, Accepted, Rejected, Faulty, Over, ReadFault, NoMemory}
 
--- the text is that of a certificate of this source, which is accepted on this graph
+-- the text is that of a certificate of this source, which is accepted on this graph, and is read back to it
 pub record IsProved (g : Flow) (source : List ℕ) (model : Model) (text : List ℕ) : Type 0 where
   pub cert : Cert
   pub written : write_cert_of (content_of cert) ≡ Ok text
+  pub read : read_cert_of text ≡ Ok (content_of cert)
   pub is : IsCertificate g source model cert
 
 -- these values, all of them being drawn, lead the program to this error
@@ -76,9 +80,9 @@ IsOutOfLearn g units learn = (log : List Chain) × IsMet g units learn (λ claus
 abbrev pub IsTooHeavy : Flow → ℕ → ℕ → Type 0
 IsTooHeavy g units learn = (log : List Chain) × IsMet g units learn (λ clauses. IsHeavy clauses learn 134217728 log)
 
--- The clauses have more literals than are allowed.
+-- The clauses are cut off by the limit on literals, and so many are those up to the first clause that passes it.
 abbrev pub IsTooLong : Flow → ℕ → ℕ → ℕ → Type 0
-IsTooLong g units learn count = (67108864 < count) × (IsMet g units learn (λ clauses. Unit {0}))
+IsTooLong g units learn count = IsMet g units learn (λ clauses. IsCutOff clauses (PastLiterals count))
 
 -- Which limit was passed: on the literals of a question or obligation, on the pairs of its log, on the bytes of a certificate
 -- that is accepted, or on the values that lead to an error.
@@ -103,7 +107,6 @@ IsVerified p g source model units learn (Unsafe kind place values text) = Meets 
 IsVerified p g source model units learn (OutOfUnits n) = (n ≡ units) × ((units ≡ 0) ⊎ IsOutOfUnits g units)
 IsVerified p g source model units learn (OutOfLearn n) = (n ≡ learn) × ((learn ≡ 0) ⊎ IsOutOfLearn g units learn)
 IsVerified p g source model units learn Unreplayed = (values : List ℤ) × IsAstray p values
-IsVerified p g source model units learn (Unproved n) = (m : Formulas) × IsMapOf g m × HasModel g m n
 IsVerified p g source model units learn (Over number count) = IsLimit p g source model units learn number count
 IsVerified p g source model units learn NoMemory = Unit {0}
 IsVerified p g source model units learn Accepted = ⊥

@@ -3,8 +3,10 @@
 #![tactic(auto)]
 
 mod certifying;
+mod laws;
 mod replaying;
 mod unwritten;
 mod verifying;
 
+pub use laws::written_is_accepted;
 pub use verifying::{Budget, verify};

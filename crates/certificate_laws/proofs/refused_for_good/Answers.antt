@@ -1,4 +1,4 @@
-use Rattle.certificate_laws.proofs.Refusals.{refused_for_good}
+use Rattle.certificate_laws.proofs.ReadBack.{refused_for_good}
 use Rattle.certificate_laws.proofs.refused_for_good.Goals as goal
 
 pub returns : goal.returns

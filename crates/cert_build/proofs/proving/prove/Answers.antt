@@ -14,5 +14,5 @@ returns-in_err-log-clause-cause c =
 pub loop-number-preserved : goal.loop-number-preserved
 loop-number-preserved c =
     proofs_more c.args.graph.now c.args.map.now c.args.learn c.loop-number.number c.loop-number.logs.items c.push.new.self.items c.in-Unsat.log c.loop-number.invariant
-    (subst (IsAnswer (obligation_says c.args.graph.now c.args.map.now c.loop-number.number) c.args.learn) c.in-Unsat.is c.in_ok-log.ensures.answer)
+    (c.in_ok-log.ensures.within, subst (IsAnswer (obligation_says c.args.graph.now c.args.map.now c.loop-number.number) c.args.learn) c.in-Unsat.is c.in_ok-log.ensures.answer)
     (search rules)

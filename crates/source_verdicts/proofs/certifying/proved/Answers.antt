@@ -26,3 +26,8 @@ pub returns-in-Err-OverLog : goal.returns-in-Err-OverLog
 returns-in-Err-OverLog c = λ p units.
     obligation_heavy p c.args.graph.now c.args.source.now c.args.model units c.args.learn c.args.map.now c.in-Err-OverLog._log c.requires.map
     (subst (λ (x : QueryFail). IsProveCause c.args.graph.now c.args.map.now c.args.learn x) c.in-Err-OverLog.field-0-is c.in-Err-OverLog.ensures.cause)
+
+pub unreachable-requires : goal.unreachable-requires
+unreachable-requires c =
+    let fails = subst (λ (x : Proved). IsProved c.args.graph.now c.args.map.now c.args.learn x) c.in-Ok-Fails.field-0-is c.in-Ok-Fails.ensures.proved in
+    c.requires.refuted c.in-Ok-Fails._number fails.0.there fails.1.0 fails.1.1

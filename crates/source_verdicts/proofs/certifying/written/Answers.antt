@@ -1,5 +1,6 @@
 use Rattle.std.proofs.Common.{◌∙◌, sym, ap, ℕ, List}
 use Rattle.std.specs.Prelude.{Ok}
+use Rattle.cert_text.specs.Content.{content_of}
 use Rattle.cert_verdicts.specs.Judged.{IsCertificate}
 use Rattle.source_verdicts.proofs.Writing.{cert_unwritten}
 use Rattle.source_verdicts.proofs.certifying.written.Goals as goal
@@ -7,7 +8,8 @@ use Rattle.source_verdicts.proofs.certifying.written.Goals as goal
 pub returns-in-Ok : goal.returns-in-Ok
 returns-in-Ok c = λ p units learn. record {
   cert = c.args.cert.now;
-  written = c.in-Ok.ensures ∙ ap (λ (x : List ℕ). Ok x) (sym c.new.ensures);
+  written = c.in-Ok.ensures.text ∙ ap (λ (x : List ℕ). Ok x) (sym c.new.ensures);
+  read = c.written_is_read.ensures (content_of c.args.cert.now) c.new.result c.in-Ok.ensures.numbers (c.in-Ok.ensures.text ∙ ap (λ (x : List ℕ). Ok x) (sym c.new.ensures));
   is = record {
     hash = c.requires.hash;
     under = c.requires.model;
@@ -24,4 +26,4 @@ returns-in-Err c = λ p units learn.
       accepted = c.requires.accepted;
       safe = λ draws v kind at after runs is. c.accepted_is_safe.ensures c.args.graph.now c.args.cert.now draws v kind at after c.entry-entry.ensures.flow c.requires.accepted runs is;
     } in
-    cert_unwritten p c.args.graph.now c.args._source.now c.args._model units learn c.args.cert.now is c.in-Err.fail c.unwritten.result c.unwritten.ensures c.in-Err.ensures
+    cert_unwritten p c.args.graph.now c.args._source.now c.args._model units learn c.args.cert.now is c.in-Err.fail c.unwritten.result c.unwritten.ensures c.in-Err.ensures.text
