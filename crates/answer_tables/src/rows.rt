@@ -11,6 +11,8 @@ pub enum Wanted {
     Nothing,
     Cert,
     Values(Vec<i128>),
+    /// One value, which has all bits of a number.
+    Bits(u64),
     Limit(u64, u64),
 }
 
@@ -22,11 +24,20 @@ impl Wanted {
             (Wanted::Cert, Kept::Safe(_)) => true,
             (Wanted::Values(wanted), Kept::Unsafe(values)) => wanted.as_slice()
                 == values.as_slice(),
+            (Wanted::Bits(number), Kept::Unsafe(values)) => has_bits(values.as_slice(), *number),
             (Wanted::Limit(number, count), Kept::Limited(limit, passed)) => {
                 *number == *limit as u64 && *count == *passed
             }
             _ => false,
         }
+    }
+}
+
+// Whether this is one value, with all bits of the number.
+fn has_bits(values: &[i128], number: u64) -> bool {
+    match values {
+        [value] => *value & number as i128 == number as i128,
+        _ => false,
     }
 }
 
@@ -67,6 +78,7 @@ fn kept_of(alloc: Global, column: &str) -> Result<Wanted, Flaw> {
     match column.split_once(" ") {
         Some(("values", values)) => Ok(Wanted::Values(list_of(alloc, values.as_bytes())?)),
         Some(("limit", limit)) => limit_of(limit),
+        Some(("bits", number)) => bits_of(number),
         _ => Err(Flaw::Form),
     }
 }
@@ -77,6 +89,13 @@ fn limit_of(words: &str) -> Result<Wanted, Flaw> {
     let count = words.count()?;
     words.end()?;
     Ok(Wanted::Limit(number, count))
+}
+
+fn bits_of(number: &str) -> Result<Wanted, Flaw> {
+    match number.parse::<u64>() {
+        Ok(number) => Ok(Wanted::Bits(number)),
+        Err(_) => Err(Flaw::Form),
+    }
 }
 
 fn words_of(alloc: Global, column: &str) -> Result<Vec<Vec<u8>>, Flaw> {

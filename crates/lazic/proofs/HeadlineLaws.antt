@@ -3,21 +3,24 @@ use Rattle.std.proofs.Common.{◌≡◌, ◌≢◌, ◌⊎◌, ◌∙◌, inl, i
 use Rattle.std.specs.Prelude.{◌||◌}
 use Rattle.lv_outside.specs.Bytes.{GrewByFront}
 use Rattle.lv_outside.specs.Counts.{Rose}
+use Rattle.lv_base.specs.declared.kind.Model.{Model}
 use Rattle.lv_base.specs.declared.place.Place.{Place}
 use Rattle.lv_base.specs.declared.fault.ErrorKind.{ErrorKind}
-use Rattle.request_words.specs.Asked.{Asked, Check, Verify}
+use Rattle.task_gen.specs.Generated.{generated}
+use Rattle.request_words.specs.Asked.{Asked, Check, Verify, Generate, plain_learn, plain_model, plain_units}
 use Rattle.verdicts.specs.Lines.{status_of, text_of}
 use Rattle.verdicts.specs.declared.verdict.Verdict.{Verdict}
 use Rattle.verdicts.specs.declared.verdict.Verdict.TheVariants as verdict
-use Rattle.request_answers.specs.Answers.{IsAnswer}
+use Rattle.request_answers.specs.Answers.{IsAnswer, IsKnown, IsVerifyAnswer}
+use Rattle.request_answers.specs.Printed.{text_for}
 use Rattle.request_answers.specs.Stored.{IsOther, IsStored, file_for}
 use Rattle.request_answers.proofs.Checks.{check_not_unsafe}
 use Rattle.request_answers.proofs.Zero.{zero_certified}
-use Rattle.request_answers.proofs.Verifications.{unsafe_reached}
+use Rattle.request_answers.proofs.Verifications.{unsafe_reached, verify_more}
 use Rattle.lazic.specs.declared.report.Kept.{Kept}
 use Rattle.lazic.specs.declared.report.Kept.TheVariants as kept
 use Rattle.lazic.specs.Told.{IsTold, ToldOf, kept_in, kept_when}
-use Rattle.lazic.specs.Headline.{Headline, IsReachedFor}
+use Rattle.lazic.specs.Headline.{Headline, IsReachedFor, IsReachedIn}
 
 zero_told : (status : ℕ) (v : Verdict) → (status ≡ 14) ⊎ ((status ≡ 15) ⊎ (status ≡ status_of v)) → status ≡ 0 → status_of v ≡ 0
 zero_told status v (inl e) z = absurd (let both : 14 ≡ 0 = sym e ∙ z in cc)
@@ -35,7 +38,6 @@ kept_verdict (verdict.Over number count) values e = absurd (cc)
 kept_verdict (verdict.OutOfUnits n) values e = absurd (cc)
 kept_verdict (verdict.OutOfLearn n) values e = absurd (cc)
 kept_verdict verdict.Unreplayed values e = absurd (cc)
-kept_verdict (verdict.Unproved n) values e = absurd (cc)
 kept_verdict verdict.Accepted values e = absurd (cc)
 kept_verdict (verdict.Rejected r) values e = absurd (cc)
 kept_verdict (verdict.Faulty fault place) values e = absurd (cc)
@@ -46,12 +48,17 @@ kept_by : (b : Bool) (v : Verdict) (values : List ℤ) → (if b then kept.Nothi
 kept_by true v values e = absurd (cc)
 kept_by false v values e = kept_verdict v values e
 
+reached_in : (before behind : ℕ) (model : Model) (units learn : ℕ) (source : List ℕ) (v : Verdict) (values : List ℤ) → IsVerifyAnswer (Rose before behind) model units learn source v → IsUnsafe v values → IsReachedIn model source values
+reached_in before behind model units learn source v values h u =
+    let r = unsafe_reached before behind model units learn source u.0 u.1 values u.2 (subst (λ (x : Verdict). IsVerifyAnswer (Rose before behind) model units learn source x) u.3 h) in
+    (r.0, r.1, (u.0, (r.2.0, r.2.2)))
+
 reached : (before behind : ℕ) (asked : Asked) (file : List ℕ → List ℕ) (v : Verdict) (values : List ℤ) → IsAnswer (Rose before behind) asked file v → IsUnsafe v values → IsReachedFor asked file values
 reached before behind (Check c) file v values h u =
     check_not_unsafe (Rose before behind) c.model (file c.source) (file c.cert) u.0 u.1 values u.2 (subst (λ (x : Verdict). IsAnswer (Rose before behind) (Check c) file x) u.3 h)
-reached before behind (Verify w) file v values h u =
-    let r = unsafe_reached before behind w.model w.units w.learn (file w.source) u.0 u.1 values u.2 (subst (λ (x : Verdict). IsAnswer (Rose before behind) (Verify w) file x) u.3 h) in
-    (r.0, r.1, (u.0, (r.2.0, r.2.2)))
+reached before behind (Verify w) file v values h u = reached_in before behind w.model w.units w.learn (file w.source) v values h u
+reached before behind (Generate seed) file v values h u =
+    reached_in before behind plain_model plain_units plain_learn (generated seed) v values (verify_more (Rose before behind) plain_model plain_units plain_learn (generated seed) v h) u
 
 pub told_means :
     (files_told text_told write_rose put_rose : Type 0) (before behind : ℕ) (asked : Asked) (old new : List ℕ → List ℕ) (text_before text_after : List ℕ) (status : ℕ) (k : Kept)
@@ -64,10 +71,10 @@ told_means files_told text_told write_rose put_rose before behind asked old new 
 -- what is told of a verdict, where the status that is reported is the one that was told
 pub told_as :
     (files_told text_told read_rose write_rose put_rose : Type 0) (asked : Asked) (old new : List ℕ → List ℕ) (text_before text_after : List ℕ) (status told : ℕ) (k : Kept) (v : Verdict)
-    → status ≡ told → k ≡ kept_when told v → (files_told → IsAnswer read_rose asked old v)
+    → status ≡ told → k ≡ kept_when told v → (IsKnown files_told asked → IsAnswer read_rose asked old v)
     → (v ≡ verdict.ReadFault → read_rose) → (told ≡ 14) ⊎ ((told ≡ 15) ⊎ (told ≡ status_of v)) → (told ≡ 14 → write_rose ⊎ put_rose)
-    → (text_told → told ≢ 14 → text_after ≡ text_before ++ (if told == 15 then text_of verdict.NoMemory else text_of v))
-    → (text_told → told ≡ 14 → (text_after ≡ text_before) ⊎ (GrewByFront text_before text_after (text_of v) ⊎ GrewByFront text_before text_after (text_of verdict.NoMemory)))
+    → (text_told → told ≢ 14 → text_after ≡ text_before ++ (if told == 15 then text_of verdict.NoMemory else text_for asked v))
+    → (text_told → told ≡ 14 → (text_after ≡ text_before) ⊎ (GrewByFront text_before text_after (text_for asked v) ⊎ GrewByFront text_before text_after (text_of verdict.NoMemory)))
     → (files_told → told ≢ 14 → told ≢ 15 → IsStored new (file_for asked v)) → ((n : List ℕ) → IsOther (file_for asked v) n → new n ≡ old n)
     → ToldOf files_told text_told read_rose write_rose put_rose old new text_before text_after status k asked
 told_as files_told text_told read_rose write_rose put_rose asked old new text_before text_after status told k v e kept answer fault is rose printed cut stored others =

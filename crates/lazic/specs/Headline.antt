@@ -1,21 +1,29 @@
 -- What the answers to checks and verifications mean for the source that is asked about.
 use Rattle.std.specs.Prelude.{ℕ, ℤ, ◌≡◌, List, Ok}
+use Rattle.lv_base.specs.declared.kind.Model.{Model}
 use Rattle.lv_base.specs.declared.fault.ErrorKind.{ErrorKind}
 use Rattle.c_tree.specs.Tree.{Items}
 use Rattle.c_meaning.specs.Program.{Reaches}
 use Rattle.source_reading.specs.Reading.{source_read}
-use Rattle.request_words.specs.Asked.{Asked, Check, Verify}
+use Rattle.task_gen.specs.Generated.{generated}
+use Rattle.request_words.specs.Asked.{Asked, Check, Verify, Generate, plain_model}
+use Rattle.request_answers.specs.Answers.{IsKnown}
 use Rattle.request_answers.specs.Laws.{IsCertifiedFor}
 use Rattle.lazic.specs.declared.report.Kept.{Kept}
 use Rattle.lazic.specs.declared.report.Kept.TheVariants.{Unsafe}
 
--- these values lead the source to an error, all of them being drawn
+-- these values lead a source to an error, all of them being drawn
+abbrev pub IsReachedIn : Model → List ℕ → List ℤ → Type 0
+IsReachedIn model source values = (tree : Items) × (source_read model source ≡ Ok tree) × ((kind : ErrorKind) × ((at : ℕ) × Reaches tree model values kind at))
+
+-- they lead the source that is asked about to one
 abbrev pub IsReachedFor : Asked → (List ℕ → List ℕ) → List ℤ → Type 0
 IsReachedFor (Check c) file values = ⊥
-IsReachedFor (Verify w) file values = (tree : Items) × (source_read w.model (file w.source) ≡ Ok tree) × ((kind : ErrorKind) × ((at : ℕ) × Reaches tree w.model values kind at))
+IsReachedFor (Verify w) file values = IsReachedIn w.model (file w.source) values
+IsReachedFor (Generate seed) file values = IsReachedIn plain_model (generated seed) values
 
 -- The status 0, that of SAFE and ACCEPTED, comes only where no run of a graph that was made of the source meets an error, so that no run of
 -- the source does where the graph stands for it; values are kept only where they lead the source to an error.
 pub record Headline (files_told : Type 0) (asked : Asked) (file : List ℕ → List ℕ) (status : ℕ) (kept : Kept) : Type 0 where
-  pub safe : files_told → status ≡ 0 → IsCertifiedFor asked file
-  pub unsafe : files_told → (values : List ℤ) → kept ≡ Unsafe values → IsReachedFor asked file values
+  pub safe : IsKnown files_told asked → status ≡ 0 → IsCertifiedFor asked file
+  pub unsafe : IsKnown files_told asked → (values : List ℤ) → kept ≡ Unsafe values → IsReachedFor asked file values

@@ -5,7 +5,8 @@ use Rattle.request_words.specs.Asked.{Asked, asked_of}
 use Rattle.verdicts.specs.Lines.{status_of, text_of}
 use Rattle.verdicts.specs.declared.verdict.Verdict.{Verdict}
 use Rattle.verdicts.specs.declared.verdict.Verdict.TheVariants as verdict
-use Rattle.request_answers.specs.Answers.{IsAnswer}
+use Rattle.request_answers.specs.Answers.{IsAnswer, IsKnown}
+use Rattle.request_answers.specs.Printed.{text_for}
 use Rattle.request_answers.specs.Stored.{IsOther, IsStored, file_for}
 use Rattle.lazic.specs.Words.{Wanted, request_of}
 use Rattle.lazic.specs.declared.report.Kept.{Kept}
@@ -19,7 +20,6 @@ kept_in (verdict.Over number count) = Limited number count
 kept_in (verdict.OutOfUnits units) = Nothing
 kept_in (verdict.OutOfLearn learn) = Nothing
 kept_in verdict.Unreplayed = Nothing
-kept_in (verdict.Unproved number) = Nothing
 kept_in verdict.Accepted = Nothing
 kept_in (verdict.Rejected rejection) = Nothing
 kept_in (verdict.Faulty fault place) = Nothing
@@ -32,13 +32,13 @@ kept_when status v = if (status == 14) || (status == 15) then Nothing else kept_
 
 -- The status, what is kept, the text and the files go with this verdict on what is asked.
 pub record IsTold (files_told text_told read_rose write_rose put_rose : Type 0) (asked : Asked) (before after : List ℕ → List ℕ) (text_before text_after : List ℕ) (status : ℕ) (kept : Kept) (v : Verdict) : Type 0 where
-  pub answer : files_told → IsAnswer read_rose asked before v
+  pub answer : IsKnown files_told asked → IsAnswer read_rose asked before v
   pub told : (status ≡ 14) ⊎ ((status ≡ 15) ⊎ (status ≡ status_of v))
   pub keeps : kept ≡ kept_when status v
   pub read_fault : v ≡ verdict.ReadFault → read_rose
   pub fault : status ≡ 14 → write_rose ⊎ put_rose
-  pub printed : text_told → status ≢ 14 → text_after ≡ text_before ++ (if status == 15 then text_of verdict.NoMemory else text_of v)
-  pub cut : text_told → status ≡ 14 → (text_after ≡ text_before) ⊎ (GrewByFront text_before text_after (text_of v) ⊎ GrewByFront text_before text_after (text_of verdict.NoMemory))
+  pub printed : text_told → status ≢ 14 → text_after ≡ text_before ++ (if status == 15 then text_of verdict.NoMemory else text_for asked v)
+  pub cut : text_told → status ≡ 14 → (text_after ≡ text_before) ⊎ (GrewByFront text_before text_after (text_for asked v) ⊎ GrewByFront text_before text_after (text_of verdict.NoMemory))
   pub stored : files_told → status ≢ 14 → status ≢ 15 → IsStored after (file_for asked v)
   pub others : (n : List ℕ) → IsOther (file_for asked v) n → after n ≡ before n
 

@@ -1,5 +1,6 @@
 ghost use Rattle.std.specs.Prelude.{◌≡◌, ◌≢◌, ◌⊎◌, ◌++◌, ℕ, List, map, pos, ◌≤ℤ◌, IsNone, Some};
 ghost use Rattle.request_words.specs.Asked.{Asked, asked_of};
+ghost use Rattle.request_words.specs.Values.{SeedsAreRead};
 ghost use Rattle.lazic.specs.Words.{request_of, TurnsAreRead};
 ghost use Rattle.lv_outside.specs.Counts.{Rose};
 ghost use Rattle.lv_outside.specs.Bytes.{GrewByFront};
@@ -16,7 +17,7 @@ use crate::answer::decide;
 use crate::report::{Kept, Report, print};
 use crate::requests::answer_asked;
 use lv_outside::{Folder, Gate, Sink};
-use request_words::{numbers_are_read, request};
+use request_words::{numbers_are_read, request, seeds_are_read};
 use std::alloc::Global;
 use std::thread::Threads;
 
@@ -39,6 +40,7 @@ pub fn run_words<R: Threads + Sync, F: Folder, S: Sink, G: Gate>(
     // verification. Each answer but a fault of the outside and want of memory is that one.
     ensures one_answer { OneAnswer }
     ensures turns { TurnsAreRead }
+    ensures seeds { SeedsAreRead }
     ensures differ { RequestsDiffer }
     ensures means { IsNone (asked_of (map (λ w. w.now) words.now)) → F.tells folder.old → IsFree result.status ⊎ MeansReport (map (λ w. w.now) words.now) (F.file folder.old) result.status result.kept }
     ensures status { IsNone (asked_of (map (λ w. w.now) words.now)) → F.tells folder.old → IsFree result.status ⊎ (result.status ≡ status_of (outcome_of (map (λ w. w.now) words.now) (F.file folder.old))) }
@@ -64,7 +66,8 @@ pub fn run_words<R: Threads + Sync, F: Folder, S: Sink, G: Gate>(
 
     ensures files { IsNone (asked_of (map (λ w. w.now) words.now)) → (n : List ℕ) → F.file folder.new n ≡ F.file folder.old n }
 
-    // What is asked of a certificate or a source has a verdict: the files are as it says, and the text grows by its line.
+    // What is asked of a certificate or a source has a verdict: the files are as it says, and the text grows by its line, and by that of
+    // the seed behind it where the source is a seed's.
     ensures told { (asked : Asked) → asked_of (map (λ w. w.now) words.now) ≡ Some asked → ToldOf (F.tells folder.old) (S.tells out.new) (Rose (F.read_faults folder.old) (F.read_faults folder.new)) (Rose (F.write_faults folder.old) (F.write_faults folder.new)) (Rose (S.faults out.old) (S.faults out.new)) (F.file folder.old) (F.file folder.new) (S.text out.old) (S.text out.new) result.status result.kept asked }
 
     // SAFE and ACCEPTED come only where no run of a graph that was made of the source meets an error, so that none of the source does where
@@ -82,9 +85,11 @@ pub fn run_words<R: Threads + Sync, F: Folder, S: Sink, G: Gate>(
 fn all_words()
     ensures one_answer { OneAnswer }
     ensures turns { TurnsAreRead }
+    ensures seeds { SeedsAreRead }
     ensures differ { RequestsDiffer }
 {
     numbers_are_read();
+    seeds_are_read();
 }
 
 // Answers words that ask for no check and no verification.

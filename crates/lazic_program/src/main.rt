@@ -1,4 +1,4 @@
-//! `lazic` answers its words: `verify SOURCE`, `check SOURCE CERT` and `replay SOURCE RUN`, over the files of the host.
+//! `lazic` answers its words: `verify SOURCE`, `generate SEED`, `check SOURCE CERT` and `replay SOURCE RUN`, over the files of the host.
 #![tactic(auto)]
 
 ghost use Rattle.std.specs.Prelude.{pos, ◌≤ℤ◌};

@@ -3,6 +3,7 @@ use Rattle.std.proofs.Common.{◌≡◌, ◌∙◌, sym, subst, ℕ, List}
 use Rattle.lv_base.specs.declared.kind.Model.{Model}
 use Rattle.verdicts.specs.declared.verdict.Verdict.{Verdict}
 use Rattle.verdicts.specs.declared.verdict.Verdict.TheVariants.{Safe, Unsafe, Accepted}
+use Rattle.source_verdicts.proofs.Accepting.{written_is_accepted}
 use Rattle.request_answers.specs.Answers.{IsVerifyAnswer}
 use Rattle.request_answers.specs.Answers.IsVerifyAnswer.{too_long, refused, verified, read_failed, no_memory}
 use Rattle.request_answers.specs.Laws.{SafeIsProved, UnsafeReaches, IsCertified}
@@ -10,7 +11,7 @@ use Rattle.request_answers.proofs.Refusals.{refusal_is}
 use Rattle.request_answers.proofs.Certified.{certified, secure_by}
 
 -- without a read fault, under any count of faults
-verify_more : (more : Type 0) (model : Model) (units learn : ℕ) (source : List ℕ) (v : Verdict) → IsVerifyAnswer ⊥ model units learn source v → IsVerifyAnswer more model units learn source v
+pub verify_more : (more : Type 0) (model : Model) (units learn : ℕ) (source : List ℕ) (v : Verdict) → IsVerifyAnswer ⊥ model units learn source v → IsVerifyAnswer more model units learn source v
 verify_more more model units learn source v (too_long h is) = too_long h is
 verify_more more model units learn source v (refused h) = refused h
 verify_more more model units learn source v (verified p g replay stands flow is) = verified p g replay stands flow is
@@ -25,7 +26,7 @@ pub safe_proved : SafeIsProved
 safe_proved before behind model units learn source text (too_long h is) = absurd (cc)
 safe_proved before behind model units learn source text (refused r) = absurd (refusal_is model source (Safe text) r)
 safe_proved before behind model units learn source text (verified p g replay stands flow is) =
-    (replay.tree, replay.read, secure_by model source p g replay stands is.is.safe, (p, g, replay.runs, stands, flow, is))
+    (replay.tree, replay.read, secure_by model source p g replay stands is.is.safe, (p, g, replay.runs, stands, flow, is, written_is_accepted g source model text is))
 safe_proved before behind model units learn source text (read_failed h is) = absurd (cc)
 safe_proved before behind model units learn source text (no_memory is) = absurd (cc)
 

@@ -2,10 +2,11 @@
 use Rattle.std.proofs.Common.{◌≡◌, ◌⊎◌, inl, inr, refl, subst, ℕ, List}
 use Rattle.lv_base.specs.declared.kind.Model.{Model}
 use Rattle.lv_outside.specs.Counts.{Rose}
-use Rattle.request_words.specs.Asked.{Check, Verify}
+use Rattle.task_gen.specs.Generated.{generated}
+use Rattle.request_words.specs.Asked.{Check, Verify, Generate, plain_learn, plain_model, plain_units}
 use Rattle.verdicts.specs.Lines.{status_of}
 use Rattle.verdicts.specs.declared.verdict.Verdict.{Verdict}
-use Rattle.verdicts.specs.declared.verdict.Verdict.TheVariants.{Safe, Unsafe, OutOfUnits, OutOfLearn, Unreplayed, Unproved, Accepted, Rejected, Faulty, Over, ReadFault, NoMemory}
+use Rattle.verdicts.specs.declared.verdict.Verdict.TheVariants.{Safe, Unsafe, OutOfUnits, OutOfLearn, Unreplayed, Accepted, Rejected, Faulty, Over, ReadFault, NoMemory}
 use Rattle.request_answers.specs.Answers.{IsCheckAnswer, IsVerifyAnswer}
 use Rattle.request_answers.specs.Laws.{IsCertified, ZeroIsCertified}
 use Rattle.request_answers.proofs.Checks.{check_certified, check_not_safe}
@@ -19,7 +20,6 @@ zero_verdict (Unsafe kind place values text) e = absurd (cc)
 zero_verdict (OutOfUnits n) e = absurd (cc)
 zero_verdict (OutOfLearn n) e = absurd (cc)
 zero_verdict Unreplayed e = absurd (cc)
-zero_verdict (Unproved n) e = absurd (cc)
 zero_verdict (Rejected rejection) e = absurd (cc)
 zero_verdict (Faulty fault place) e = absurd (cc)
 zero_verdict (Over number count) e = absurd (cc)
@@ -37,3 +37,4 @@ verify_zero rose model units learn source v h (inr accepted) = absurd (verify_no
 pub zero_certified : ZeroIsCertified
 zero_certified before behind (Check c) file v h e = check_zero (Rose before behind) c.model (file c.source) (file c.cert) v h (zero_verdict v e)
 zero_certified before behind (Verify w) file v h e = verify_zero (Rose before behind) w.model w.units w.learn (file w.source) v h (zero_verdict v e)
+zero_certified before behind (Generate seed) file v h e = verify_zero ⊥ plain_model plain_units plain_learn (generated seed) v h (zero_verdict v e)

@@ -9,7 +9,8 @@ use Rattle.c_typed.specs.Tree.{Program}
 use Rattle.c_graph.specs.Shape.{Flow, IsFlow}
 use Rattle.source_reading.specs.Reading.{source_read, IsReplay}
 use Rattle.program_graphs.specs.Standing.{StandsFor}
-use Rattle.request_words.specs.Asked.{Asked, Check, Verify}
+use Rattle.task_gen.specs.Generated.{generated}
+use Rattle.request_words.specs.Asked.{Asked, Check, Verify, Generate, plain_learn, plain_model, plain_units}
 use Rattle.verdicts.specs.declared.verdict.Verdict.{Verdict}
 use Rattle.verdicts.specs.declared.verdict.Verdict.TheVariants.{Faulty, Over, ReadFault, NoMemory}
 use Rattle.cert_verdicts.specs.Judged.{IsJudged}
@@ -50,7 +51,14 @@ pub data IsVerifyAnswer (rose : Type 0) (model : Model) (units learn : ℕ) (sou
   read_failed : rose → v ≡ ReadFault → IsVerifyAnswer rose model units learn source v
   no_memory : v ≡ NoMemory → IsVerifyAnswer rose model units learn source v
 
--- the answer to what is asked, where the files are these
+-- the source that is asked about is known: that of a file where the files are told, and that of a seed
+abbrev pub IsKnown : Type 0 → Asked → Type 0
+IsKnown files_told (Check c) = files_told
+IsKnown files_told (Verify w) = files_told
+IsKnown files_told (Generate seed) = Unit {0}
+
+-- the answer to what is asked, where the files are these; the source of a seed is read of none
 abbrev pub IsAnswer : Type 0 → Asked → (List ℕ → List ℕ) → Verdict → Type 0
 IsAnswer rose (Check c) file v = IsCheckAnswer rose c.model (file c.source) (file c.cert) v
 IsAnswer rose (Verify w) file v = IsVerifyAnswer rose w.model w.units w.learn (file w.source) v
+IsAnswer rose (Generate seed) file v = IsVerifyAnswer ⊥ plain_model plain_units plain_learn (generated seed) v

@@ -12,13 +12,15 @@ use Rattle.cert_text.specs.declared.Cert.{Cert}
 use Rattle.cert_text.specs.Content.{content_of}
 use Rattle.cert_text.specs.Reading.{read_cert_of}
 use Rattle.cert_verdicts.specs.Judged.{HasNoErrors, IsCertificate}
+use Rattle.source_verdicts.specs.Laws.{IsAcceptedBack}
 use Rattle.source_verdicts.specs.Verified.{IsProved}
 use Rattle.source_reading.specs.Reading.{source_read, IsReplay, RunsAs}
 use Rattle.program_graphs.specs.Standing.{StandsFor}
 use Rattle.c_typed.specs.Tree.{Program}
 use Rattle.verdicts.specs.declared.verdict.Verdict.{Verdict}
 use Rattle.verdicts.specs.declared.verdict.Verdict.TheVariants.{Safe, Unsafe, Accepted}
-use Rattle.request_words.specs.Asked.{Asked, Check, Verify}
+use Rattle.task_gen.specs.Generated.{generated}
+use Rattle.request_words.specs.Asked.{Asked, Check, Verify, Generate, plain_model}
 use Rattle.verdicts.specs.Lines.{status_of}
 use Rattle.request_answers.specs.Answers.{IsAnswer, IsCheckAnswer, IsVerifyAnswer}
 
@@ -32,12 +34,13 @@ AcceptedIsCertified =
     × ((c : Cert) × (read_cert_of bytes ≡ Ok (content_of c)) × IsCertificate g source model c))
 
 -- A source is called safe only where it is secure, with the text of a certificate that is accepted on a graph that stands for its
--- tree: no run of that graph meets an error.
+-- tree: no run of that graph meets an error, and each check of the text against that graph accepts it, or memory runs out.
 abbrev pub SafeIsProved : Type 0
 SafeIsProved =
     (before behind : ℕ) (model : Model) (units learn : ℕ) (source text : List ℕ) → IsVerifyAnswer (Rose before behind) model units learn source (Safe text)
     → (tree : Items) × (source_read model source ≡ Ok tree) × Secure tree model
-    × ((p : Program) × (g : Flow) × RunsAs p tree model × StandsFor g p × IsFlow g × IsProved g source model text)
+    × ((p : Program) × (g : Flow) × RunsAs p tree model × StandsFor g p × IsFlow g × IsProved g source model text
+    × IsAcceptedBack g source model text)
 
 -- The source has a typed tree that runs as it does, and a graph that stands for the tree, no run of which meets an error: so no run of
 -- the source meets one, whatever the inputs are.
@@ -54,6 +57,7 @@ pub record IsCertified (model : Model) (source : List ℕ) : Type 0 where
 abbrev pub IsCertifiedFor : Asked → (List ℕ → List ℕ) → Type 0
 IsCertifiedFor (Check c) file = IsCertified c.model (file c.source)
 IsCertifiedFor (Verify w) file = IsCertified w.model (file w.source)
+IsCertifiedFor (Generate seed) file = IsCertified plain_model (generated seed)
 
 -- The status 0 is that of SAFE and ACCEPTED alone: it comes only where the source is certified.
 abbrev pub ZeroIsCertified : Type 0

@@ -3,7 +3,8 @@ ghost use Rattle.lv_outside.specs.Bytes.{GrewByFront};
 ghost use Rattle.lv_outside.specs.Counts.{Rose};
 ghost use Rattle.request_words.specs.Views.{asked_by};
 ghost use Rattle.verdicts.specs.Lines.{status_of, text_of};
-ghost use Rattle.request_answers.specs.Answers.{IsAnswer};
+ghost use Rattle.request_answers.specs.Answers.{IsAnswer, IsKnown};
+ghost use Rattle.request_answers.specs.Printed.{text_for};
 ghost use Rattle.request_answers.specs.Stored.{IsOther, IsStored, file_for};
 
 use crate::deciding::decide;
@@ -22,7 +23,8 @@ pub struct Told {
     pub verdict: Verdict,
 }
 
-/// Answers what is asked, over these files: what is to be stored of the answer is written, and then its line is printed.
+/// Answers what is asked, over these files: what is to be stored of the answer is written, and then its line is
+/// printed, and that of a seed behind it.
 pub fn answer<R: Threads + Sync, F: Folder, S: Sink, G: Gate>(
     rt: &R,
     alloc: Global,
@@ -31,19 +33,19 @@ pub fn answer<R: Threads + Sync, F: Folder, S: Sink, G: Gate>(
     out: &mut S,
     gate: &G,
 ) -> Told
-    ensures answer { F.tells folder.old → IsAnswer (Rose (F.read_faults folder.old) (F.read_faults folder.new)) (asked_by asked.entry) (F.file folder.old) result.verdict }
+    ensures answer { IsKnown (F.tells folder.old) (asked_by asked.entry) → IsAnswer (Rose (F.read_faults folder.old) (F.read_faults folder.new)) (asked_by asked.entry) (F.file folder.old) result.verdict }
     ensures read_fault { result.verdict ≡ Verdict.ReadFault → Rose (F.read_faults folder.old) (F.read_faults folder.new) }
     ensures status { (result.status ≡ 14) ⊎ ((result.status ≡ 15) ⊎ (result.status ≡ status_of result.verdict)) }
     ensures fault { result.status ≡ 14 → Rose (F.write_faults folder.old) (F.write_faults folder.new) ⊎ Rose (S.faults out.old) (S.faults out.new) }
-    ensures printed { S.tells out.new → result.status ≢ 14 → S.text out.new ≡ S.text out.old ++ (if result.status == 15 then text_of Verdict.NoMemory else text_of result.verdict) }
-    ensures cut { S.tells out.new → result.status ≡ 14 → (S.text out.new ≡ S.text out.old) ⊎ (GrewByFront (S.text out.old) (S.text out.new) (text_of result.verdict) ⊎ GrewByFront (S.text out.old) (S.text out.new) (text_of Verdict.NoMemory)) }
+    ensures printed { S.tells out.new → result.status ≢ 14 → S.text out.new ≡ S.text out.old ++ (if result.status == 15 then text_of Verdict.NoMemory else text_for (asked_by asked.entry) result.verdict) }
+    ensures cut { S.tells out.new → result.status ≡ 14 → (S.text out.new ≡ S.text out.old) ⊎ (GrewByFront (S.text out.old) (S.text out.new) (text_for (asked_by asked.entry) result.verdict) ⊎ GrewByFront (S.text out.old) (S.text out.new) (text_of Verdict.NoMemory)) }
     ensures stored { F.tells folder.old → result.status ≢ 14 → result.status ≢ 15 → IsStored (F.file folder.new) (file_for (asked_by asked.entry) result.verdict) }
     ensures others { (n : List ℕ) → IsOther (file_for (asked_by asked.entry) result.verdict) n → F.file folder.new n ≡ F.file folder.old n }
 {
     let verdict = decide(rt, alloc, folder, asked, gate);
     match store(alloc, folder, asked, &verdict) {
         Ok(()) => {
-            let status = print(alloc, &verdict, out);
+            let status = print(alloc, asked, &verdict, out);
             Told { status, verdict }
         }
         Err(FileFail::Failed) => Told {

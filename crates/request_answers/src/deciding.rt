@@ -3,8 +3,10 @@ ghost use Rattle.lv_outside.specs.Counts.{Rose};
 ghost use Rattle.c_typed.specs.Parts.{tree_of};
 ghost use Rattle.source_reading.specs.Reading.{IsReplay};
 ghost use Rattle.program_graphs.specs.Standing.{StandsFor};
+ghost use Rattle.task_gen.specs.Generated.{generated};
+ghost use Rattle.request_words.specs.Asked.{plain_learn, plain_model, plain_units};
 ghost use Rattle.request_words.specs.Views.{asked_by};
-ghost use Rattle.request_answers.specs.Answers.{IsAnswer, IsCheckAnswer, IsVerifyAnswer};
+ghost use Rattle.request_answers.specs.Answers.{IsAnswer, IsCheckAnswer, IsKnown, IsVerifyAnswer};
 
 use crate::loading::{Loaded, load_source};
 use c_graph::Graph;
@@ -12,10 +14,11 @@ use cert_text::MOST_BYTES;
 use cert_verdicts::judge;
 use lv_base::Model;
 use lv_outside::{FileFail, Folder, Gate, Got};
-use request_words::{Asked, Checking, Verifying};
+use request_words::{Asked, Checking, LEARN, UNITS, Verifying};
 use source_verdicts::{Budget, verify};
 use std::alloc::Global;
 use std::thread::Threads;
+use task_gen::{generate, generated_is_short};
 use verdicts::Verdict;
 
 const MOST_SOURCE: usize = 1_048_576;
@@ -28,7 +31,7 @@ pub(crate) fn decide<R: Threads + Sync, F: Folder, G: Gate>(
     asked: Asked<'_>,
     gate: &G,
 ) -> Verdict
-    ensures answer { F.tells folder.old → IsAnswer (Rose (F.read_faults folder.old) (F.read_faults folder.new)) (asked_by asked.entry) (F.file folder.old) result }
+    ensures answer { IsKnown (F.tells folder.old) (asked_by asked.entry) → IsAnswer (Rose (F.read_faults folder.old) (F.read_faults folder.new)) (asked_by asked.entry) (F.file folder.old) result }
     ensures read_fault { result ≡ Verdict.ReadFault → Rose (F.read_faults folder.old) (F.read_faults folder.new) }
     ensures tells { F.tells folder.old → F.tells folder.new }
     ensures files { (n : List ℕ) → F.file folder.new n ≡ F.file folder.old n }
@@ -38,6 +41,7 @@ pub(crate) fn decide<R: Threads + Sync, F: Folder, G: Gate>(
     match asked {
         Asked::Check(checking) => decide_check(rt, alloc, folder, checking, gate),
         Asked::Verify(verifying) => decide_verify(alloc, folder, verifying),
+        Asked::Generate(seed) => decide_generate(alloc, seed),
     }
 }
 
@@ -136,43 +140,58 @@ fn decide_verify<F: Folder>(alloc: Global, folder: &mut F, verifying: Verifying<
     ensures later { F.read_faults folder.old ≤ F.read_faults folder.new }
     ensures writes { F.write_faults folder.new ≡ F.write_faults folder.old }
 {
+    let budget = Budget {
+        units: verifying.units,
+        learn: verifying.learn,
+    };
     match folder.read(alloc, verifying.source, MOST_SOURCE) {
-        Ok(Got::Bytes(bytes)) => verify_source(alloc, &bytes, verifying),
+        Ok(Got::Bytes(bytes)) => verify_source(alloc, &bytes, verifying.model, budget),
         Ok(Got::Longer) => Verdict::Over(1, 1_048_577),
         Err(FileFail::Failed) => Verdict::ReadFault,
         Err(FileFail::Memory) => Verdict::NoMemory,
     }
 }
 
-fn verify_source(alloc: Global, source: &[u8], verifying: Verifying<'_>) -> Verdict
-    requires small { length source.now ≤ 2 ^ 20 }
-    ensures answer { IsVerifyAnswer ⊥ verifying.entry.model verifying.entry.units verifying.entry.learn source.now result }
+// The verification of the source of a seed, with the defaults of all options.
+fn decide_generate(alloc: Global, seed: u32) -> Verdict
+    ensures answer { IsVerifyAnswer ⊥ plain_model plain_units plain_learn (generated seed) result }
     ensures no_fault { result ≡ Verdict.ReadFault → ⊥ }
 {
-    match load_source(alloc, source, verifying.model) {
-        Ok(parts) => verify_loaded(alloc, source, &parts, verifying),
+    generated_is_short();
+    let budget = Budget {
+        units: UNITS,
+        learn: LEARN,
+    };
+    match generate(alloc, seed) {
+        Ok(source) => verify_source(alloc, &source, Model::Ilp32, budget),
+        Err(_) => Verdict::NoMemory,
+    }
+}
+
+fn verify_source(alloc: Global, source: &[u8], model: Model, budget: Budget) -> Verdict
+    requires small { length source.now ≤ 2 ^ 20 }
+    ensures answer { IsVerifyAnswer ⊥ model budget.units budget.learn source.now result }
+    ensures no_fault { result ≡ Verdict.ReadFault → ⊥ }
+{
+    match load_source(alloc, source, model) {
+        Ok(parts) => verify_loaded(alloc, source, &parts, model, budget),
         Err(verdict) => verdict,
     }
 }
 
-fn verify_loaded(alloc: Global, source: &[u8], parts: &Loaded, verifying: Verifying<'_>) -> Verdict
+fn verify_loaded(
+    alloc: Global,
+    source: &[u8],
+    parts: &Loaded,
+    model: Model,
+    budget: Budget,
+) -> Verdict
     requires small { length source.now ≤ 2 ^ 20 }
-    requires replay { IsReplay verifying.model source.now (tree_of parts.now.examined.typed) }
+    requires replay { IsReplay model source.now (tree_of parts.now.examined.typed) }
     requires stands { StandsFor parts.now.graph (tree_of parts.now.examined.typed) }
-    ensures answer { IsVerifyAnswer ⊥ verifying.entry.model verifying.entry.units verifying.entry.learn source.now result }
+    ensures answer { IsVerifyAnswer ⊥ model budget.units budget.learn source.now result }
     ensures no_fault { result ≡ Verdict.ReadFault → ⊥ }
 {
     let _entry = parts.graph.entry();
-    let budget = Budget {
-        units: verifying.units,
-        learn: verifying.learn,
-    };
-    verify(
-        alloc,
-        &parts.examined,
-        &parts.graph,
-        source,
-        verifying.model,
-        budget,
-    )
+    verify(alloc, &parts.examined, &parts.graph, source, model, budget)
 }

@@ -1,5 +1,5 @@
-//! The answers to requests for the check of a certificate and for the verification of a source: files are read and written, and the
-//! line of the answer is printed.
+//! The answers to requests for the check of a certificate and for the verification of a source, be it that of a file or that of a seed:
+//! files are read and written, and the line of the answer is printed.
 #![tactic(auto)]
 
 mod answering;

@@ -22,7 +22,7 @@ pub(crate) fn store<F: Folder>(
     ensures reads { F.read_faults folder.new ≡ F.read_faults folder.old }
 {
     match asked {
-        Asked::Check(_) => Ok(()),
+        Asked::Check(_) | Asked::Generate(_) => Ok(()),
         Asked::Verify(verifying) => match verdict {
             Verdict::Safe(text) => put(alloc, folder, verifying.cert, text.as_bytes()),
             Verdict::Unsafe(_, _, _, text) => put(alloc, folder, verifying.run, text.as_bytes()),

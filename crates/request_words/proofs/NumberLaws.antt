@@ -1,12 +1,15 @@
 -- A number is read from its decimal digits alone.
 use Rattle.std.proofs.Common.{◌≡◌, ℕ, zero, suc, ◌+◌, ◌-◌, ◌*◌, ◌<◌, ◌≤◌, ◌^◌, List, [], ◌∷◌, length, get_or, refl, sym, ◌∙◌, ap, arith, Bool, true, false, rules}
-use Rattle.std.specs.Prelude.{Option, Some, None, nat_le, ◌&&◌, ◌||◌, ◌==◌, if◌then◌else◌, slice_index, ◌↔◌}
+use Rattle.std.specs.Prelude.{Option, Some, None, nat_le, ◌&&◌, ◌||◌, ◌==◌, if◌then◌else◌, slice_index}
 use Rattle.std.specs.Fmt.{decimal}
 use Rattle.std.specs.Str.{all_ascii_digits}
 use Rattle.std.proofs.lemmas.Bool.Decides.{nat_tests}
 use Rattle.std.proofs.lemmas.Fmt.{decimal-digits_value, decimal_digit, decimal_nonempty, first_decimal, digits_decimal, digits_value-decimal}
 use Rattle.std.proofs.lemmas.Str.Parse.{IsNumeralModel, numerals_by_fold, tells_all_ascii_digits}
-use Rattle.request_words.specs.Values.{digit_added, number_behind, number_of, NumbersAreRead}
+use Rattle.std.specs.Prelude.{codes}
+use Rattle.std.specs.Str.{bytes_eq}
+use Rattle.std.proofs.lemmas.Slice.Eq.{bytes_eq-Decides}
+use Rattle.request_words.specs.Values.{digit_added, number_behind, number_of, NumbersAreRead, SeedsAreRead}
 
 -- the number of digits behind a number
 abbrev whole : ℕ → List ℕ → ℕ
@@ -106,7 +109,7 @@ positive : (n : ℕ) (bytes : List ℕ) → bytes ≡ decimal n → (get_or byte
 positive zero bytes e first = absurd (first (ap (λ (l : List ℕ). get_or l 0 0) (e ∙ decimal_digit 0 (omega arith))))
 positive (suc n) bytes e first = omega arith
 
-number_found : (most : ℕ) (bytes : List ℕ) (n : ℕ) → most ≤ 1000000000 → (b : Bool) → is_none bytes ≡ b → (if b then None else number_behind most (Some 0) bytes) ≡ Some n → ((bytes ≡ decimal n) × (1 ≤ n) × (n ≤ most))
+number_found : (most : ℕ) (bytes : List ℕ) (n : ℕ) → most ≤ 4294967295 → (b : Bool) → is_none bytes ≡ b → (if b then None else number_behind most (Some 0) bytes) ≡ Some n → ((bytes ≡ decimal n) × (1 ≤ n) × (n ≤ most))
 number_found most bytes n few true e h = absurd (cc)
 number_found most bytes n few false e h =
     let some = is_some bytes e in
@@ -115,7 +118,7 @@ number_found most bytes n few false e h =
     let written : bytes ≡ decimal n = sym (decimal-digits_value own bytes r.digits some.long (λ f. absurd (some.first f)) less) ∙ ap decimal r.value in
     (written, positive n bytes written some.first, r.small)
 
-number_written : (most n : ℕ) → most ≤ 1000000000 → 1 ≤ n → n ≤ most → number_of most (decimal n) ≡ Some n
+number_written : (most n : ℕ) → most ≤ 4294967295 → 1 ≤ n → n ≤ most → number_of most (decimal n) ≡ Some n
 number_written most n few low high =
     let less : n < 2 ^ 64 = omega arith in
     let value : whole 0 (decimal n) ≡ n = digits_value-decimal own n less in
@@ -125,3 +128,27 @@ number_written most n few low high =
 
 pub numbers_read : NumbersAreRead
 numbers_read most bytes n few = (number_found most bytes n few (is_none bytes) refl, λ is. ap (number_of most) is.0 ∙ number_written most n few is.1 is.2)
+
+-- ---- seeds
+
+most_of : 4294967295 ≤ 4294967295
+most_of = omega arith
+
+seed_found : (bytes : List ℕ) (n : ℕ) (b : Bool) → bytes_eq bytes (codes "0") ≡ b → (if b then Some 0 else number_of 4294967295 bytes) ≡ Some n → ((bytes ≡ decimal n) × (n ≤ 4294967295))
+seed_found bytes n true e h =
+    let none : 0 ≡ n = same_some 0 n h in
+    ((bytes_eq-Decides bytes (codes "0")).0 e ∙ sym (decimal_digit 0 (omega arith)) ∙ ap decimal none, omega (arith, none))
+seed_found bytes n false e h = let is = (numbers_read 4294967295 bytes n most_of).0 h in (is.0, is.2)
+
+seed_written : (bytes : List ℕ) (n : ℕ) (b : Bool) → bytes_eq bytes (codes "0") ≡ b → bytes ≡ decimal n → n ≤ 4294967295 → (if b then Some 0 else number_of 4294967295 bytes) ≡ Some n
+seed_written bytes zero true e is few = refl
+seed_written bytes zero false e is few = absurd (let zeros : bytes ≡ codes "0" = is ∙ decimal_digit 0 (omega arith) in let same = (bytes_eq-Decides bytes (codes "0")).1 zeros in cc)
+seed_written bytes (suc n) true e is few =
+    let zeros : bytes ≡ codes "0" = (bytes_eq-Decides bytes (codes "0")).0 e in
+    let none : number_of 4294967295 bytes ≡ None = ap (number_of 4294967295) zeros in
+    let some : number_of 4294967295 bytes ≡ Some (suc n) = (numbers_read 4294967295 bytes (suc n) most_of).1 (is, omega arith, few) in
+    absurd (cc)
+seed_written bytes (suc n) false e is few = (numbers_read 4294967295 bytes (suc n) most_of).1 (is, omega arith, few)
+
+pub seeds_read : SeedsAreRead
+seeds_read bytes n = (seed_found bytes n (bytes_eq bytes (codes "0")) refl, λ is. seed_written bytes n (bytes_eq bytes (codes "0")) refl is.0 is.1)

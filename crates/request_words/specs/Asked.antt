@@ -1,10 +1,11 @@
 -- What words ask for.
-use Rattle.std.specs.Prelude.{ℕ, ◌≡◌, List, [], ◌∷◌, Bool, true, false, ◌||◌, if◌then◌else◌, Option, Some, None, codes}
+use Rattle.std.specs.Prelude.{ℕ, List, [], ◌∷◌, Bool, false, ◌||◌, if◌then◌else◌, Option, Some, None, codes}
 use Rattle.std.specs.Str.{bytes_eq}
 use Rattle.lv_base.specs.declared.kind.Model.{Model}
 use Rattle.lv_base.specs.declared.kind.Model.TheVariants.{Ilp32}
 use Rattle.request_words.specs.declared.options.Choice.{Choice}
 use Rattle.request_words.specs.declared.gathering.Command.TheVariants as command
+use Rattle.request_words.specs.Values.{seed_of}
 use Rattle.request_words.specs.Words.{Given, nothing_given, with_words}
 
 -- The check of the certificate in one file against the source in another one.
@@ -14,7 +15,7 @@ pub record Checking : Type 0 where
   pub model : Model
   pub workers : ℕ
 
--- The verification of a source, and where its certificate or its run is to be written.
+-- The verification of a source, and where its certificate, its run or its witness is to be written.
 pub record Verifying : Type 0 where
   pub source : List ℕ
   pub model : Model
@@ -23,13 +24,26 @@ pub record Verifying : Type 0 where
   pub workers : ℕ
   pub cert : Option (List ℕ)
   pub run : Option (List ℕ)
+  pub witness : Option (List ℕ)
 
 pub data Asked : Type 0 where
   Check : Checking → Asked
   Verify : Verifying → Asked
+  Generate : ℕ → Asked
+
+-- ---- Where an option is not given
+
+abbrev pub plain_model : Model
+plain_model = Ilp32
+
+abbrev pub plain_units : ℕ
+plain_units = 100000
+
+abbrev pub plain_learn : ℕ
+plain_learn = 1000000
 
 abbrev pub model_or : Option Model → Model
-model_or None = Ilp32
+model_or None = plain_model
 model_or (Some model) = model
 
 abbrev pub number_or : ℕ → Option ℕ → ℕ
@@ -58,21 +72,27 @@ is_named_in None other = false
 is_named_in (Some name) other = is_named name other
 
 -- two of the source and of the files to be written have one name
-abbrev pub has_twice : List ℕ → Option (List ℕ) → Option (List ℕ) → Bool
-has_twice source cert run = is_named source cert || (is_named source run || is_named_in cert run)
+abbrev pub has_twice : List ℕ → Option (List ℕ) → Option (List ℕ) → Option (List ℕ) → Bool
+has_twice source cert run witness =
+    is_named source cert || (is_named source run || (is_named source witness || (is_named_in cert run || (is_named_in cert witness || is_named_in run witness))))
 
-abbrev pub verify_of : Given → List ℕ → Option Asked
-verify_of given source =
-    if has_twice source given.cert given.run then None else
+-- No witness is written, so words that ask for one ask for nothing.
+abbrev pub verify_with : Given → List ℕ → Option (List ℕ) → Option Asked
+verify_with given source (Some witness) = None
+verify_with given source None =
     Some (Verify (record {
       source = source;
       model = model_or given.model;
-      units = number_or 100000 given.units;
-      learn = number_or 1000000 given.learn;
+      units = number_or plain_units given.units;
+      learn = number_or plain_learn given.learn;
       workers = number_or 1 given.workers;
       cert = given.cert;
       run = given.run;
+      witness = given.witness;
     }))
+
+abbrev pub verify_of : Given → List ℕ → Option Asked
+verify_of given source = if has_twice source given.cert given.run given.witness then None else verify_with given source given.witness
 
 abbrev pub verify_at : Given → Option (List ℕ) → Option (List ℕ) → Option Choice → Option Asked
 verify_at given (Some source) None None = verify_of given source
@@ -83,9 +103,23 @@ abbrev pub verify_by : Option Given → Option Asked
 verify_by None = None
 verify_by (Some given) = verify_at given given.first given.second given.awaited
 
--- The word `check` or `verify`, and behind it names and options in any order.
+-- ---- Sources of seeds
+
+abbrev pub generate_at : Option ℕ → Option Asked
+generate_at None = None
+generate_at (Some seed) = Some (Generate seed)
+
+-- one word is the seed, and there is no option
+abbrev pub generate_by : List (List ℕ) → Option Asked
+generate_by (seed ∷ []) = generate_at (seed_of seed)
+generate_by _ = None
+
+-- ---- Words
+
+-- The word `check` or `verify`, and behind it names and options in any order; or the word `generate`, and a seed.
 abbrev pub asked_of : List (List ℕ) → Option Asked
 asked_of [] = None
 asked_of (word ∷ words) =
     if bytes_eq word (codes "check") then check_by (with_words command.Check (Some nothing_given) words) else
-    if bytes_eq word (codes "verify") then verify_by (with_words command.Verify (Some nothing_given) words) else None
+    if bytes_eq word (codes "verify") then verify_by (with_words command.Verify (Some nothing_given) words) else
+    if bytes_eq word (codes "generate") then generate_by words else None

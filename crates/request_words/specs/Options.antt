@@ -1,9 +1,9 @@
 -- Options by their names.
-use Rattle.std.specs.Prelude.{ℕ, ◌≡◌, List, ◌==◌, nat_lt, length, if◌then◌else◌, Option, Some, None, codes}
+use Rattle.std.specs.Prelude.{ℕ, List, ◌==◌, nat_lt, length, if◌then◌else◌, Option, Some, None, codes}
 use Rattle.std.specs.List.{position_or_len, before_first, after_first}
 use Rattle.std.specs.Str.{bytes_eq}
 use Rattle.request_words.specs.declared.options.Choice.{Choice}
-use Rattle.request_words.specs.declared.options.Choice.TheVariants.{OfModel, OfUnits, OfLearn, OfWorkers, OfCert, OfRun}
+use Rattle.request_words.specs.declared.options.Choice.TheVariants.{OfModel, OfUnits, OfLearn, OfWorkers, OfCert, OfRun, OfWitness}
 
 abbrev pub choice_named : List ℕ → Option Choice
 choice_named word =
@@ -12,7 +12,8 @@ choice_named word =
     if bytes_eq word (codes "--units") then Some OfUnits else
     if bytes_eq word (codes "--learn") then Some OfLearn else
     if bytes_eq word (codes "--cert") then Some OfCert else
-    if bytes_eq word (codes "--run") then Some OfRun else None
+    if bytes_eq word (codes "--run") then Some OfRun else
+    if bytes_eq word (codes "--witness") then Some OfWitness else None
 
 abbrev pub with_value_behind : List ℕ → Option Choice → Option (Choice × List ℕ)
 with_value_behind value None = None

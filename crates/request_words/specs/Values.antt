@@ -31,6 +31,13 @@ number_behind most (Some n) (byte ∷ bytes) = number_behind most (digit_added m
 abbrev pub number_of : ℕ → List ℕ → Option ℕ
 number_of most bytes = if (length bytes == 0) || (slice_index bytes 0 == 48) then None else number_behind most (Some 0) bytes
 
+-- a seed, from 0 to 4294967295
+abbrev pub seed_of : List ℕ → Option ℕ
+seed_of bytes = if bytes_eq bytes (codes "0") then Some 0 else number_of 4294967295 bytes
+
 -- so a number is told by its decimal digits alone
 abbrev pub NumbersAreRead : Type 0
-NumbersAreRead = (most : ℕ) (bytes : List ℕ) (n : ℕ) → most ≤ 1000000000 → (number_of most bytes ≡ Some n) ↔ ((bytes ≡ decimal n) × (1 ≤ n) × (n ≤ most))
+NumbersAreRead = (most : ℕ) (bytes : List ℕ) (n : ℕ) → most ≤ 4294967295 → (number_of most bytes ≡ Some n) ↔ ((bytes ≡ decimal n) × (1 ≤ n) × (n ≤ most))
+
+abbrev pub SeedsAreRead : Type 0
+SeedsAreRead = (bytes : List ℕ) (n : ℕ) → (seed_of bytes ≡ Some n) ↔ ((bytes ≡ decimal n) × (n ≤ 4294967295))

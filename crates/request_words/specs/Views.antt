@@ -4,7 +4,7 @@ use Rattle.request_words.specs.declared.gathering.Given.{Given}
 use Rattle.request_words.specs.declared.asking.Checking.{Checking}
 use Rattle.request_words.specs.declared.asking.Verifying.{Verifying}
 use Rattle.request_words.specs.declared.asking.Asked.{Asked}
-use Rattle.request_words.specs.declared.asking.Asked.TheVariants.{Check, Verify}
+use Rattle.request_words.specs.declared.asking.Asked.TheVariants.{Check, Verify, Generate}
 use Rattle.request_words.specs.Words as w
 use Rattle.request_words.specs.Asked as a
 
@@ -18,6 +18,7 @@ given_of given = record {
   workers = given.workers;
   cert = option_map (λ s. s.now) given.cert;
   run = option_map (λ s. s.now) given.run;
+  witness = option_map (λ s. s.now) given.witness;
   awaited = given.awaited;
 }
 
@@ -33,8 +34,10 @@ verifying_of v = record {
   workers = v.workers;
   cert = option_map (λ s. s.now) v.cert;
   run = option_map (λ s. s.now) v.run;
+  witness = option_map (λ s. s.now) v.witness;
 }
 
 abbrev pub asked_by : Asked → a.Asked
 asked_by (Check c) = a.Check (checking_of c)
 asked_by (Verify v) = a.Verify (verifying_of v)
+asked_by (Generate seed) = a.Generate seed

@@ -1,8 +1,9 @@
 -- One word after the other.
-use Rattle.std.specs.Prelude.{ℕ, ◌≡◌, List, [], ◌∷◌, if◌then◌else◌, Bool, true, false, Option, Some, None}
+use Rattle.std.specs.Prelude.{ℕ, List, [], ◌∷◌, if◌then◌else◌, Bool, true, false, Option, Some, None}
+use Rattle.std.specs.Option.{option_map}
 use Rattle.lv_base.specs.declared.kind.Model.{Model}
 use Rattle.request_words.specs.declared.options.Choice.{Choice}
-use Rattle.request_words.specs.declared.options.Choice.TheVariants.{OfModel, OfUnits, OfLearn, OfWorkers, OfCert, OfRun}
+use Rattle.request_words.specs.declared.options.Choice.TheVariants.{OfModel, OfUnits, OfLearn, OfWorkers, OfCert, OfRun, OfWitness}
 use Rattle.request_words.specs.declared.gathering.Command.{Command}
 use Rattle.request_words.specs.declared.gathering.Command.TheVariants.{Check, Verify}
 use Rattle.request_words.specs.Values.{is_name_of, model_of, number_of}
@@ -18,10 +19,11 @@ pub record Given : Type 0 where
   pub workers : Option ℕ
   pub cert : Option (List ℕ)
   pub run : Option (List ℕ)
+  pub witness : Option (List ℕ)
   pub awaited : Option Choice
 
 abbrev pub nothing_given : Given
-nothing_given = record { first = None; second = None; model = None; units = None; learn = None; workers = None; cert = None; run = None; awaited = None }
+nothing_given = record { first = None; second = None; model = None; units = None; learn = None; workers = None; cert = None; run = None; witness = None; awaited = None }
 
 -- the value of an option, which stands at most once
 abbrev pub with_model : Given → Option Model → Option Model → Option Given
@@ -40,21 +42,28 @@ abbrev pub with_workers : Given → Option ℕ → Option ℕ → Option Given
 with_workers given None (Some n) = Some (record given { workers = Some n; awaited = None })
 with_workers given _ _ = None
 
-abbrev pub with_cert : Given → Option (List ℕ) → List ℕ → Option Given
-with_cert given None name = if is_name_of name then Some (record given { cert = Some name; awaited = None }) else None
-with_cert given (Some other) name = None
+-- the name of a file that an option gives
+abbrev pub name_once : Option (List ℕ) → List ℕ → Option (List ℕ)
+name_once None name = if is_name_of name then Some name else None
+name_once (Some other) name = None
 
-abbrev pub with_run : Given → Option (List ℕ) → List ℕ → Option Given
-with_run given None name = if is_name_of name then Some (record given { run = Some name; awaited = None }) else None
-with_run given (Some other) name = None
+abbrev pub with_cert : Given → List ℕ → Given
+with_cert given name = record given { cert = Some name; awaited = None }
+
+abbrev pub with_run : Given → List ℕ → Given
+with_run given name = record given { run = Some name; awaited = None }
+
+abbrev pub with_witness : Given → List ℕ → Given
+with_witness given name = record given { witness = Some name; awaited = None }
 
 abbrev pub with_value : Given → Choice → List ℕ → Option Given
 with_value given OfModel value = with_model given given.model (model_of value)
 with_value given OfUnits value = with_units given given.units (number_of 10000000 value)
 with_value given OfLearn value = with_learn given given.learn (number_of 100000000 value)
 with_value given OfWorkers value = with_workers given given.workers (number_of 64 value)
-with_value given OfCert value = with_cert given given.cert value
-with_value given OfRun value = with_run given given.run value
+with_value given OfCert value = option_map (with_cert given) (name_once given.cert value)
+with_value given OfRun value = option_map (with_run given) (name_once given.run value)
+with_value given OfWitness value = option_map (with_witness given) (name_once given.witness value)
 
 -- the options of a command
 abbrev pub is_option : Command → Choice → Bool
@@ -65,6 +74,7 @@ is_option Check OfUnits = false
 is_option Check OfLearn = false
 is_option Check OfCert = false
 is_option Check OfRun = false
+is_option Check OfWitness = false
 
 -- an option of the command, whose value is the next word
 abbrev pub awaiting : Command → Given → Choice → Option Given

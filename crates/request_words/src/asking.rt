@@ -1,10 +1,17 @@
 ghost use Rattle.std.specs.Prelude.{◌≡◌, map, Some};
 ghost use Rattle.std.specs.Option.{option_map};
 ghost use Rattle.request_words.specs.Views.{given_of, asked_by};
-ghost use Rattle.request_words.specs.Asked.{is_named, is_named_in, has_twice, check_by, verify_by, verify_of, asked_of};
+ghost use Rattle.request_words.specs.Asked.{is_named, is_named_in, has_twice, check_by, generate_by, verify_by, verify_of, verify_with, asked_of};
 
 use crate::gathering::{Command, Given, gathered};
+use crate::values::seed_in;
 use lv_base::Model;
+
+/// The units where no option says how many.
+pub const UNITS: u64 = 100_000;
+
+/// The clauses to be learned of a question where no option says how many.
+pub const LEARN: u64 = 1_000_000;
 
 /// The check of the certificate in one file against the source in another one.
 #[derive(Clone, Copy)]
@@ -15,7 +22,7 @@ pub struct Checking<'a> {
     pub workers: u64,
 }
 
-/// The verification of a source, and where its certificate or its run is to be written.
+/// The verification of a source, and where its certificate, its run or its witness is to be written.
 #[derive(Clone, Copy)]
 pub struct Verifying<'a> {
     pub source: &'a str,
@@ -25,6 +32,7 @@ pub struct Verifying<'a> {
     pub workers: u64,
     pub cert: Option<&'a str>,
     pub run: Option<&'a str>,
+    pub witness: Option<&'a str>,
 }
 
 /// What words ask for.
@@ -32,9 +40,12 @@ pub struct Verifying<'a> {
 pub enum Asked<'a> {
     Check(Checking<'a>),
     Verify(Verifying<'a>),
+    /// The verification of the source of a seed, with the defaults of all options and without files.
+    Generate(u32),
 }
 
-/// What the words ask for: the word `check` or `verify`, and behind it names and options in any order.
+/// What the words ask for: the word `check` or `verify`, and behind it names and options in any order; or the word `generate`, and a
+/// seed behind it.
 pub fn request<'a>(words: &[&'a str]) -> Option<Asked<'a>>
     ensures { option_map asked_by result ≡ asked_of (map (λ w. w.now) words.now) }
 {
@@ -45,6 +56,7 @@ pub fn request<'a>(words: &[&'a str]) -> Option<Asked<'a>>
         Some((command, behind)) if *command == "verify" => {
             whole_verify(gathered(Command::Verify, behind)?)
         }
+        Some((command, behind)) if *command == "generate" => whole_generate(behind),
         _ => None,
     }
 }
@@ -77,24 +89,51 @@ fn whole_verify<'a>(given: Given<'a>) -> Option<Asked<'a>>
 fn verify_source<'a>(given: Given<'a>, source: &'a str) -> Option<Asked<'a>>
     ensures { option_map asked_by result ≡ verify_of (given_of given.entry) source.now }
 {
-    if stands_twice(source, given.cert, given.run) {
+    if stands_twice(source, given.cert, given.run, given.witness) {
         return None;
     }
-    Some(Asked::Verify(Verifying {
-        source,
-        model: given.model.unwrap_or(Model::Ilp32),
-        units: given.units.unwrap_or(100_000),
-        learn: given.learn.unwrap_or(1_000_000),
-        workers: given.workers.unwrap_or(1),
-        cert: given.cert,
-        run: given.run,
-    }))
+    verify_given(given, source)
 }
 
-fn stands_twice(source: &str, cert: Option<&str>, run: Option<&str>) -> bool
-    ensures { result ≡ has_twice source.now (option_map (λ s. s.now) cert.entry) (option_map (λ s. s.now) run.entry) }
+// No witness is written, so words that ask for one ask for nothing.
+fn verify_given<'a>(given: Given<'a>, source: &'a str) -> Option<Asked<'a>>
+    ensures { option_map asked_by result ≡ verify_with (given_of given.entry) source.now (option_map (λ s. s.now) given.entry.witness) }
 {
-    is_other(source, cert) || (is_other(source, run) || is_other_in(cert, run))
+    match given.witness {
+        Some(_) => None,
+        None => Some(Asked::Verify(Verifying {
+            source,
+            model: given.model.unwrap_or(Model::Ilp32),
+            units: given.units.unwrap_or(UNITS),
+            learn: given.learn.unwrap_or(LEARN),
+            workers: given.workers.unwrap_or(1),
+            cert: given.cert,
+            run: given.run,
+            witness: given.witness,
+        })),
+    }
+}
+
+// One word is the seed, and there is no option.
+fn whole_generate<'a>(words: &[&'a str]) -> Option<Asked<'a>>
+    ensures { option_map asked_by result ≡ generate_by (map (λ w. w.now) words.now) }
+{
+    match words {
+        [seed] => match seed_in(seed.as_bytes()) {
+            Some(seed) => Some(Asked::Generate(seed)),
+            None => None,
+        },
+        _ => None,
+    }
+}
+
+fn stands_twice(source: &str, cert: Option<&str>, run: Option<&str>, witness: Option<&str>) -> bool
+    ensures { result ≡ has_twice source.now (option_map (λ s. s.now) cert.entry) (option_map (λ s. s.now) run.entry) (option_map (λ s. s.now) witness.entry) }
+{
+    let source_again = is_other(source, cert)
+        || (is_other(source, run) || is_other(source, witness));
+    source_again
+        || (is_other_in(cert, run) || (is_other_in(cert, witness) || is_other_in(run, witness)))
 }
 
 fn is_other(name: &str, other: Option<&str>) -> bool

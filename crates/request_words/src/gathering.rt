@@ -27,6 +27,7 @@ pub struct Given<'a> {
     pub workers: Option<u64>,
     pub cert: Option<&'a str>,
     pub run: Option<&'a str>,
+    pub witness: Option<&'a str>,
     pub awaited: Option<Choice>,
 }
 
@@ -43,6 +44,7 @@ pub(crate) fn gathered<'a>(command: Command, words: &[&'a str]) -> Option<Given<
         workers: None,
         cert: None,
         run: None,
+        witness: None,
         awaited: None,
     };
     for word in words {
@@ -118,7 +120,11 @@ fn has_option(command: Command, choice: Choice) -> bool
         Command::Verify => true,
         Command::Check => match choice {
             Choice::OfModel | Choice::OfWorkers => true,
-            Choice::OfUnits | Choice::OfLearn | Choice::OfCert | Choice::OfRun => false,
+            Choice::OfUnits
+            | Choice::OfLearn
+            | Choice::OfCert
+            | Choice::OfRun
+            | Choice::OfWitness => false,
         },
     }
 }
@@ -132,8 +138,9 @@ fn with_value<'a>(given: Given<'a>, choice: Choice, value: &'a str) -> Option<Gi
         Choice::OfUnits => with_units(given, number_in(value.as_bytes(), 10_000_000)?),
         Choice::OfLearn => with_learn(given, number_in(value.as_bytes(), 100_000_000)?),
         Choice::OfWorkers => with_workers(given, number_in(value.as_bytes(), 64)?),
-        Choice::OfCert => with_cert(given, value),
-        Choice::OfRun => with_run(given, value),
+        Choice::OfCert => Some(with_cert(given, name_once(given.cert, value)?)),
+        Choice::OfRun => Some(with_run(given, name_once(given.run, value)?)),
+        Choice::OfWitness => Some(with_witness(given, name_once(given.witness, value)?)),
     }
 }
 
@@ -189,29 +196,43 @@ fn with_workers<'a>(given: Given<'a>, number: u64) -> Option<Given<'a>>
     }
 }
 
-fn with_cert<'a>(given: Given<'a>, name: &'a str) -> Option<Given<'a>>
-    ensures { option_map given_of result ≡ spec.with_cert (given_of given.entry) (option_map (λ s. s.now) given.entry.cert) name.now }
+// The name of a file that an option gives, which stands at most once.
+fn name_once<'a>(before: Option<&'a str>, name: &'a str) -> Option<&'a str>
+    ensures { option_map (λ s. s.now) result ≡ spec.name_once (option_map (λ s. s.now) before.entry) name.now }
 {
-    match given.cert {
-        None if is_name(name) => Some(Given {
-            cert: Some(name),
-            awaited: None,
-            ..given
-        }),
+    match before {
+        None if is_name(name) => Some(name),
         _ => None,
     }
 }
 
-fn with_run<'a>(given: Given<'a>, name: &'a str) -> Option<Given<'a>>
-    ensures { option_map given_of result ≡ spec.with_run (given_of given.entry) (option_map (λ s. s.now) given.entry.run) name.now }
+fn with_cert<'a>(given: Given<'a>, name: &'a str) -> Given<'a>
+    ensures { given_of result ≡ spec.with_cert (given_of given.entry) name.now }
 {
-    match given.run {
-        None if is_name(name) => Some(Given {
-            run: Some(name),
-            awaited: None,
-            ..given
-        }),
-        _ => None,
+    Given {
+        cert: Some(name),
+        awaited: None,
+        ..given
+    }
+}
+
+fn with_run<'a>(given: Given<'a>, name: &'a str) -> Given<'a>
+    ensures { given_of result ≡ spec.with_run (given_of given.entry) name.now }
+{
+    Given {
+        run: Some(name),
+        awaited: None,
+        ..given
+    }
+}
+
+fn with_witness<'a>(given: Given<'a>, name: &'a str) -> Given<'a>
+    ensures { given_of result ≡ spec.with_witness (given_of given.entry) name.now }
+{
+    Given {
+        witness: Some(name),
+        awaited: None,
+        ..given
     }
 }
 

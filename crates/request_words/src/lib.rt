@@ -1,4 +1,5 @@
-//! What the program's words ask for, where they ask to check a certificate or to verify a source: names, options, and numbers.
+//! What the program's words ask for, where they ask to check a certificate, to verify a source or to make one: names, options, and
+//! numbers.
 //!
 //! Behind the command stand names and options in any order. An option is `--name value` in two words or `--name=value` in one, and
 //! stands at most once. A name is not empty, does not begin with `-`, and has no byte below 0x20 and no byte 0x7F. A number has
@@ -10,7 +11,7 @@ mod gathering;
 mod options;
 mod values;
 
-pub use asking::{Asked, Checking, Verifying, request};
+pub use asking::{Asked, Checking, LEARN, UNITS, Verifying, request};
 pub use gathering::{Command, Given};
 pub use options::Choice;
-pub use values::{is_name, model_in, number_in, numbers_are_read};
+pub use values::{is_name, model_in, number_in, numbers_are_read, seed_in, seeds_are_read};

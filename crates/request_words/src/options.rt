@@ -11,6 +11,7 @@ pub enum Choice {
     OfWorkers,
     OfCert,
     OfRun,
+    OfWitness,
 }
 
 /// The option of this name.
@@ -29,6 +30,8 @@ pub(crate) fn named(word: &str) -> Option<Choice>
         Some(Choice::OfCert)
     } else if word == "--run" {
         Some(Choice::OfRun)
+    } else if word == "--witness" {
+        Some(Choice::OfWitness)
     } else {
         None
     }

@@ -1,6 +1,6 @@
 ghost use Rattle.std.specs.Prelude.{◌≡◌, ◌≤◌, Some, IfSome};
 ghost use Rattle.std.specs.List.{list_all};
-ghost use Rattle.request_words.specs.Values.{is_name_of, is_name_byte, model_of, digit_added, number_behind, number_of, NumbersAreRead};
+ghost use Rattle.request_words.specs.Values.{is_name_of, is_name_byte, model_of, digit_added, number_behind, number_of, seed_of, NumbersAreRead, SeedsAreRead};
 
 use lv_base::Model;
 
@@ -42,8 +42,9 @@ pub fn model_in(value: &[u8]) -> Option<Model>
 
 /// The number from 1 on that these decimal digits without leading zeros write, if it is not above `most`.
 pub fn number_in(value: &[u8], most: u64) -> Option<u64>
-    requires { most ≤ 1000000000 }
-    ensures { result ≡ number_of most value.now }
+    requires { most ≤ 4294967295 }
+    ensures value { result ≡ number_of most value.now }
+    ensures small { IfSome result (λ n. n ≤ most) }
 {
     if value.is_empty() || value[0] == b'0' {
         return None;
@@ -52,8 +53,9 @@ pub fn number_in(value: &[u8], most: u64) -> Option<u64>
 }
 
 fn digits(bytes: &[u8], most: u64) -> Option<u64>
-    requires { most ≤ 1000000000 }
-    ensures { result ≡ number_behind most (Some 0) bytes.now }
+    requires { most ≤ 4294967295 }
+    ensures value { result ≡ number_behind most (Some 0) bytes.now }
+    ensures small { IfSome result (λ n. n ≤ most) }
 {
     let mut number = 0;
     for byte in bytes {
@@ -66,10 +68,10 @@ fn digits(bytes: &[u8], most: u64) -> Option<u64>
 }
 
 fn with_digit(number: u64, byte: u8, most: u64) -> Option<u64>
-    requires most { most ≤ 1000000000 }
-    requires small { number ≤ 1000000000 }
+    requires most { most ≤ 4294967295 }
+    requires small { number ≤ most }
     ensures value { result ≡ digit_added most number byte }
-    ensures small { IfSome result (λ n. n ≤ 1000000000) }
+    ensures small { IfSome result (λ n. n ≤ most) }
 {
     if byte < b'0' || byte > b'9' {
         return None;
@@ -81,7 +83,25 @@ fn with_digit(number: u64, byte: u8, most: u64) -> Option<u64>
     Some(next)
 }
 
+/// The number from 0 to 4294967295 that these decimal digits without leading zeros write.
+pub fn seed_in(value: &[u8]) -> Option<u32>
+    ensures { result ≡ seed_of value.now }
+{
+    if value == b"0".as_slice() {
+        return Some(0);
+    }
+    match number_in(value, 4_294_967_295) {
+        Some(seed) => Some(seed as u32),
+        None => None,
+    }
+}
+
 /// A number is read from its decimal digits alone.
 pub fn numbers_are_read()
     ensures { NumbersAreRead }
+{}
+
+/// So is a seed.
+pub fn seeds_are_read()
+    ensures { SeedsAreRead }
 {}

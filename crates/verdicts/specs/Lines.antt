@@ -1,5 +1,5 @@
 -- What the program says of checks and verifications.
-use Rattle.std.specs.Prelude.{ℕ, ◌++◌, List, [], ◌∷◌, codes}
+use Rattle.std.specs.Prelude.{ℕ, ◌++◌, List, [], ◌∷◌, Bool, true, false, if◌then◌else◌, codes}
 use Rattle.std.specs.Fmt.{decimal}
 use Rattle.hex.specs.Hex.{encode_lower}
 use Rattle.lv_base.specs.Names.{error_name, fault_number, fault_name}
@@ -9,7 +9,7 @@ use Rattle.lv_base.specs.declared.place.Place.{Place}
 use Rattle.verdicts.specs.declared.rejection.Rejection.{Rejection}
 use Rattle.verdicts.specs.declared.rejection.Rejection.TheVariants.{Format, OtherSource, OtherModel, Layout, Nodes, Term, Formula, Count, BadStep, NoEmpty}
 use Rattle.verdicts.specs.declared.verdict.Verdict.{Verdict}
-use Rattle.verdicts.specs.declared.verdict.Verdict.TheVariants.{Safe, Unsafe, OutOfUnits, OutOfLearn, Unreplayed, Unproved, Accepted, Rejected, Faulty, Over, ReadFault, NoMemory}
+use Rattle.verdicts.specs.declared.verdict.Verdict.TheVariants.{Safe, Unsafe, OutOfUnits, OutOfLearn, Unreplayed, Accepted, Rejected, Faulty, Over, ReadFault, NoMemory}
 
 abbrev pub status_of : Verdict → ℕ
 status_of (Safe text) = 0
@@ -17,7 +17,6 @@ status_of (Unsafe kind place values text) = 1
 status_of (OutOfUnits units) = 2
 status_of (OutOfLearn learn) = 2
 status_of Unreplayed = 2
-status_of (Unproved number) = 2
 status_of Accepted = 0
 status_of (Rejected rejection) = 3
 status_of (Faulty fault place) = 11
@@ -55,10 +54,32 @@ text_of (Unsafe kind place values text) = codes "UNSAFE " ++ (error_name kind ++
 text_of (OutOfUnits units) = codes "UNKNOWN units " ++ (decimal units ++ 10 ∷ [])
 text_of (OutOfLearn learn) = codes "UNKNOWN learn " ++ (decimal learn ++ 10 ∷ [])
 text_of Unreplayed = codes "UNKNOWN replay" ++ 10 ∷ []
-text_of (Unproved number) = codes "UNKNOWN obligation " ++ (decimal number ++ 10 ∷ [])
 text_of Accepted = codes "ACCEPTED" ++ 10 ∷ []
 text_of (Rejected rejection) = rejection_text rejection
 text_of (Faulty fault place) = codes "SOURCE FAULT " ++ (decimal (fault_number fault) ++ (codes " " ++ (fault_name fault ++ (codes " at " ++ place_text place))))
 text_of (Over number count) = codes "LIMIT " ++ (decimal number ++ 10 ∷ [])
 text_of ReadFault = codes "READ FAULT" ++ 10 ∷ []
 text_of NoMemory = codes "NO MEMORY" ++ 10 ∷ []
+
+-- ---- Sources of seeds
+
+-- a seed is told behind SAFE, UNSAFE and UNKNOWN, and behind no other answer
+abbrev pub tells_seed : Verdict → Bool
+tells_seed (Safe text) = true
+tells_seed (Unsafe kind place values text) = true
+tells_seed (OutOfUnits units) = true
+tells_seed (OutOfLearn learn) = true
+tells_seed Unreplayed = true
+tells_seed Accepted = false
+tells_seed (Rejected rejection) = false
+tells_seed (Faulty fault place) = false
+tells_seed (Over number count) = false
+tells_seed ReadFault = false
+tells_seed NoMemory = false
+
+abbrev pub seed_text : ℕ → ℕ → List ℕ
+seed_text seed blocks = codes "SEED " ++ (decimal seed ++ (codes " BLOCKS " ++ (decimal blocks ++ 10 ∷ [])))
+
+-- what is said of the source of a seed, which has so many blocks
+abbrev pub seeded_text : ℕ → ℕ → Verdict → List ℕ
+seeded_text seed blocks v = if tells_seed v then text_of v ++ seed_text seed blocks else text_of v

@@ -18,8 +18,6 @@ pub enum Verdict {
     OutOfLearn(u64),
     /// A path of the graph leads to an error, and no replay of its values met one.
     Unreplayed,
-    /// The obligation of this number fails: the map of the unwinding is not inductive.
-    Unproved(u32),
     /// The certificate is accepted.
     Accepted,
     /// The certificate is rejected.
@@ -43,7 +41,6 @@ pub fn status(verdict: &Verdict) -> u8
         Verdict::OutOfUnits(_) => 2,
         Verdict::OutOfLearn(_) => 2,
         Verdict::Unreplayed => 2,
-        Verdict::Unproved(_) => 2,
         Verdict::Accepted => 0,
         Verdict::Rejected(_) => 3,
         Verdict::Faulty(_, _) => 11,

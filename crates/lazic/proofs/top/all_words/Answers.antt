@@ -7,5 +7,6 @@ pub returns : goal.returns
 returns c = record {
   one_answer = λ words file answer. (computed_is_meant words file answer, meant_is_computed words file answer);
   turns = λ bytes n. c.numbers_are_read.ensures 1000000000 bytes n (omega arith);
+  seeds = c.seeds_are_read.ensures;
   differ = requests_differ;
 }

@@ -4,8 +4,8 @@ use Rattle.request_words.specs.Values.{digit_added}
 use Rattle.request_words.proofs.WordLaws.{number_stops}
 use Rattle.request_words.proofs.values.digits.Goals as goal
 
-pub returns-in-None : goal.returns-in-None
-returns-in-None c =
+pub returns-in-None-clause-value : goal.returns-in-None-clause-value
+returns-in-None-clause-value c =
     let i = c.loop-byte.byte-index in
     let bytes = c.args.bytes.now in
     let none : digit_added c.args.most c.loop-byte.number (get_or bytes i 0) ≡ None = sym c.with_digit.ensures.value ∙ c.in-None.is in
