@@ -1,0 +1,5 @@
+mod Rows
+mod Weights
+mod Sized
+mod Steps
+mod Shapes
