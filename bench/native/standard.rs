@@ -272,6 +272,18 @@ impl String {
     pub fn as_str(&self) -> &str {
         &self.s
     }
+    pub fn from_utf8(bytes: Vec<u8>) -> Result<Self, std::string::FromUtf8Error> {
+        std::string::String::from_utf8(bytes.v).map(|s| String { s })
+    }
+    pub fn into_bytes(self) -> Vec<u8> {
+        Vec {
+            v: self.s.into_bytes(),
+        }
+    }
+    pub fn write_fmt(&mut self, text: core::fmt::Arguments<'_>) -> Result<(), AllocError> {
+        use core::fmt::Write;
+        self.s.write_fmt(text).map_err(|_| AllocError)
+    }
     pub fn of(s: std::string::String) -> Self {
         String { s }
     }
@@ -279,6 +291,29 @@ impl String {
 pub mod collections {
     use super::alloc::*;
     use core::hash::Hash;
+    pub struct VecDeque<T> {
+        d: std::collections::VecDeque<T>,
+    }
+    impl<T> core::ops::Deref for VecDeque<T> {
+        type Target = std::collections::VecDeque<T>;
+        fn deref(&self) -> &Self::Target {
+            &self.d
+        }
+    }
+    impl<T> VecDeque<T> {
+        pub fn new(_: Global) -> Self {
+            VecDeque {
+                d: std::collections::VecDeque::new(),
+            }
+        }
+        pub fn push_back(&mut self, x: T) -> Result<(), AllocError> {
+            self.d.push_back(x);
+            Ok(())
+        }
+        pub fn pop_front(&mut self) -> Option<T> {
+            self.d.pop_front()
+        }
+    }
     pub struct HashMap<K, V> {
         m: std::collections::HashMap<K, V>,
     }

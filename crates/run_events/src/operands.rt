@@ -1,0 +1,80 @@
+ghost use Rattle.std.specs.Prelude.{◌≡◌, ◌≤◌, length};
+ghost use Rattle.slot_code.specs.Slots.{get, slots_of};
+ghost use Rattle.run_events.specs.Told as told;
+
+use slot_code::Instruction;
+
+/// What stands in the slot of an instruction and in the two behind it, before it is done: its operands, from the first on. Of a
+/// call that gave something they are the place to return to, what was returned, and whether something was.
+#[derive(Clone, Copy, Debug, PartialEq, Eq)]
+pub struct Operands {
+    pub first: i128,
+    pub second: i128,
+    pub third: i128,
+}
+
+/// The value of a slot, and 0 where there is none.
+pub(crate) fn value_in(slots: &[i128], slot: usize) -> i128
+    ensures { result ≡ get slots.now slot }
+{
+    match slots.get(slot) {
+        Some(value) => *value,
+        None => 0,
+    }
+}
+
+// The values in three slots from this one on.
+fn values_from(slots: &[i128], slot: usize) -> Operands
+    requires { slot ≤ length slots.now }
+    ensures { result ≡ told.values_from slots.now slot }
+{
+    Operands {
+        first: value_in(slots, slot),
+        second: value_in(slots, slot + 1),
+        third: value_in(slots, slot + 2),
+    }
+}
+
+// The slot in which the operands of an instruction begin.
+fn operand_slot(instruction: Instruction) -> usize
+    ensures slot { result ≡ told.operand_slot instruction }
+    ensures low { result ≤ slots_of instruction }
+{
+    match instruction {
+        Instruction::Constant(slot, _) => slot,
+        Instruction::Read(slot, _) => slot,
+        Instruction::Element(slot, _, _, _) => slot,
+        Instruction::Locate(slot, _, _, _) => slot,
+        Instruction::Load(slot, _) => slot,
+        Instruction::Store(slot, _) => slot,
+        Instruction::Convert(slot, _) => slot,
+        Instruction::Negate(slot, _, _) => slot,
+        Instruction::Complement(slot, _, _) => slot,
+        Instruction::Not(slot) => slot,
+        Instruction::Truth(slot) => slot,
+        Instruction::Binary(slot, _, _, _) => slot,
+        Instruction::Update(slot, _, _, _, _, _) => slot,
+        Instruction::Change(slot, _, _, _, _, _) => slot,
+        Instruction::Draw(slot, _) => slot,
+        Instruction::Fill(_, _, _) => 0,
+        Instruction::Begin(slot, _, _, _) => slot,
+        Instruction::Bind(slot, _) => slot,
+        Instruction::Jump(_) => 0,
+        Instruction::SkipZero(slot, _) => slot,
+        Instruction::SkipEqual(slot, _, _) => slot,
+        Instruction::Turn(_, _) => 0,
+        Instruction::Call(_, _, slot) => slot,
+        Instruction::Take(_, _, from, _) => from,
+        Instruction::Return(slot) => slot,
+        Instruction::Fail(_, _) => 0,
+        Instruction::Stop => 0,
+    }
+}
+
+/// The operands of an instruction.
+pub(crate) fn operands_of(slots: &[i128], instruction: Instruction) -> Operands
+    requires { slots_of instruction ≤ length slots.now }
+    ensures { result ≡ told.operands_of slots.now instruction }
+{
+    values_from(slots, operand_slot(instruction))
+}

@@ -1,0 +1,3 @@
+mod Whole
+mod Starts
+mod Places

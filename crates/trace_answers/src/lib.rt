@@ -1,0 +1,10 @@
+//! What `trace SOURCE RUN` answers: the run of a source on the values of a run file, told line by line, and at its end the line that
+//! `lazic replay` prints.
+#![tactic(auto)]
+
+mod answer;
+mod telling;
+mod top;
+mod words;
+
+pub use top::trace_words;

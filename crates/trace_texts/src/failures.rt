@@ -1,0 +1,78 @@
+ghost use Rattle.std.specs.Prelude.{◌≡◌, ◌++◌, ◌∷◌, [], codes, IfOk, string_bytes};
+ghost use Rattle.std.specs.Fmt.{decimal, signed_decimal};
+ghost use Rattle.lv_base.specs.Names.{error_name};
+ghost use Rattle.trace_texts.specs.Names as names;
+
+use crate::names::{crement_text, operator_text};
+use c_tree::{BinaryOp, Crement};
+use lv_base::{ErrorKind, Memory};
+use std::alloc::Global;
+
+/// The operation that failed, with its operands.
+pub fn operated(alloc: Global, left: i128, op: BinaryOp, right: i128) -> Result<String, Memory>
+    ensures { IfOk result (λ s. string_bytes s ≡ signed_decimal left ++ (codes " " ++ (names.operator_text op ++ (codes " " ++ signed_decimal right)))) }
+{
+    let op = operator_text(op);
+    Ok(format!(in alloc; "{left} {op} {right}")?)
+}
+
+/// The `++` or `--` that failed, with the value before it.
+pub fn changed(alloc: Global, by: Crement, value: i128) -> Result<String, Memory>
+    ensures { IfOk result (λ s. string_bytes s ≡ names.crement_text by ++ (codes " of " ++ signed_decimal value)) }
+{
+    let by = crement_text(by);
+    Ok(format!(in alloc; "{by} of {value}")?)
+}
+
+/// An index outside its array.
+pub fn no_element(alloc: Global, name: &str, index: i128, count: usize) -> Result<String, Memory>
+    ensures { IfOk result (λ s. string_bytes s ≡ name.now ++ (codes "[" ++ (signed_decimal index ++ (codes "], of " ++ (decimal count ++ codes " elements"))))) }
+{
+    Ok(format!(in alloc; "{name}[{index}], of {count} elements")?)
+}
+
+/// A value that a function did not return.
+pub fn absent(alloc: Global, name: &str) -> Result<String, Memory>
+    ensures { IfOk result (λ s. string_bytes s ≡ name.now ++ codes " returned no value") }
+{
+    Ok(format!(in alloc; "{name} returned no value")?)
+}
+
+/// The minus that failed, with its operand.
+pub fn negated(alloc: Global, value: i128) -> Result<String, Memory>
+    ensures { IfOk result (λ s. string_bytes s ≡ codes "-(" ++ (signed_decimal value ++ codes ")")) }
+{
+    Ok(format!(in alloc; "-({value})")?)
+}
+
+/// A value that is none of a kind.
+pub fn unfit(alloc: Global, value: i128, kind: &str) -> Result<String, Memory>
+    ensures { IfOk result (λ s. string_bytes s ≡ signed_decimal value ++ (codes " is no " ++ kind.now)) }
+{
+    Ok(format!(in alloc; "{value} is no {kind}")?)
+}
+
+/// What the run asks for that is not given.
+pub fn wanting(alloc: Global, at: &str, what: &str) -> Result<String, Memory>
+    ensures { IfOk result (λ s. string_bytes s ≡ at.now ++ (what.now ++ 10 ∷ [])) }
+{
+    Ok(format!(in alloc; "{at}{what}\n")?)
+}
+
+/// An error, with what failed.
+pub fn broken(alloc: Global, at: &str, kind: ErrorKind, what: &str) -> Result<String, Memory>
+    ensures { IfOk result (λ s. string_bytes s ≡ at.now ++ (error_name kind ++ (codes ": " ++ (what.now ++ 10 ∷ [])))) }
+{
+    let kind = kind.name();
+    Ok(format!(in alloc; "{at}{kind}: {what}\n")?)
+}
+
+/// A mark behind so many columns.
+pub fn caret(alloc: Global, columns: usize) -> Result<String, Memory> {
+    let mut text = String::new(alloc);
+    for _ in 0..columns {
+        text.push_str(" ")?;
+    }
+    text.push_str("^\n")?;
+    Ok(text)
+}
