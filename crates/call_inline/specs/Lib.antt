@@ -1,2 +1,3 @@
 pub mod Inlining
 pub mod Copying
+pub mod Sizes

@@ -1,13 +1,14 @@
-ghost use Rattle.std.specs.Prelude.{◌≡◌, IfOk, IsTrue, Some, slice_get};
+ghost use Rattle.std.specs.Prelude.{◌≡◌, IfErr, IfOk, IsTrue, Some, slice_get};
 ghost use Rattle.c_graph.specs.declared.graph.Node.TheVariants.{Error};
 ghost use Rattle.c_graph.specs.Parts.{error_flow};
 ghost use Rattle.call_inline.specs.Inlining.{Inlines};
 ghost use Rattle.call_inline.specs.Copying.{AllErrorsStand, ErrorsStand, StandsAt};
+ghost use Rattle.call_inline.specs.Sizes.{TooMany};
 
 use crate::copies::copies_of;
 use crate::edges::{edges_of_all, goal_at};
 use crate::numbers::{Copied, entry_of, main_of, nodes_of, number};
-use crate::sizes::sizes_of;
+use crate::sizes::{Size, known, sizes_of};
 use bv_term::Terms;
 use c_graph::{FnGraph, FnGraphs, Graph, LoopAt, Node, NodeId, graph_from};
 use lv_base::{ErrorKind, Memory, SourceFail};
@@ -21,13 +22,15 @@ const NODES: u8 = 5;
 
 /// The graph of `main` in which each call is a copy of the called function's graph.
 ///
-/// Fails with `Over` for limit 5, with the number of nodes, where these are more than 65,536 (with the greatest number of 64 bits
-/// where functions call one another in a ring), else with `Memory`. It takes time in proportion to the graph that it makes.
+/// Fails with `Over` for limit 5, with the number of nodes, where these are more than 65,536, else with `Memory`. Functions that call
+/// one another in a ring, which those of a program don't, give the graph that is an error at its entry. It takes time in proportion to
+/// the graph that it makes.
 pub fn inline(alloc: Global, graphs: &FnGraphs) -> Result<Graph, SourceFail>
-    ensures { IfOk result (λ g. Inlines graphs.now g) }
+    ensures made { IfOk result (λ g. Inlines graphs.now g) }
+    ensures limit { IfErr result (TooMany graphs.now) }
 {
     let sizes = sizes_of(alloc, graphs.graphs())?;
-    let size = size_of(&sizes, graphs.main());
+    let size = known(&sizes, graphs.main());
     if size > MOST_NODES {
         return Err(SourceFail::Over(NODES, size));
     }
@@ -77,16 +80,8 @@ fn error_graph(alloc: Global) -> Result<Graph, Memory>
     )
 }
 
-// How many nodes a copy of a function has, with those of all that it calls.
-fn size_of(sizes: &[u64], function: u32) -> u64 {
-    match sizes.get(function as usize) {
-        None => 0,
-        Some(size) => *size,
-    }
-}
-
 // For each function how far each of its nodes stands behind the first of a copy.
-fn offsets_of(alloc: Global, graphs: &[FnGraph], sizes: &[u64]) -> Result<Vec<Vec<u32>>, Memory> {
+fn offsets_of(alloc: Global, graphs: &[FnGraph], sizes: &[Size]) -> Result<Vec<Vec<u32>>, Memory> {
     let mut all = Vec::new(alloc);
     for graph in graphs {
         all.push(offsets_in(alloc, graph, sizes)?)?;
@@ -94,13 +89,13 @@ fn offsets_of(alloc: Global, graphs: &[FnGraph], sizes: &[u64]) -> Result<Vec<Ve
     Ok(all)
 }
 
-fn offsets_in(alloc: Global, graph: &FnGraph, sizes: &[u64]) -> Result<Vec<u32>, Memory> {
+fn offsets_in(alloc: Global, graph: &FnGraph, sizes: &[Size]) -> Result<Vec<u32>, Memory> {
     let mut offsets = Vec::new(alloc);
     let mut offset = 0u64;
     for node in graph.nodes() {
         offsets.push(u32::try_from(offset).unwrap_or(u32::MAX))?;
         let inner = match *node {
-            Node::Call(callee, _) => size_of(sizes, callee),
+            Node::Call(callee, _) => known(sizes, callee),
             Node::Plain | Node::Error(_, _) | Node::End => 0,
         };
         offset = offset.saturating_add(1).saturating_add(inner);

@@ -14,7 +14,7 @@
 //! What is proved is that the answer is an inlining (`specs/Inlining.antt`) of the functions' graphs: each edge stands in each copy, a
 //! call leads into a copy that goes on where the call does, and each error node is there in each copy. That no error node is set
 //! twice is tested when all copies are made; copies that fail the test, as copies that make no graph, give the graph that is an error
-//! at its entry. Which numbers nodes have, and that the limit on nodes is exact, no contract says.
+//! at its entry. Which numbers nodes have no contract says; of the limit on nodes, that it is told only where the copies have more.
 #![tactic(auto)]
 
 mod copies;
@@ -25,3 +25,4 @@ mod sizes;
 
 pub use inlining::inline;
 pub use numbers::Copied;
+pub use sizes::Size;

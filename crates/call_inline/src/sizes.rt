@@ -1,15 +1,21 @@
 //! How many nodes the copies of functions have, with those of all that they call.
 
+ghost use Rattle.std.specs.Prelude.{◌≡◌, ◌≤◌, ℕ, slice_get, IfOk};
+ghost use Rattle.call_inline.specs.Inlining.{nodes_of};
+ghost use Rattle.call_inline.specs.Sizes.{AreBelow, AreSizes, nodes_among, nodes_at};
+
 use c_graph::{FnGraph, Node};
 use lv_base::Memory;
 use std::alloc::Global;
 
-/// What is known of a function's size.
+/// What is known of a function's size. What is said of sizes speaks of these.
 #[derive(Clone, Copy)]
-enum Size {
+pub enum Size {
+    /// It was not looked at.
     Unknown,
     /// Its calls are being looked at.
     Open,
+    /// A copy has so many nodes, with those of all that it calls.
     Known(u64),
 }
 
@@ -22,23 +28,24 @@ struct Visit {
 
 /// How many nodes a copy of each function has, with those of all that it calls. It goes over calls and not into them, so no depth
 /// of calls matters.
-pub(crate) fn sizes_of(alloc: Global, graphs: &[FnGraph]) -> Result<Vec<u64>, Memory> {
+pub(crate) fn sizes_of(alloc: Global, graphs: &[FnGraph]) -> Result<Vec<Size>, Memory>
+    ensures { IfOk result (λ s. AreSizes graphs.now s.items) }
+{
     let mut sizes = vec![in alloc; Size::Unknown; graphs.len()]?;
     for function in 0..graphs.len() {
         find_size(alloc, graphs, function, &mut sizes)?;
     }
-    let mut found = Vec::new(alloc);
-    for size in &sizes {
-        found.push(known(*size))?;
-    }
-    Ok(found)
+    Ok(sizes)
 }
 
-// A function that calls itself, by others or not, has copies without end.
-fn known(size: Size) -> u64 {
-    match size {
-        Size::Known(size) => size,
-        Size::Unknown | Size::Open => u64::MAX,
+/// How many nodes a copy of a function has, with those of all that it calls. The search finds the size of each function, unless it calls
+/// itself, by others or not: its copies would have no end, and count for nothing.
+pub(crate) fn known(sizes: &[Size], function: u32) -> u64
+    ensures { (size : ℕ → ℕ) → AreBelow size sizes.now → result ≤ size function }
+{
+    match sizes.get(function as usize) {
+        Some(Size::Known(nodes)) => *nodes,
+        _ => 0,
     }
 }
 
@@ -58,7 +65,9 @@ fn find_size(
     graphs: &[FnGraph],
     function: usize,
     sizes: &mut Vec<Size>,
-) -> Result<(), Memory> {
+) -> Result<(), Memory>
+    ensures { AreSizes graphs.now sizes.old.items → AreSizes graphs.now sizes.new.items }
+{
     let mut open = Vec::new(alloc);
     enter(function, sizes, &mut open)?;
     for _ in 0..most_steps(graphs) {
@@ -71,7 +80,9 @@ fn find_size(
 }
 
 // A function that was not looked at is.
-fn enter(function: usize, sizes: &mut Vec<Size>, open: &mut Vec<Visit>) -> Result<(), Memory> {
+fn enter(function: usize, sizes: &mut Vec<Size>, open: &mut Vec<Visit>) -> Result<(), Memory>
+    ensures { (size : ℕ → ℕ) → AreBelow size sizes.old.items → AreBelow size sizes.new.items }
+{
     if function < sizes.len() && matches!(sizes[function], Size::Unknown) {
         sizes[function] = Size::Open;
         open.push(Visit { function, node: 0 })?;
@@ -85,12 +96,12 @@ fn go_on(
     visit: Visit,
     sizes: &mut Vec<Size>,
     open: &mut Vec<Visit>,
-) -> Result<(), Memory> {
-    let Some(graph) = graphs.get(visit.function) else {
-        return Ok(());
-    };
-    for node in visit.node..graph.nodes().len() {
-        if let Node::Call(callee, _) = graph.nodes()[node] {
+) -> Result<(), Memory>
+    ensures { AreSizes graphs.now sizes.old.items → AreSizes graphs.now sizes.new.items }
+{
+    let own = own_nodes(graphs, visit.function);
+    for node in visit.node..own.len() {
+        if let Node::Call(callee, _) = own[node] {
             let callee = callee as usize;
             if callee < sizes.len() && matches!(sizes[callee], Size::Unknown) {
                 open.push(Visit {
@@ -101,22 +112,47 @@ fn go_on(
             }
         }
     }
-    let size = sum(graph, sizes);
-    if visit.function < sizes.len() {
-        sizes[visit.function] = Size::Known(size);
-    }
+    let nodes = sum(own, sizes);
+    set_size(sizes, visit.function, nodes);
     Ok(())
 }
 
-// The nodes of a function's graph and of the copies in it.
-fn sum(graph: &FnGraph, sizes: &[Size]) -> u64 {
-    let mut size = graph.nodes().len() as u64;
-    for node in graph.nodes() {
-        if let Node::Call(callee, _) = *node {
-            if let Some(callee) = sizes.get(callee as usize) {
-                size = size.saturating_add(known(*callee));
-            }
-        }
+// The nodes of a function's own graph.
+fn own_nodes(graphs: &[FnGraph], function: usize) -> &[Node]
+    ensures { result.now ≡ nodes_of (slice_get graphs.now function) }
+{
+    match graphs.get(function) {
+        None => &[],
+        Some(graph) => graph.nodes(),
     }
-    size
+}
+
+// The size of a function is known from now on.
+fn set_size(sizes: &mut Vec<Size>, function: usize, nodes: u64)
+    ensures { (size : ℕ → ℕ) → AreBelow size sizes.old.items → nodes ≤ size function → AreBelow size sizes.new.items }
+{
+    if function < sizes.len() {
+        sizes[function] = Size::Known(nodes);
+    }
+}
+
+// The nodes of a function's own graph and of the copies in it.
+fn sum(own: &[Node], sizes: &[Size]) -> u64
+    ensures { (size : ℕ → ℕ) → AreBelow size sizes.now → result ≤ nodes_among size own.now }
+{
+    let mut nodes = 0u64;
+    for node in own {
+        nodes = nodes.saturating_add(nodes_with(*node, sizes));
+    }
+    nodes
+}
+
+// A node, and the copy behind it if it is a call.
+fn nodes_with(node: Node, sizes: &[Size]) -> u64
+    ensures { (size : ℕ → ℕ) → AreBelow size sizes.now → result ≤ nodes_at size node }
+{
+    match node {
+        Node::Call(callee, _) => known(sizes, callee).saturating_add(1),
+        Node::Plain | Node::Error(_, _) | Node::End => 1,
+    }
 }

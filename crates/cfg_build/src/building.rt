@@ -1,11 +1,12 @@
 //! The graphs of functions, place by place.
 
-ghost use Rattle.std.specs.Prelude.{◌≡◌, ◌==◌, ◌⊎◌, [], length, true, false, slice_get, IfOk, IfSome, IsTrue};
+ghost use Rattle.std.specs.Prelude.{◌≡◌, ◌==◌, ◌⊎◌, [], length, true, false, slice_get, IfErr, IfOk, IfSome, IsTrue};
 ghost use Rattle.c_graph.specs.Parts.{error_flows};
 ghost use Rattle.c_terms.specs.Shown.{Grows};
 ghost use Rattle.code_moves.specs.Setting.{setting_of, Stands};
 ghost use Rattle.cfg_build.specs.Follows.{plan_of};
 ghost use Rattle.cfg_build.specs.Graphs as of;
+ghost use Rattle.cfg_build.specs.Sizes.{IsWithin, TooMuch};
 
 use crate::draft::Draft;
 use crate::fitting::is_fitting;
@@ -13,7 +14,7 @@ use crate::looping::loops_in;
 use crate::opening::add_opening;
 use crate::placing::{Places, Range, Whole, add_places, node_of};
 use crate::ranging::{entries_of, is_placed, main_of, ranges_of};
-use crate::steps::nodes_at;
+use crate::sizes::{few_nodes, nodes_at};
 use bv_term::Terms;
 use c_graph::{FnGraph, FnGraphs, LoopAt, NodeId, function_graphs_from};
 use c_rules::Examined;
@@ -26,24 +27,21 @@ use slot_code::Instruction;
 use slot_compiler::{compiled, slots_in};
 use std::alloc::Global;
 
-/// The most nodes of all function graphs together.
-const MOST_NODES: u64 = 65_536;
-
-/// The limit on nodes.
-const NODES: u8 = 5;
-
 /// The graphs of a program's functions, by their numbers.
 ///
 /// Fails with `Over` for limit 4, with the number of cells, where these are more than 65,536; else for limit 5, with the number of
 /// nodes of all graphs, where these are more than 65,536; else with `Memory`. It takes time in proportion to the code.
 pub fn build(alloc: Global, examined: &Examined) -> Result<FnGraphs, SourceFail>
-    ensures { IfOk result (λ p. of.ProgramFollows examined.now.typed examined.now.order p ⊎ (p ≡ error_flows)) }
+    ensures made { IfOk result (λ p. of.ProgramFollows examined.now.typed examined.now.order p ⊎ (p ≡ error_flows)) }
+    ensures within { IfOk result (λ p. IsWithin examined.now.typed examined.now.order) }
+    ensures limits { IfErr result (TooMuch examined.now.typed examined.now.order) }
 {
     let typed = examined.typed();
     let code = compiled(alloc, typed, examined.order())?;
     let slots = slots_in(&code.instructions)?;
     let (objects, model) = (typed.objects(), typed.model());
     let layout = Layout::new(alloc, objects, model, &code.instructions, slots)?;
+    few_nodes(&code.instructions, typed.functions().len())?;
     let ranges = ranges_of(alloc, typed, &code, slots)?;
     let main = main_of(typed);
     let numbers = numbers_of(alloc, &code.instructions, &ranges, main)?;
@@ -85,23 +83,21 @@ fn numbers_of(
     code: &[Instruction],
     ranges: &[Range],
     main: u32,
-) -> Result<Vec<u32>, SourceFail> {
+) -> Result<Vec<u32>, Memory> {
     let mut numbers = vec![in alloc; 0u32; code.len()]?;
-    let mut nodes = 1u64;
     for range in ranges {
-        let first = u32::from(range.function == main);
-        let behind = number_all(code, *range, first, &mut numbers);
-        nodes = nodes.saturating_add(u64::from(behind)).saturating_add(1);
-    }
-    let nodes = nodes.saturating_sub(1);
-    if nodes > MOST_NODES {
-        return Err(SourceFail::Over(NODES, nodes));
+        number_all(
+            code,
+            *range,
+            u32::from(range.function == main),
+            &mut numbers,
+        );
     }
     Ok(numbers)
 }
 
-// The numbers of the places of one function, from one on; answers the number behind them.
-fn number_all(code: &[Instruction], range: Range, first: u32, numbers: &mut Vec<u32>) -> u32 {
+// The numbers of the places of one function, from one on.
+fn number_all(code: &[Instruction], range: Range, first: u32, numbers: &mut Vec<u32>) {
     let mut number = first;
     for place in range.entry..range.end {
         if place < numbers.len() && place < code.len() {
@@ -109,7 +105,6 @@ fn number_all(code: &[Instruction], range: Range, first: u32, numbers: &mut Vec<
             number = number.saturating_add(nodes_at(code[place]));
         }
     }
-    number
 }
 
 // The graphs of functions, and the node at which each returns.

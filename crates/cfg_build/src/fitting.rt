@@ -25,9 +25,9 @@ fn is_in_any(value: i128) -> bool
     i128::from(i64::MIN) <= value && value <= i128::from(u64::MAX)
 }
 
-// Whether promotion leaves a kind as it is.
-fn is_promoted(kind: Kind) -> bool
-    ensures { IsTrue result → int.is_promoted kind ≡ true }
+/// Whether promotion leaves a kind as it is.
+pub(crate) fn is_promoted(kind: Kind) -> bool
+    ensures { result ≡ int.is_promoted kind }
 {
     match kind {
         Kind::Bool | Kind::Char | Kind::UChar | Kind::Short | Kind::UShort => false,

@@ -23,7 +23,8 @@
 //! tested where they are used. `specs/Ranges` says where the code of each function stands, and `specs/Fitting` that constants, kinds
 //! and numbers of elements fit their objects and that each call goes to the entry of a function; both are tested too. So the graphs of
 //! all functions follow the code, each from its function's entry on, and `main`'s is that of the program's `main`; or there are none. Not
-//! said are the nodes of its loops, nor that `build` answers these graphs.
+//! said are the nodes of its loops, nor that `build` answers these graphs. `specs/Sizes` says how many cells and nodes are too many: a
+//! limit is told only of a program that passes it.
 #![tactic(auto)]
 
 mod building;
@@ -34,6 +35,7 @@ mod looping;
 mod opening;
 mod placing;
 mod ranging;
+mod sizes;
 mod steps;
 
 pub use building::build;

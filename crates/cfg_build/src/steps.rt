@@ -17,40 +17,11 @@ ghost use Rattle.cfg_build.specs.Steps.{Adds, Behind, Built, Checked, Fork, Goes
 use crate::draft::Draft;
 use bv_term::TermId;
 use c_graph::{Node, NodeId, Operation};
-use c_terms::{Fails, Tests, Words, is_signed, promoted, tests_of};
-use code_moves::{Ground, operation_of};
+use c_terms::{Fails, Tests, Words};
+use code_moves::Ground;
 use lv_base::Memory;
 use slot_code::Instruction;
 use std::alloc::Global;
-
-// How many checks an instruction has.
-fn checks_in(instruction: Instruction) -> u32 {
-    match instruction {
-        Instruction::Element(_, _, _, _) | Instruction::Locate(_, _, _, _) => 1,
-        Instruction::Negate(_, kind, _) => u32::from(is_signed(kind)),
-        Instruction::Binary(_, op, kind, _) => tests_of(op, kind),
-        Instruction::Update(_, op, kind, _, _, _) => tests_of(op, kind),
-        Instruction::Change(_, _, by, kind, _, _) => {
-            if promoted(kind) == kind {
-                tests_of(operation_of(by), kind)
-            } else {
-                0
-            }
-        }
-        Instruction::Take(_, _, _, needed) => u32::from(needed),
-        _ => 0,
-    }
-}
-
-/// How many nodes the place of an instruction has: its own; of two checks one between them; and one for the error of each.
-pub(crate) fn nodes_at(instruction: Instruction) -> u32 {
-    let checks = checks_in(instruction);
-    if checks == 0 {
-        1
-    } else {
-        checks.saturating_mul(2)
-    }
-}
 
 // The offset at which the checks of an instruction fail.
 fn offset_of(instruction: Instruction) -> u32

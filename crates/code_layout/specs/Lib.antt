@@ -1,3 +1,4 @@
 pub mod Reading
 pub mod Layout
 pub mod Lies
+pub mod Limits

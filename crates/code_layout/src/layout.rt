@@ -1,12 +1,13 @@
 //! The cells of a program's graphs: first the elements of its objects, in their order, each as wide as its kind; then a cell of
 //! 64 bits for each slot that some instruction reads; then one for each width that is drawn into a slot, and one for an index that
 //! has to be kept.
-ghost use Rattle.std.specs.Prelude.{◌≡◌, ◌++◌, ◌∷◌, [], length, replicate, false, slice_set, slice_get, true, ◌+◌, IfOk, All};
+ghost use Rattle.std.specs.Prelude.{◌≡◌, ◌++◌, ◌∷◌, [], length, replicate, false, slice_set, slice_get, true, ◌+◌, ◌≤◌, IfOk, IfErr, All};
 ghost use Rattle.bv_term.specs.WellFormed.{IsWidth};
 ghost use Rattle.c_graph.specs.declared.graph.Origin.TheVariants as Origin;
 ghost use Rattle.c_graph.specs.Shape as shape;
 ghost use Rattle.code_layout.specs.Reading as of;
 ghost use Rattle.code_layout.specs.Layout as s;
+ghost use Rattle.code_layout.specs.Limits.{IsOver};
 
 use crate::reading::{Span, reads};
 use c_graph::{Cell, Origin};
@@ -68,7 +69,7 @@ impl Model for Layout {
 impl Layout {
     /// The layout of these objects and this code.
     ///
-    /// Fails with `Over` where there are too many cells.
+    /// Fails with `Over` for limit 4, with the number of cells, where these are more than 65,536; else with `Memory`.
     pub fn new(
         alloc: Global,
         objects: &[Object],
@@ -76,7 +77,9 @@ impl Layout {
         code: &[Instruction],
         slots: usize,
     ) -> Result<Layout, SourceFail>
-        ensures { IfOk result (λ l. l ≡ s.layout_of objects.now model code.now slots) }
+        ensures value { IfOk result (λ l. l ≡ s.layout_of objects.now model code.now slots) }
+        ensures few { IfOk result (λ l. length l.cells ≤ 65536) }
+        ensures limit { IfErr result (IsOver 4 65536 (length (s.layout_of objects.now model code.now slots).cells)) }
     {
         let layout = laid(alloc, objects, model, code, slots)?;
         if layout.cells.len() > MOST_CELLS {

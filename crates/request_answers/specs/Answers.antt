@@ -1,14 +1,15 @@
 -- The answers to requests for checks and verifications, by the files.
-use Rattle.std.specs.Prelude.{ℕ, ◌≡◌, ◌<◌, List, length, Ok, Err}
+use Rattle.std.specs.Prelude.{ℕ, ◌≡◌, ◌<◌, List, length, Err}
 use Rattle.lv_base.specs.Place.{place_at}
 use Rattle.lv_base.specs.declared.kind.Model.{Model}
 use Rattle.lv_base.specs.declared.fail.SourceFail.{SourceFail}
 use Rattle.lv_base.specs.declared.fail.SourceFail.TheVariants as fail
-use Rattle.c_tree.specs.Tree.{Items}
+use Rattle.c_typed.specs.Parts.{Parts, tree_of}
 use Rattle.c_typed.specs.Tree.{Program}
 use Rattle.c_graph.specs.Shape.{Flow, IsFlow}
 use Rattle.source_reading.specs.Reading.{source_read, IsReplay}
 use Rattle.program_graphs.specs.Standing.{StandsFor}
+use Rattle.source_graphs.specs.Refusals.{IsTooBig}
 use Rattle.task_gen.specs.Generated.{generated}
 use Rattle.request_words.specs.Asked.{Asked, Check, Verify, Generate, plain_learn, plain_model, plain_units}
 use Rattle.verdicts.specs.declared.verdict.Verdict.{Verdict}
@@ -28,10 +29,10 @@ limit_for (fail.Over number count) = Over number count
 limit_for (fail.Fault fault at) = NoMemory
 limit_for fail.Memory = NoMemory
 
--- A source of at most 1,048,576 bytes is refused: for what is read of it, or for a limit of its graph.
+-- A source of at most 1,048,576 bytes is refused: for what is read of it, or for a limit that the graphs of its typed tree pass.
 pub data IsRefused (model : Model) (source : List ℕ) (v : Verdict) : Type 0 where
   unread : (e : SourceFail) → source_read model source ≡ Err e → v ≡ refused_for source e → IsRefused model source v
-  over : (tree : Items) (e : SourceFail) → source_read model source ≡ Ok tree → v ≡ limit_for e → IsRefused model source v
+  over : (t : Parts) (order : List ℕ) (e : SourceFail) → IsReplay model source (tree_of t) → IsTooBig t order e → v ≡ limit_for e → IsRefused model source v
   no_memory : v ≡ NoMemory → IsRefused model source v
 
 -- The answer to the check of a certificate's bytes against a source. The graph stands for the typed tree that it was made of.

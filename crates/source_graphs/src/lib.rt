@@ -1,9 +1,10 @@
 //! From a file to the graph of its blocks, for programs that measure or try what is done with such graphs.
 #![tactic(auto)]
 
-ghost use Rattle.std.specs.Prelude.{IfOk};
+ghost use Rattle.std.specs.Prelude.{IfErr, IfOk};
 ghost use Rattle.c_typed.specs.Parts.{tree_of};
 ghost use Rattle.program_graphs.specs.Standing.{StandsFor};
+ghost use Rattle.source_graphs.specs.Refusals.{IsTooBig};
 
 use block_join::join_blocks;
 use c_graph::Graph;
@@ -58,9 +59,10 @@ pub fn examined(alloc: Global, source: &[u8], model: Model) -> Result<Examined, 
 }
 
 /// The graph of a program with each call a copy, a node for each instruction: each run of the program that ends in an error has a run
-/// of the graph to that error.
+/// of the graph to that error. Fails with `Over` for limit 4 or 5.
 pub fn whole_graph(alloc: Global, examined: &Examined) -> Result<Graph, SourceFail>
-    ensures { IfOk result (λ g. StandsFor g (tree_of examined.now.typed)) }
+    ensures stands { IfOk result (λ g. StandsFor g (tree_of examined.now.typed)) }
+    ensures limits { IfErr result (IsTooBig examined.now.typed examined.now.order) }
 {
     orders_agree();
     let typed = examined.typed();
@@ -71,9 +73,11 @@ pub fn whole_graph(alloc: Global, examined: &Examined) -> Result<Graph, SourceFa
     inline(alloc, &graphs)
 }
 
-/// The graph of a program's blocks: each run of the program that ends in an error has a run of the graph to that error.
+/// The graph of a program's blocks: each run of the program that ends in an error has a run of the graph to that error. Fails with
+/// `Over` for limit 4 or 5, which the graph of its instructions passes.
 pub fn blocks_of(alloc: Global, examined: &Examined) -> Result<Graph, SourceFail>
-    ensures { IfOk result (λ g. StandsFor g (tree_of examined.now.typed)) }
+    ensures stands { IfOk result (λ g. StandsFor g (tree_of examined.now.typed)) }
+    ensures limits { IfErr result (IsTooBig examined.now.typed examined.now.order) }
 {
     let graph = whole_graph(alloc, examined)?;
     match join_blocks(alloc, &graph) {

@@ -3,4 +3,4 @@ use Rattle.source_graphs.proofs.Standing.{blocks_stand}
 use Rattle.source_graphs.proofs.blocks_of.Goals as goal
 
 pub returns-in-Ok : goal.returns-in-Ok
-returns-in-Ok c = blocks_stand (tree_of c.args.examined.now.typed) c.in_ok-graph.graph c.in-Ok.blocks c.in_ok-graph.ensures c.in-Ok.ensures
+returns-in-Ok c = blocks_stand (tree_of c.args.examined.now.typed) c.in_ok-graph.graph c.in-Ok.blocks c.in_ok-graph.ensures.stands c.in-Ok.ensures
