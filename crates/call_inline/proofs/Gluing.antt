@@ -1,16 +1,15 @@
 -- The copies, their edges and their error nodes make an inlining.
-use Rattle.std.proofs.Common.{◌≡◌, ℕ, ◌+◌, ◌<◌, ◌≤◌, length, List, [], ◌∷◌, Option, Some, None, map, arith, ap, sym, ◌∙◌, refl, subst, suc, zero, slice_get, eq-eqb, if◌then◌else◌}
+use Rattle.std.proofs.Common.{◌≡◌, ℕ, ◌+◌, ◌<◌, length, List, [], ◌∷◌, Option, Some, None, map, arith, ap, sym, ◌∙◌, refl, subst, suc, zero, slice_get, eq-eqb, if◌then◌else◌}
 use Rattle.std.proofs.lemmas.Option.{slice_get_within}
 use Rattle.c_graph.specs.declared.graph.NodeId.{NodeId}
 use Rattle.c_graph.specs.declared.graph.Node.{Node}
-use Rattle.c_graph.specs.declared.graph.Node.TheVariants.{Error, End, Call}
+use Rattle.c_graph.specs.declared.graph.Node.TheVariants.{End}
 use Rattle.c_graph.specs.declared.graph.Edge.{Edge}
-use Rattle.c_graph.specs.Shape.{Flow}
 use Rattle.c_graph.specs.Functions.{Flows, AreFlows, FnFlow}
 use Rattle.call_inline.specs.declared.numbers.Copied.{Copied}
-use Rattle.call_inline.specs.Inlining.{Among, IsInlining, edges_in, entry_in, nodes_in, nodes_of, step}
-use Rattle.call_inline.specs.Copying.{AllErrorsStand, AreFollowed, Offsets, all_edges, called, calls_of, copy_edges, each_from, goal_of, is_at, leads_of, led, main_copy, moved, node, number_of}
-use Rattle.call_inline.proofs.Lists.{among-front, among-back, among-map, get-there}
+use Rattle.call_inline.specs.Inlining.{Among, edges_in, nodes_in, nodes_of, step}
+use Rattle.call_inline.specs.Copying.{Offsets, all_edges, copy_edges, each_from, goal_of, is_at, leads_of, led, moved, node, number_of}
+use Rattle.call_inline.proofs.Lists.{among-front, among-back, get-there}
 
 -- what a node of a list gives is among what all give
 in-each : {X : Type 0} → (f : ℕ → Node → List X) (n : ℕ) (xs : List Node) (k : ℕ) (x : Node) (y : X)
@@ -24,12 +23,12 @@ in-each f n (z ∷ xs) (suc k) x y s a =
     let o : n + suc k ≡ (n + 1) + k = omega arith in
     among-back (f n z) (each_from f (n + 1) xs) y (in-each f (n + 1) xs k x y s (subst (λ m. Among (f m x) y) o a))
 
-in-first : {X : Type 0} → (f : ℕ → Node → List X) (xs : List Node) (k : ℕ) (x : Node) (y : X)
+pub in-first : {X : Type 0} → (f : ℕ → Node → List X) (xs : List Node) (k : ℕ) (x : Node) (y : X)
     → slice_get xs k ≡ Some x → Among (f k x) y → Among (each_from f 0 xs) y
 in-first f xs k x y s a = let o : k ≡ 0 + k = omega arith in in-each f 0 xs k x y s (subst (λ m. Among (f m x) y) o a)
 
 -- an edge of a copy is among all
-in-all : (p : Flows) (offsets : Offsets) (copies : List Copied) (c : Copied) (e : Edge)
+pub in-all : (p : Flows) (offsets : Offsets) (copies : List Copied) (c : Copied) (e : Edge)
     → Among copies c → Among (copy_edges p offsets c) e → Among (all_edges p offsets copies) e
 in-all p offsets [] c e (k, s) a = absurd (cc)
 in-all p offsets (z ∷ copies) c e (zero, s) a =
@@ -39,7 +38,7 @@ in-all p offsets (z ∷ copies) c e (suc k, s) a =
     among-back (copy_edges p offsets z) (all_edges p offsets copies) e (in-all p offsets copies c e (k, s) a)
 
 -- a node with a goal has its edge
-in-leads : (p : Flows) (offsets : Offsets) (copies : List Copied) (c : Copied) (v to : NodeId) (x : Node)
+pub in-leads : (p : Flows) (offsets : Offsets) (copies : List Copied) (c : Copied) (v to : NodeId) (x : Node)
     → Among copies c → slice_get (nodes_in p c.function) v.0 ≡ Some x → goal_of p offsets c v.0 x ≡ Some to
     → Among (all_edges p offsets copies) (step (number_of offsets c v) to)
 in-leads p offsets copies c v to x at s goal =
@@ -51,47 +50,14 @@ in-leads p offsets copies c v to x at s goal =
     (in-first (leads_of p offsets c) (nodes_in p c.function) v.0 x e s lead))
 
 -- a function's exit is an end node of it
-exit-ends : (p : Flows) (k : ℕ) (v : NodeId) → AreFlows p → slice_get p.exits k ≡ Some v → slice_get (nodes_in p k) v.0 ≡ Some End
+pub exit-ends : (p : Flows) (k : ℕ) (v : NodeId) → AreFlows p → slice_get p.exits k ≡ Some v → slice_get (nodes_in p k) v.0 ≡ Some End
 exit-ends p k v flows s =
     let lt : k < length p.exits = slice_get_within p.exits k v s in
     let f = get-there p.graphs k (omega (arith, lt, flows.exits)) in
     subst (λ (o : Option FnFlow). slice_get (nodes_of o) v.0 ≡ Some End) (sym f.1) (flows.returns k f.0 v f.1 s)
 
 -- the goal of an exit
-exit-goal : (p : Flows) (offsets : Offsets) (c : Copied) (v back : NodeId) → slice_get p.exits c.function ≡ Some v → c.back ≡ Some back
+pub exit-goal : (p : Flows) (offsets : Offsets) (c : Copied) (v back : NodeId) → slice_get p.exits c.function ≡ Some v → c.back ≡ Some back
     → goal_of p offsets c v.0 End ≡ Some back
 exit-goal p offsets c v back s b =
     ap (λ o. if is_at o v.0 then c.back else None) s ∙ ap (λ t. if t then c.back else None) (eq-eqb v.0 v.0 refl) ∙ b
-
-pub inlined : (p : Flows) (offsets : Offsets) (n : ℕ) (copies : List Copied) (g : Flow)
-    → AreFlows p → slice_get copies 0 ≡ Some (main_copy p) → AreFollowed p offsets n copies → length copies ≤ n
-    → AllErrorsStand p offsets g.nodes copies → g.edges ≡ all_edges p offsets copies
-    → g.entry ≡ number_of offsets (main_copy p) (entry_in p p.main) → g.cells ≡ p.cells → g.terms ≡ p.terms
-    → IsInlining p g
-inlined p offsets n copies g flows first followed few stand ee ey ec et = record {
-  copies = copies;
-  number = number_of offsets;
-  main = (main_copy p, first, refl, refl, ey);
-  edges = λ c e at own.
-      let m : Edge = moved offsets c e in
-      subst (λ es. Among es m) (sym ee)
-      (in-all p offsets copies c m at
-      (among-back (each_from (leads_of p offsets c) 0 (nodes_in p c.function)) (map (moved offsets c) (edges_in p c.function)) m
-      (among-map (moved offsets c) (edges_in p c.function) e own)));
-  calls = λ c v callee next at s.
-      let d : Copied = called offsets c v.0 callee next in
-      let lt : at.0 < length copies = slice_get_within copies at.0 c at.1 in
-      let to : NodeId = number_of offsets d (entry_in p callee) in (
-        d,
-        followed at.0 c d (omega (arith, lt, few)) at.1 (in-first (calls_of offsets c) (nodes_in p c.function) v.0 (Call callee next) d s (0, refl)),
-        refl,
-        refl,
-        subst (λ es. Among es (step (number_of offsets c v) to)) (sym ee) (in-leads p offsets copies c v to (Call callee next) at s refl),
-      );
-  returns = λ c v back at s b.
-      subst (λ es. Among es (step (number_of offsets c v) back)) (sym ee)
-      (in-leads p offsets copies c v back End at (exit-ends p c.function v flows s) (exit-goal p offsets c v back s b));
-  errors = λ c v kind offset at s. stand c at v.0 (Error kind offset) s;
-  cells = ec;
-  terms = et;
-}

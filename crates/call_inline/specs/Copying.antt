@@ -1,5 +1,6 @@
 -- Which copies there are, how their nodes are numbered, and which edges they have.
-use Rattle.std.specs.Prelude.{ℕ, ◌+◌, ◌<◌, ◌≡◌, ◌==◌, Bool, false, List, [], ◌∷◌, ◌++◌, map, min, Option, None, Some, slice_get, if◌then◌else◌, Vec}
+use Rattle.std.specs.Prelude.{ℕ, ◌+◌, ◌<◌, ◌≡◌, ◌==◌, Bool, true, false, List, [], ◌∷◌, ◌++◌, map, min, replicate, Option, None, Some, slice_get, slice_set, slice_index_or, if◌then◌else◌, Vec}
+use Rattle.lv_base.specs.declared.fault.ErrorKind.{ErrorKind}
 use Rattle.std.proofs.Common.{Global}
 use Rattle.c_graph.specs.declared.graph.NodeId.{NodeId}
 use Rattle.c_graph.specs.declared.graph.Node.{Node}
@@ -93,14 +94,18 @@ abbrev pub all_edges : Flows → Offsets → List Copied → List Edge
 all_edges p offsets [] = []
 all_edges p offsets (c ∷ cs) = copy_edges p offsets c ++ all_edges p offsets cs
 
--- an error node stands at its number
-abbrev pub StandsAt : List Node → NodeId → Node → Type 0
-StandsAt nodes v Plain = Unit {0}
-StandsAt nodes v (Error kind at) = slice_get nodes v.0 ≡ Some (Error kind at)
-StandsAt nodes v End = Unit {0}
-StandsAt nodes v (Call callee next) = Unit {0}
+-- no error node stands there
+abbrev pub NoError : List Node → NodeId → Type 0
+NoError nodes v = (kind : ErrorKind) (at : ℕ) → slice_get nodes v.0 ≡ Some (Error kind at) → ⊥
 
--- the error nodes of a copy stand at their numbers
+-- an error node stands at its number, and none at that of another node
+abbrev pub StandsAt : List Node → NodeId → Node → Type 0
+StandsAt nodes v Plain = NoError nodes v
+StandsAt nodes v (Error kind at) = slice_get nodes v.0 ≡ Some (Error kind at)
+StandsAt nodes v End = NoError nodes v
+StandsAt nodes v (Call callee next) = NoError nodes v
+
+-- the error nodes of a copy stand at their numbers, and no others
 abbrev pub ErrorsStand : Flows → Offsets → List Node → Copied → Type 0
 ErrorsStand p offsets nodes c =
     (n : ℕ) (x : Node) → slice_get (nodes_in p c.function) n ≡ Some x → StandsAt nodes (number_of offsets c (node n)) x
@@ -108,3 +113,31 @@ ErrorsStand p offsets nodes c =
 -- those of all copies do
 abbrev pub AllErrorsStand : Flows → Offsets → List Node → List Copied → Type 0
 AllErrorsStand p offsets nodes copies = (c : Copied) → Among copies c → ErrorsStand p offsets nodes c
+
+-- ---- Numbers
+
+-- the numbers of a copy's nodes, the first being node n
+abbrev pub numbers_from : Offsets → Copied → ℕ → List Node → List ℕ
+numbers_from offsets c n [] = []
+numbers_from offsets c n (x ∷ xs) = (number_of offsets c (node n)).0 ∷ numbers_from offsets c (n + 1) xs
+
+abbrev pub numbers_of : Flows → Offsets → Copied → List ℕ
+numbers_of p offsets c = numbers_from offsets c 0 (nodes_in p c.function)
+
+-- those of all copies
+abbrev pub all_numbers : Flows → Offsets → List Copied → List ℕ
+all_numbers p offsets [] = []
+all_numbers p offsets (c ∷ cs) = numbers_of p offsets c ++ all_numbers p offsets cs
+
+-- with a mark for a number that had none
+abbrev pub mark_in : List Bool → ℕ → Option (List Bool)
+mark_in marks n = if slice_index_or marks n true then None else Some (slice_set marks n true)
+
+abbrev pub marked_all : Option (List Bool) → List ℕ → Option (List Bool)
+marked_all None ns = None
+marked_all (Some marks) [] = Some marks
+marked_all (Some marks) (n ∷ ns) = marked_all (mark_in marks n) ns
+
+-- each number gets its mark, and none had one
+abbrev pub AreApart : ℕ → List ℕ → Type 0
+AreApart size ns = (marks : List Bool) × (marked_all (Some (replicate size false)) ns ≡ Some marks)

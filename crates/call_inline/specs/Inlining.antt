@@ -5,7 +5,7 @@ use Rattle.c_graph.specs.declared.graph.NodeId.{NodeId}
 use Rattle.c_graph.specs.declared.graph.Node.{Node}
 use Rattle.c_graph.specs.declared.graph.Node.TheVariants.{Error, Call}
 use Rattle.c_graph.specs.declared.graph.Edge.{Edge}
-use Rattle.c_graph.specs.Shape.{Flow}
+use Rattle.c_graph.specs.Shape.{Flow, IsNodeOf}
 use Rattle.c_graph.specs.Functions.{FnFlow, Flows}
 use Rattle.c_graph.specs.Parts.{error_flow}
 use Rattle.call_inline.specs.declared.numbers.Copied.{Copied}
@@ -40,9 +40,37 @@ Among xs x = (k : ℕ) × (slice_get xs k ≡ Some x)
 abbrev pub step : NodeId → NodeId → Edge
 step from to = record { from = from; to = to; ops = [] }
 
+module _ (p : Flows) (copies : List Copied) (number : Copied → NodeId → NodeId) where
+  -- an edge of a function, in a copy
+  pub record IsOwn (c : Copied) (e : Edge) : Type 0 where
+    pub own : Edge
+    pub there : Among (edges_in p c.function) own
+    pub is : e ≡ record { from = number c own.from; to = number c own.to; ops = own.ops }
+
+  -- an edge from a call to the entry of a copy that goes on where the call does
+  pub record IsCall (c : Copied) (e : Edge) : Type 0 where
+    pub node : NodeId
+    pub callee : ℕ
+    pub next : NodeId
+    pub copy : Copied
+    pub there : slice_get (nodes_in p c.function) node.0 ≡ Some (Call callee next)
+    pub among : Among copies copy
+    pub function : copy.function ≡ callee
+    pub back : copy.back ≡ Some (number c next)
+    pub is : e ≡ step (number c node) (number copy (entry_in p callee))
+
+  -- an edge from an exit to where the copy goes on
+  pub record IsReturn (c : Copied) (e : Edge) : Type 0 where
+    pub exit : NodeId
+    pub back : NodeId
+    pub there : slice_get p.exits c.function ≡ Some exit
+    pub goes_on : c.back ≡ Some back
+    pub is : e ≡ step (number c exit) back
+
 -- The graph g has copies of the functions' graphs, and a number for each node of each copy. The first copy is that of main, which
 -- goes on nowhere. Each edge of a function stands in each copy of it. A call leads to the entry of a copy of the called function that
 -- goes on where the call does; the exit of a copy leads there. An error node of a function is the same error node in each copy.
+-- The graph has no other edges, each node of each copy has a number of its own, and what stands there as an error is one in the function.
 pub record IsInlining (p : Flows) (g : Flow) : Type 0 where
   pub copies : List Copied
   pub number : Copied → NodeId → NodeId
@@ -61,6 +89,13 @@ pub record IsInlining (p : Flows) (g : Flow) : Type 0 where
   pub errors :
       (c : Copied) (v : NodeId) (kind : ErrorKind) (at : ℕ) → Among copies c
       → slice_get (nodes_in p c.function) v.0 ≡ Some (Error kind at) → slice_get g.nodes (number c v).0 ≡ Some (Error kind at)
+  pub only : (e : Edge) → Among g.edges e → (c : Copied) × Among copies c × (IsOwn p copies number c e ⊎ (IsCall p copies number c e ⊎ IsReturn p copies number c e))
+  pub apart :
+      (c d : Copied) (v w : NodeId) → Among copies c → Among copies d → IsNodeOf (nodes_in p c.function) v → IsNodeOf (nodes_in p d.function) w
+      → number c v ≡ number d w → (c ≡ d) × (v ≡ w)
+  pub own_errors :
+      (c : Copied) (v : NodeId) (kind : ErrorKind) (at : ℕ) → Among copies c → IsNodeOf (nodes_in p c.function) v
+      → slice_get g.nodes (number c v).0 ≡ Some (Error kind at) → slice_get (nodes_in p c.function) v.0 ≡ Some (Error kind at)
   pub cells : g.cells ≡ p.cells
   pub terms : g.terms ≡ p.terms
 

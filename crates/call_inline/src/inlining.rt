@@ -2,9 +2,10 @@ ghost use Rattle.std.specs.Prelude.{◌≡◌, IfErr, IfOk, IsTrue, Some, slice_
 ghost use Rattle.c_graph.specs.declared.graph.Node.TheVariants.{Error};
 ghost use Rattle.c_graph.specs.Parts.{error_flow};
 ghost use Rattle.call_inline.specs.Inlining.{Inlines};
-ghost use Rattle.call_inline.specs.Copying.{AllErrorsStand, ErrorsStand, StandsAt};
+ghost use Rattle.call_inline.specs.Copying.{AllErrorsStand, ErrorsStand, NoError, StandsAt};
 ghost use Rattle.call_inline.specs.Sizes.{TooMany};
 
+use crate::apart::are_apart;
 use crate::copies::copies_of;
 use crate::edges::{edges_of_all, goal_at};
 use crate::numbers::{Copied, entry_of, main_of, nodes_of, number};
@@ -51,6 +52,10 @@ fn copy_all(
     let edges = edges_of_all(alloc, graphs, offsets, &copies)?;
     let nodes = nodes_of_all(alloc, graphs, offsets, &copies, size)?;
     if copies.len() > size || !all_errors_stand(graphs, offsets, &copies, &nodes) {
+        return error_graph(alloc);
+    }
+    let apart = are_apart(alloc, graphs, offsets, &copies, size)?;
+    if !apart {
         return error_graph(alloc);
     }
     let entry = number(offsets, main_of(graphs), entry_of(graphs, graphs.main()));
@@ -168,14 +173,21 @@ fn errors_stand(graphs: &FnGraphs, offsets: &[Vec<u32>], copied: Copied, nodes: 
     true
 }
 
-/// Whether a node, if it is an error, stands at a number.
+/// Whether a node, if it is an error, stands at a number, and no error does if it is none.
 fn stands(nodes: &[Node], at: NodeId, node: Node) -> bool
     ensures { IsTrue result → StandsAt nodes.now at node }
 {
     match node {
         Node::Error(kind, offset) => is_error(nodes, at, kind, offset),
-        Node::Plain | Node::End | Node::Call(_, _) => true,
+        Node::Plain | Node::End | Node::Call(_, _) => is_no_error(nodes, at),
     }
+}
+
+/// Whether no error stands at a number.
+fn is_no_error(nodes: &[Node], at: NodeId) -> bool
+    ensures { IsTrue result → NoError nodes.now at }
+{
+    !matches!(nodes.get(at.0 as usize), Some(Node::Error(_, _)))
 }
 
 /// Whether this error stands at a number.

@@ -12,11 +12,14 @@
 //! stay end nodes in each copy.
 //!
 //! What is proved is that the answer is an inlining (`specs/Inlining.antt`) of the functions' graphs: each edge stands in each copy, a
-//! call leads into a copy that goes on where the call does, and each error node is there in each copy. That no error node is set
-//! twice is tested when all copies are made; copies that fail the test, as copies that make no graph, give the graph that is an error
-//! at its entry. Which numbers nodes have no contract says; of the limit on nodes, that it is told only where the copies have more.
+//! call leads into a copy that goes on where the call does, each error node is there in each copy, and there is nothing else: no other
+//! edge, no other error among the copies' nodes, and no two nodes with one number. So runs of the answer are runs over the functions'
+//! graphs, both ways. That no number is given twice and that errors stand where the functions have them is tested when all copies are
+//! made; copies that fail a test, as copies that make no graph, give the graph that is an error at its entry. Which numbers nodes have
+//! no contract says; of the limit on nodes, that it is told only where the copies have more.
 #![tactic(auto)]
 
+mod apart;
 mod copies;
 mod edges;
 mod inlining;

@@ -1,0 +1,13 @@
+pub mod Edges
+pub mod Determined
+pub mod Taming
+pub mod Inputs
+pub mod Exits
+pub mod Meeting
+pub mod Drawn
+pub mod Acting
+pub mod Unread
+pub mod Reading
+pub mod Anywhere
+pub mod Beginning
+pub mod Whole

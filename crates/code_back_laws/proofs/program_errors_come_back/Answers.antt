@@ -1,0 +1,5 @@
+use Rattle.code_back_laws.proofs.Whole as law
+use Rattle.code_back_laws.proofs.program_errors_come_back.Goals as goal
+
+pub returns : goal.returns
+returns c = law.program-errors-come-back
