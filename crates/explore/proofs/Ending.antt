@@ -1,5 +1,5 @@
 -- What the ends of an exploration say.
-use Rattle.std.proofs.Common.{◌≡◌, ℕ, ℤ, ◌<◌, true, false, List, length, inl, inr, refl, sym, subst}
+use Rattle.std.proofs.Common.{◌≡◌, ℕ, ℤ, ◌<◌, false, List, length, inl, inr, refl, sym, subst}
 use Rattle.prop.specs.declared.Lit.{Lit}
 use Rattle.c_graph.specs.Shape.{Flow}
 use Rattle.clause_learning.specs.declared.QueryFail.{QueryFail}
@@ -7,10 +7,11 @@ use Rattle.clause_learning.specs.declared.QueryFail.TheVariants.{Over, OverLog, 
 use Rattle.pair_query.specs.Laws.{pair_of}
 use Rattle.reach_tree.specs.declared.vertex.VertexId.{VertexId}
 use Rattle.reach_tree.specs.Trees.{vertex_at}
-use Rattle.cover_engine.specs.Unwindings.{Unwound, is_complete, may_settle}
+use Rattle.cover_engine.specs.Unwindings.{Unwound, is_complete}
 use Rattle.cover_engine.specs.Steering.{IsHighestOpen}
 use Rattle.refine.specs.Refinements.{IsDriven, IsErrorLeaf, IsLeafRefused, edges_of, question_at}
 use Rattle.refine.specs.Refusals.{IsRefused}
+use Rattle.explore.specs.Settling.{MayCover}
 use Rattle.explore.specs.Ends.{IsAsked, IsEnd, IsFeasible, end_of}
 use Rattle.explore.proofs.Leaves.{open_incomplete}
 
@@ -49,20 +50,20 @@ leaf_ends g units learn old new v Memory there highest error more h = tt
 
 -- a question of a pair
 pub pair_asked : (g : Flow) (units : ℕ) (u : Unwound) (v w : VertexId) (Why : List (List Lit) → Type 0) → is_complete g u ≡ false → v.0 < length u.vertices → w.0 < length u.vertices
-    → may_settle u v w ≡ true → length u.journal < units → Why (pair_of u.terms (vertex_at u.vertices v.0).label (vertex_at u.vertices w.0).label) → IsAsked g units u Why
-pair_asked g units u v w Why is-open left right may more why = record {
+    → MayCover g u v w → length u.journal < units → Why (pair_of u.terms (vertex_at u.vertices v.0).label (vertex_at u.vertices w.0).label) → IsAsked g units u Why
+pair_asked g units u v w Why is-open left right rule more why = record {
   incomplete = is-open;
   more = more;
   clauses = pair_of u.terms (vertex_at u.vertices v.0).label (vertex_at u.vertices w.0).label;
-  asked = inr (record { left = v; right = w; left_there = left; right_there = right; may = may; are = refl });
+  asked = inr (record { left = v; right = w; left_there = left; right_there = right; rule = rule; are = refl });
   why = why;
 }
 
 pub pair_ends : (g : Flow) (units learn : ℕ) (old new : Unwound) (v w : VertexId) (e : QueryFail) → is_complete g old ≡ false → v.0 < length old.vertices → w.0 < length old.vertices
-    → may_settle old v w ≡ true → length old.journal < units → new ≡ old
+    → MayCover g old v w → length old.journal < units → new ≡ old
     → IsRefused (pair_of old.terms (vertex_at old.vertices v.0).label (vertex_at old.vertices w.0).label) learn e → IsEnd g units learn new (end_of e)
-pair_ends g units learn old new v w (Over n) is-open left right may more same why =
-    subst (λ (u : Unwound). IsEnd g units learn u (end_of (Over n))) (sym same) (pair_asked g units old v w _ is-open left right may more why)
-pair_ends g units learn old new v w (OverLog log) is-open left right may more same why =
-    subst (λ (u : Unwound). IsEnd g units learn u (end_of (OverLog log))) (sym same) (pair_asked g units old v w _ is-open left right may more why)
-pair_ends g units learn old new v w Memory is-open left right may more same why = tt
+pair_ends g units learn old new v w (Over n) is-open left right rule more same why =
+    subst (λ (u : Unwound). IsEnd g units learn u (end_of (Over n))) (sym same) (pair_asked g units old v w _ is-open left right rule more why)
+pair_ends g units learn old new v w (OverLog log) is-open left right rule more same why =
+    subst (λ (u : Unwound). IsEnd g units learn u (end_of (OverLog log))) (sym same) (pair_asked g units old v w _ is-open left right rule more why)
+pair_ends g units learn old new v w Memory is-open left right rule more same why = tt

@@ -25,7 +25,7 @@ target_in nodes table (e ∷ edges) (suc k) all lt =
     target_in nodes table edges k (λ j d less. all (suc j) d (omega (arith, less))) (omega (arith, lt))
 
 -- it is one of the graph
-node_in : (g : Flow) (u : Unwound) (k : ℕ) → IsFlow g → IsTree g u → k < length u.vertices → (vertex_at u.vertices k).node.0 < length g.nodes
+pub node_in : (g : Flow) (u : Unwound) (k : ℕ) → IsFlow g → IsTree g u → k < length u.vertices → (vertex_at u.vertices k).node.0 < length g.nodes
 node_in g u zero flow t lt = subst (λ n. n.0 < length g.nodes) (sym t.root.2) flow.entry
 node_in g u (suc k) flow t lt =
     let c : IsChild g u.vertices (suc k) = t.others (suc k) (omega arith) lt in

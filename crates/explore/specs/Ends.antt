@@ -10,16 +10,20 @@ use Rattle.c_graph.specs.declared.graph.Node.{Node}
 use Rattle.c_graph.specs.declared.graph.Node.TheVariants.{Error, Plain}
 use Rattle.c_graph.specs.Shape.{Flow, widths_of}
 use Rattle.reach_tree.specs.declared.vertex.VertexId.{VertexId}
+use Rattle.reach_tree.specs.declared.vertex.Vertex.{Vertex}
 use Rattle.reach_tree.specs.Trees.{vertex_at}
 use Rattle.clause_learning.specs.Solve.{IsHeavy, IsSpent}
 use Rattle.clause_learning.specs.declared.QueryFail.{QueryFail}
 use Rattle.clause_learning.specs.declared.QueryFail.TheVariants.{Over as TooLong, OverLog as TooHeavy, Memory as NoMemory}
 use Rattle.pair_query.specs.Laws.{pair_of}
-use Rattle.cover_engine.specs.Unwindings.{Unwound, is_complete, may_settle}
+use Rattle.cover_engine.specs.Unwindings.{Unwound, is_complete}
 use Rattle.cover_engine.specs.Units.{Legal}
 use Rattle.cover_engine.specs.Steering.{IsHighestOpen}
 use Rattle.refine.specs.Refinements.{IsDriven, IsErrorLeaf, question_at}
 use Rattle.refine.specs.Witnesses.{AreKnown, Known}
+use Rattle.explore.specs.Standing.{AreBeside}
+use Rattle.explore.specs.Settling.{MayCover}
+use Rattle.explore.specs.declared.beside.Beside.{Beside}
 use Rattle.explore.specs.declared.strategy.Explored.{Explored}
 use Rattle.explore.specs.declared.strategy.Explored.TheVariants.{Complete, Feasible, Units, Learned, Over, OverLog}
 use Rattle.explore.specs.declared.strategy.End.{End}
@@ -53,6 +57,11 @@ pub record IsReady (g : Flow) (units : ℕ) (u : Unwound) (ws : List Known) : Ty
   pub cells : u.terms.cells ≡ widths_of g.cells
   pub known : AreKnown u.terms ws
 
+-- the vertices that were looked at are kept by their nodes, of which there are as many as the graph's
+pub record Follows (g : Flow) (vs : List Vertex) (b : Beside) : Type 0 where
+  pub nodes : length b.last.items ≡ length g.nodes
+  pub beside : AreBeside vs b.before.items b.last.items
+
 -- a run of the graph draws exactly these values and ends at an error node
 abbrev pub IsReached : Flow → List ℤ → Type 0
 IsReached g values =
@@ -75,13 +84,13 @@ pub record IsPathAsked (g : Flow) (u : Unwound) (clauses : List (List Lit)) : Ty
   pub error : IsErrorLeaf g u leaf
   pub are : clauses ≡ (question_at g u leaf).clauses
 
--- the clauses of the question whether a store keeps a pair apart, which may be settled
-pub record IsPairAsked (u : Unwound) (clauses : List (List Lit)) : Type 0 where
+-- the clauses of the question whether a store keeps a pair apart, whose cover unit would keep its rule
+pub record IsPairAsked (g : Flow) (u : Unwound) (clauses : List (List Lit)) : Type 0 where
   pub left : VertexId
   pub right : VertexId
   pub left_there : left.0 < length u.vertices
   pub right_there : right.0 < length u.vertices
-  pub may : may_settle u left right ≡ true
+  pub rule : MayCover g u left right
   pub are : clauses ≡ pair_of u.terms (vertex_at u.vertices left.0).label (vertex_at u.vertices right.0).label
 
 -- of a question that the unwinding has, being not complete and having fewer units than are allowed
@@ -89,7 +98,7 @@ pub record IsAsked (g : Flow) (units : ℕ) (u : Unwound) (Why : List (List Lit)
   pub incomplete : is_complete g u ≡ false
   pub more : length u.journal < units
   pub clauses : List (List Lit)
-  pub asked : IsPathAsked g u clauses ⊎ IsPairAsked u clauses
+  pub asked : IsPathAsked g u clauses ⊎ IsPairAsked g u clauses
   pub why : Why clauses
 
 -- why no further unit is made: no leaf is open; or one is and all units are made; or values drive its path to its error; or the learned

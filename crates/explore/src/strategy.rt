@@ -1,11 +1,14 @@
-ghost use Rattle.std.specs.Prelude.{◌<◌, ◌≤◌, ◌≡◌, IfErr, IfOk, OnOk, length, slice_get, true};
+ghost use Rattle.std.specs.Prelude.{◌<◌, ◌≤◌, ◌≡◌, None, IfErr, IfOk, OnOk, false, length, slice_get, true};
 ghost use Rattle.c_graph.specs.Shape.{widths_of};
 ghost use Rattle.reach_tree.specs.Trees.{vertex_at};
 ghost use Rattle.cover_engine.specs.Unwindings.{is_open_leaf};
 ghost use Rattle.cover_engine.specs.Units.{Legal};
-ghost use Rattle.cover_engine.specs.Steering.{IsHighestOpen};
+ghost use Rattle.cover_engine.specs.Steering.{IsHighestOpen, Steered};
+ghost use Rattle.unwinding_laws.specs.Steered.{last_refined};
 ghost use Rattle.refine.specs.Refinements.{IsErrorLeaf};
-ghost use Rattle.explore.specs.Ends.{IsEnd, IsExplored, IsOverCells, IsReady, is_plain, is_plain_at, unwinding_of};
+ghost use Rattle.explore.specs.Standing.{node_at, standing};
+ghost use Rattle.explore.specs.Settling.{HasTurn, IsTried, NoneBelow};
+ghost use Rattle.explore.specs.Ends.{Follows, IsEnd, IsExplored, IsOverCells, IsReady, is_plain, is_plain_at, unwinding_of};
 
 use crate::beside::Beside;
 use c_graph::{Graph, Node};
@@ -123,22 +126,23 @@ fn is_plain(graph: &Graph, unwinding: &Unwinding, v: VertexId) -> bool
     }
 }
 
-// The vertices of a vertex's node that are numbered below it, rising.
-fn below_of(alloc: Global, work: &mut Work, v: VertexId) -> Result<Vec<VertexId>, Memory>
+// The vertices of a vertex's node that are numbered below it, the last one first.
+fn below_of(
+    alloc: Global,
+    graph: &Graph,
+    work: &mut Work,
+    v: VertexId,
+) -> Result<Vec<VertexId>, Memory>
+    requires there { v.0 < length work.old.unwinding.vertices }
+    requires legal { Legal graph.now work.old.unwinding }
+    requires follows { Follows graph.now work.old.unwinding.vertices work.old.beside }
     ensures unwinding { work.new.unwinding ≡ work.old.unwinding }
     ensures witnesses { work.new.witnesses ≡ work.old.witnesses }
+    ensures follows { IfOk result (λ _. Follows graph.now work.new.unwinding.vertices work.new.beside) }
+    ensures below { IfOk result (λ r. r.items ≡ standing work.old.unwinding.vertices (node_at work.old.unwinding.vertices v.0) v.0) }
 {
-    work.beside.follow(&work.unwinding)?;
-    let mut below = Vec::new(alloc);
-    let Some(vertex) = work.unwinding.vertices().get(v.0 as usize) else {
-        return Ok(below);
-    };
-    for other in work.beside.at(vertex.node) {
-        if other.0 < v.0 {
-            below.push(*other)?;
-        }
-    }
-    Ok(below)
+    let _entry = graph.entry();
+    work.beside.below_of(alloc, &work.unwinding, v)
 }
 
 // Settles the pair where it may be settled. It answers whether it covers.
@@ -152,13 +156,20 @@ fn try_pair(
 ) -> Result<bool, End>
     requires learn { 0 < budget.learn }
     requires ready { IsReady graph.now budget.units work.old.unwinding work.old.witnesses }
+    requires steered { Steered graph.now work.old.unwinding }
+    requires there { v.0 < length work.old.unwinding.vertices }
+    requires below { w.0 < v.0 }
+    requires turn { HasTurn graph.now work.old.unwinding v }
+    requires lowest { NoneBelow work.old.unwinding v w.0 }
     ensures ready { IsReady graph.now budget.units work.new.unwinding work.new.witnesses }
+    ensures steered { Steered graph.now work.new.unwinding }
+    ensures beside { work.new.beside ≡ work.old.beside }
     ensures ended { IfErr result (IsEnd graph.now budget.units budget.learn work.new.unwinding) }
     ensures grows { length work.old.unwinding.journal ≤ length work.new.unwinding.journal }
     ensures covers { IfOk result (λ b. b ≡ true → length work.old.unwinding.journal < length work.new.unwinding.journal) }
+    ensures tried { IfOk result (IsTried work.old.unwinding work.new.unwinding v w) }
 {
-    let count = work.unwinding.vertices().len();
-    if v.0 as usize >= count || w.0 as usize >= count || !work.unwinding.may_settle(v, w) {
+    if !work.unwinding.may_settle(v, w) {
         return Ok(false);
     }
     let _ = next_leaf(graph, &mut work.unwinding, budget)?;
@@ -188,12 +199,23 @@ fn settle_all(
 ) -> Result<bool, End>
     requires learn { 0 < budget.learn }
     requires ready { IsReady graph.now budget.units work.old.unwinding work.old.witnesses }
+    requires steered { Steered graph.now work.old.unwinding }
+    requires follows { Follows graph.now work.old.unwinding.vertices work.old.beside }
+    requires there { v.0 < length work.old.unwinding.vertices }
+    requires turn { HasTurn graph.now work.old.unwinding v }
     ensures ready { IsReady graph.now budget.units work.new.unwinding work.new.witnesses }
+    ensures steered { Steered graph.now work.new.unwinding }
+    ensures follows { IfOk result (λ _. Follows graph.now work.new.unwinding.vertices work.new.beside) }
     ensures ended { IfErr result (IsEnd graph.now budget.units budget.learn work.new.unwinding) }
     ensures grows { length work.old.unwinding.journal ≤ length work.new.unwinding.journal }
     ensures covers { IfOk result (λ b. b ≡ true → length work.old.unwinding.journal < length work.new.unwinding.journal) }
+    ensures vertices { IfOk result (λ _. work.new.unwinding.vertices ≡ work.old.unwinding.vertices) }
+    ensures refined { IfOk result (λ _. last_refined None work.new.unwinding.journal ≡ last_refined None work.old.unwinding.journal) }
+    ensures highest { IfOk result (λ b. b ≡ false → IsHighestOpen graph.now work.old.unwinding v → IsHighestOpen graph.now work.new.unwinding v) }
+    ensures none { IfOk result (λ b. b ≡ false → NoneBelow work.new.unwinding v v.0) }
 {
-    for w in below_of(alloc, work, v)? {
+    let mut below = below_of(alloc, graph, work, v)?;
+    while let Some(w) = below.pop() {
         if try_pair(alloc, graph, work, v, w, budget)? {
             return Ok(true);
         }
@@ -213,9 +235,13 @@ fn refine_at(
     requires highest { IsHighestOpen graph.now work.old.unwinding leaf }
     requires error { IsErrorLeaf graph.now work.old.unwinding leaf }
     requires ready { IsReady graph.now budget.units work.old.unwinding work.old.witnesses }
+    requires steered { Steered graph.now work.old.unwinding }
+    requires follows { Follows graph.now work.old.unwinding.vertices work.old.beside }
     requires learn { 0 < budget.learn }
     requires more { length work.old.unwinding.journal < budget.units }
     ensures ready { IsReady graph.now budget.units work.new.unwinding work.new.witnesses }
+    ensures steered { Steered graph.now work.new.unwinding }
+    ensures follows { OnOk result (Follows graph.now work.new.unwinding.vertices work.new.beside) }
     ensures ended { IfErr result (IsEnd graph.now budget.units budget.learn work.new.unwinding) }
     ensures grows { OnOk result (length work.old.unwinding.journal < length work.new.unwinding.journal) }
 {
@@ -231,43 +257,63 @@ fn refine_at(
     Ok(())
 }
 
-// Expands the highest open leaf, or refines it at an error.
-fn advance(alloc: Global, graph: &Graph, work: &mut Work, budget: Budget) -> Result<(), End>
+// Expands the highest open leaf, none of whose pairs is left to settle.
+fn expand(
+    alloc: Global,
+    graph: &Graph,
+    work: &mut Work,
+    leaf: VertexId,
+    budget: Budget,
+) -> Result<(), End>
     requires ready { IsReady graph.now budget.units work.old.unwinding work.old.witnesses }
+    requires steered { Steered graph.now work.old.unwinding }
+    requires follows { Follows graph.now work.old.unwinding.vertices work.old.beside }
+    requires there { leaf.0 < length work.old.unwinding.vertices }
+    requires highest { IsHighestOpen graph.now work.old.unwinding leaf }
+    requires plain { is_plain_at graph.now work.old.unwinding leaf ≡ true }
+    requires none { NoneBelow work.old.unwinding leaf leaf.0 }
+    ensures ready { IsReady graph.now budget.units work.new.unwinding work.new.witnesses }
+    ensures steered { Steered graph.now work.new.unwinding }
+    ensures follows { OnOk result (Follows graph.now work.new.unwinding.vertices work.new.beside) }
+    ensures ended { IfErr result (IsEnd graph.now budget.units budget.learn work.new.unwinding) }
+    ensures grows { OnOk result (length work.old.unwinding.journal < length work.new.unwinding.journal) }
+{
+    let _ = next_leaf(graph, &mut work.unwinding, budget)?;
+    work.unwinding.expanded(alloc, graph, leaf)?;
+    Ok(())
+}
+
+// One turn: the highest open leaf is refined at an error, and else covered or expanded.
+fn turn(alloc: Global, graph: &Graph, work: &mut Work, budget: Budget) -> Result<(), End>
+    requires ready { IsReady graph.now budget.units work.old.unwinding work.old.witnesses }
+    requires steered { Steered graph.now work.old.unwinding }
+    requires follows { Follows graph.now work.old.unwinding.vertices work.old.beside }
     requires learn { 0 < budget.learn }
     ensures ready { IsReady graph.now budget.units work.new.unwinding work.new.witnesses }
+    ensures steered { Steered graph.now work.new.unwinding }
+    ensures follows { OnOk result (Follows graph.now work.new.unwinding.vertices work.new.beside) }
     ensures ended { IfErr result (IsEnd graph.now budget.units budget.learn work.new.unwinding) }
     ensures grows { OnOk result (length work.old.unwinding.journal < length work.new.unwinding.journal) }
 {
     let _entry = graph.entry();
     let leaf = next_leaf(graph, &mut work.unwinding, budget)?;
-    if is_plain(graph, &work.unwinding, leaf) {
-        work.unwinding.expanded(alloc, graph, leaf)?;
+    if !is_plain(graph, &work.unwinding, leaf) {
+        return refine_at(alloc, graph, work, leaf, budget);
+    }
+    if settle_all(alloc, graph, work, leaf, budget)? {
         return Ok(());
     }
-    refine_at(alloc, graph, work, leaf, budget)
-}
-
-// One turn: the highest open leaf is covered, expanded or refined. Settling its pairs without covering it leaves it the highest.
-fn turn(alloc: Global, graph: &Graph, work: &mut Work, budget: Budget) -> Result<(), End>
-    requires ready { IsReady graph.now budget.units work.old.unwinding work.old.witnesses }
-    requires learn { 0 < budget.learn }
-    ensures ready { IsReady graph.now budget.units work.new.unwinding work.new.witnesses }
-    ensures ended { IfErr result (IsEnd graph.now budget.units budget.learn work.new.unwinding) }
-    ensures grows { OnOk result (length work.old.unwinding.journal < length work.new.unwinding.journal) }
-{
-    let first = next_leaf(graph, &mut work.unwinding, budget)?;
-    if is_plain(graph, &work.unwinding, first) && settle_all(alloc, graph, work, first, budget)? {
-        return Ok(());
-    }
-    advance(alloc, graph, work, budget)
+    expand(alloc, graph, work, leaf, budget)
 }
 
 // Makes turns until there is an end. Each makes a unit, so there are no more turns than units.
 fn run(alloc: Global, graph: &Graph, work: &mut Work, budget: Budget) -> End
     requires ready { IsReady graph.now budget.units work.old.unwinding work.old.witnesses }
+    requires steered { Steered graph.now work.old.unwinding }
+    requires follows { Follows graph.now work.old.unwinding.vertices work.old.beside }
     requires learn { 0 < budget.learn }
     ensures ready { IsReady graph.now budget.units work.new.unwinding work.new.witnesses }
+    ensures steered { Steered graph.now work.new.unwinding }
     ensures ended { IsEnd graph.now budget.units budget.learn work.new.unwinding result }
 {
     for _made in 0..budget.units {
@@ -282,13 +328,16 @@ fn run(alloc: Global, graph: &Graph, work: &mut Work, budget: Budget) -> End
 }
 
 /// Explores a graph from its entry, by at most so many units, each question to the solver learning at most so many clauses. Each unit is
-/// legal where it stands. Values that are answered drive a run of the graph to an error node; a log or a count is of a question that
+/// legal where it stands, and keeps the rule of its kind: the highest open leaf is refined at an error, and expanded else where it may be
+/// settled with no lower vertex; a cover unit settles the highest open leaf, or a vertex of the path that was refined last, with the
+/// lowest vertex with which it may be settled. Values that are answered drive a run of the graph to an error node; a log or a count is of a question that
 /// the unwinding has.
 pub fn explore(alloc: Global, graph: &Graph, units: u64, learn: u64) -> Result<Explored, Memory>
     requires units { 0 < units }
     requires learn { 0 < learn }
     ensures cells { IfOk result (IsOverCells graph.now) }
     ensures legal { IfOk result (λ e. Legal graph.now (unwinding_of e)) }
+    ensures steered { IfOk result (λ e. Steered graph.now (unwinding_of e)) }
     ensures explored { IfOk result (IsExplored graph.now units learn) }
 {
     let mut work = Work {

@@ -1,12 +1,16 @@
-use Rattle.std.proofs.Common.{List, subst, sym, arith}
+use Rattle.std.proofs.Common.{◌≡◌, ◌∙◌, List, length, reverse, ap, refl, subst, sym, arith}
 use Rattle.std.proofs.lemmas.Result.{err_from_is_err_and}
 use Rattle.prop.specs.declared.Lit.{Lit}
 use Rattle.clause_learning.specs.Solve.{IsSpent}
-use Rattle.cover_engine.specs.Unwindings.{Unwound}
+use Rattle.reach_tree.specs.declared.vertex.Vertex.{Vertex}
+use Rattle.cover_engine.specs.Unwindings.{Unwound, path_of, vertices_named}
 use Rattle.refine.specs.Refinements.{IsRefined}
+use Rattle.explore.specs.Standing.{SameNodes}
 use Rattle.explore.specs.Ends.{IsAsked}
 use Rattle.explore.proofs.Ending.{leaf_ends, path_asked}
 use Rattle.explore.proofs.Ready.{one_unit, ready_grows, same_units}
+use Rattle.explore.proofs.Rules.{grown-steered}
+use Rattle.explore.proofs.Trying.{follows-stays, path-there, path-turn, refined-steered, strengthened-last, strengthened-nodes}
 use Rattle.explore.proofs.strategy.refine_at.Goals as goal
 
 pub returns-in_err-values-clause-ready : goal.returns-in_err-values-clause-ready
@@ -31,10 +35,51 @@ loop-vertex-init c =
     c.in_ok-values.ensures.refined in
     let more = one_unit c.args.graph.now c.args.work.now.unwinding c.refine_leaf.new.unwinding c.args.leaf made.0 in
     let few = c.requires.more in
+    let new = c.refine_leaf.new.unwinding in
+    let old = c.args.work.now.unwinding in
+    let nodes : SameNodes old.vertices new.vertices = strengthened-nodes c.args.graph.now old new c.args.leaf made.0 in
+    let sized = nodes.sized in
+    let lt = c.requires.leaf in
     record {
-      ready = ready_grows c.args.graph.now c.args.budget.units c.args.work.now.unwinding c.refine_leaf.new.unwinding c.args.work.now.witnesses
-          c.refine_leaf.ensures.extends (c.refine_leaf.ensures.legal c.requires.ready.legal c.requires.error) (omega (arith, more, few)) c.requires.ready;
+      ready = ready_grows c.args.graph.now c.args.budget.units old new c.args.work.now.witnesses c.refine_leaf.ensures.extends
+          (c.refine_leaf.ensures.legal c.requires.ready.legal c.requires.error) (omega (arith, more, few)) c.requires.ready;
+      steered = refined-steered c.args.graph.now old new c.args.leaf c.args.budget.learn c.in_ok-values.field-0 c.requires.ready.legal c.requires.steered
+          c.requires.highest c.in_ok-values.ensures.refined;
+      follows = follows-stays c.args.graph.now old.vertices new.vertices c.args.work.now.beside c.args.work.now.beside nodes refl c.requires.follows;
+      refined = strengthened-last c.args.graph.now old new c.args.leaf made.0;
+      path = c.as_slice-vertex-items.ensures ∙ c.in_ok-path.ensures.vertices;
+      there = omega (arith, lt, sized);
       grows = omega (arith, more);
+    }
+
+pub settle_all-requires-clause-there : goal.settle_all-requires-clause-there
+settle_all-requires-clause-there c =
+    path-there c.args.graph.now c.loop-vertex.work.unwinding c.args.leaf c.as_slice-vertex-items.result.now c.loop-vertex.vertex-index (record { 0 = 0 })
+    c.loop-vertex.invariant.ready.legal c.loop-vertex.invariant.there c.loop-vertex.invariant.path c.loop-vertex-test.true
+
+pub settle_all-requires-clause-turn : goal.settle_all-requires-clause-turn
+settle_all-requires-clause-turn c =
+    path-turn c.args.graph.now c.loop-vertex.work.unwinding c.args.leaf c.as_slice-vertex-items.result.now c.loop-vertex.vertex-index (record { 0 = 0 })
+    c.loop-vertex.invariant.refined c.loop-vertex.invariant.path c.loop-vertex-test.true
+
+pub loop-vertex-preserved : goal.loop-vertex-preserved
+loop-vertex-preserved c =
+    let g = c.args.graph.now in
+    let old = c.loop-vertex.work.unwinding in
+    let new = c.settle_all.new.work.unwinding in
+    let same : new.vertices ≡ old.vertices = c.in_ok-settle_all.ensures.vertices in
+    let sized = ap (λ (vs : List Vertex). length vs) same in
+    let there = c.loop-vertex.invariant.there in
+    let more = c.settle_all.ensures.grows in
+    let so-far = c.loop-vertex.invariant.grows in
+    record {
+      ready = c.settle_all.ensures.ready;
+      steered = c.settle_all.ensures.steered;
+      follows = c.in_ok-settle_all.ensures.follows;
+      refined = c.in_ok-settle_all.ensures.refined ∙ c.loop-vertex.invariant.refined;
+      path = c.loop-vertex.invariant.path ∙ ap (λ (vs : List Vertex). vertices_named (reverse (path_of vs c.args.leaf))) (sym same);
+      there = omega (arith, there, sized);
+      grows = omega (arith, more, so-far);
     }
 
 pub returns-in_err-values-clause-ended : goal.returns-in_err-values-clause-ended
@@ -50,3 +95,23 @@ returns-in-Spent-clause-ended c =
     c.in_ok-values.ensures.refined in
     subst (λ (u : Unwound). IsAsked c.args.graph.now c.args.budget.units u (λ (clauses : List (List Lit)). IsSpent clauses c.args.budget.learn c.in-Spent.log)) (sym made.0)
     (path_asked c.args.graph.now c.args.budget.units c.args.work.now.unwinding c.args.leaf _ c.requires.leaf c.requires.highest c.requires.error c.requires.more made.1)
+
+pub returns-in_err-values-clause-steered : goal.returns-in_err-values-clause-steered
+returns-in_err-values-clause-steered c =
+    grown-steered c.args.graph.now c.args.work.now.unwinding c.refine_leaf.new.unwinding c.in_err-values.ensures.only.extends c.in_err-values.ensures.only.others
+    c.requires.ready.legal c.requires.steered
+
+pub returns-in_err-path-clause-steered : goal.returns-in_err-path-clause-steered
+returns-in_err-path-clause-steered c =
+    refined-steered c.args.graph.now c.args.work.now.unwinding c.refine_leaf.new.unwinding c.args.leaf c.args.budget.learn c.in_ok-values.field-0
+    c.requires.ready.legal c.requires.steered c.requires.highest c.in_ok-values.ensures.refined
+
+pub returns-in-Feasible-clause-steered : goal.returns-in-Feasible-clause-steered
+returns-in-Feasible-clause-steered c =
+    refined-steered c.args.graph.now c.args.work.now.unwinding c.refine_leaf.new.unwinding c.args.leaf c.args.budget.learn c.in_ok-values.field-0
+    c.requires.ready.legal c.requires.steered c.requires.highest c.in_ok-values.ensures.refined
+
+pub returns-in-Spent-clause-steered : goal.returns-in-Spent-clause-steered
+returns-in-Spent-clause-steered c =
+    refined-steered c.args.graph.now c.args.work.now.unwinding c.refine_leaf.new.unwinding c.args.leaf c.args.budget.learn c.in_ok-values.field-0
+    c.requires.ready.legal c.requires.steered c.requires.highest c.in_ok-values.ensures.refined
