@@ -1,1 +1,2 @@
 pub mod Proofs
+pub mod Answered

@@ -1,9 +1,11 @@
 //! The answer is that of one worker, for any number of them.
 
-use crate::certs::{proved, row_graph, without_logs};
+use crate::certs::{cert_of, proved, row_graph, row_map, without_logs};
+use cert_build::Proved;
 use cert_check::CheckFail;
 use check_workers::check_beside;
 use lv_outside::FreeGate;
+use prove_workers::prove_beside;
 use std::test::*;
 
 #[test]
@@ -22,6 +24,38 @@ fn the_answer_is_that_of_one(rt: HostRuntime) -> Result<(), Fail> {
             check_beside(&rt, alloc, &graph, &open, workers, &FreeGate),
             Err(CheckFail::NoEmpty(2))
         );
+    }
+    Ok(())
+}
+
+#[test]
+fn what_is_proved_is_accepted(rt: HostRuntime) -> Result<(), Fail> {
+    let alloc = rt.alloc();
+    let graph = row_graph(alloc).map_err(|_| "no graph")?;
+    let map = row_map(alloc, &graph, &[0, 0, 0, 1]).map_err(|_| "no map")?;
+    for workers in [1, 2, 8, 64] {
+        let proof = prove_beside(&rt, alloc, &graph, &map, 1_000, workers, &FreeGate).map_err(
+            |_| "no proof",
+        )?;
+        let cert = cert_of(alloc, &map, proof).map_err(|_| "no certificate")?;
+        assert_eq!(rt;
+            check_beside(&rt, alloc, &graph, &cert, 1, &FreeGate),
+            Ok(())
+        );
+    }
+    Ok(())
+}
+
+#[test]
+fn the_lowest_that_fails_is_told(rt: HostRuntime) -> Result<(), Fail> {
+    let alloc = rt.alloc();
+    let graph = row_graph(alloc).map_err(|_| "no graph")?;
+    let map = row_map(alloc, &graph, &[0, 1, 0, 0]).map_err(|_| "no map")?;
+    for workers in [1, 2, 8, 64] {
+        let proof = prove_beside(&rt, alloc, &graph, &map, 1_000, workers, &FreeGate).map_err(
+            |_| "no proof",
+        )?;
+        assert_eq!(rt; matches!(proof, Proved::Fails(1)), true);
     }
     Ok(())
 }

@@ -1,7 +1,7 @@
 //! A graph of three nodes in a row and an error to which none leads, and its certificate: true everywhere but at the error.
 
 use bv_term::{Term, Terms};
-use c_graph::{Edge, Graph, Node, NodeId, Operations, graph_from};
+use c_graph::{Edge, Graph, Map, Node, NodeId, Operations, graph_from};
 use cert_build::{Proved, certificate, prove};
 use cert_check::map_of;
 use cert_text::Cert;
@@ -63,26 +63,37 @@ pub(crate) fn row_graph(alloc: Global) -> Result<Graph, NoCert> {
     )?)
 }
 
-// The map, without logs.
-fn unproved(alloc: Global) -> Result<Cert, NoCert> {
+// A map, without logs: term 0 is true, term 1 is false.
+fn unproved(alloc: Global, formulas: &[u32]) -> Result<Cert, NoCert> {
     Ok(Cert {
         hash: [0; 32],
         model: Model::Ilp32,
         layout: 2,
         terms: [Term::Constant(1, 1), Term::Constant(1, 0)].to_vec(alloc)?,
-        formulas: [0, 0, 0, 1].to_vec(alloc)?,
+        formulas: formulas.to_vec(alloc)?,
         logs: Vec::new(alloc),
     })
 }
 
+/// The map with one of the terms true and false, by number, at each node of the graph.
+pub(crate) fn row_map(alloc: Global, graph: &Graph, formulas: &[u32]) -> Result<Map, NoCert> {
+    map_of(alloc, graph, &unproved(alloc, formulas)?).map_err(|_| NoCert::Refused)
+}
+
+/// The certificate of a map and its proof.
+pub(crate) fn cert_of(alloc: Global, map: &Map, proof: Proved) -> Result<Cert, NoCert> {
+    match proof {
+        Proved::Logs(logs) => Ok(certificate(alloc, [0; 32], Model::Ilp32, map, logs)?),
+        _ => Err(NoCert::Refused),
+    }
+}
+
 /// The certificate of the graph.
 pub(crate) fn proved(alloc: Global, graph: &Graph) -> Result<Cert, NoCert> {
-    let Ok(map) = map_of(alloc, graph, &unproved(alloc)?) else {
-        return Err(NoCert::Refused);
-    };
+    let map = row_map(alloc, graph, &[0, 0, 0, 1])?;
     match prove(alloc, graph, &map, 1_000) {
-        Ok(Proved::Logs(logs)) => Ok(certificate(alloc, [0; 32], Model::Ilp32, &map, logs)?),
-        _ => Err(NoCert::Refused),
+        Ok(proof) => cert_of(alloc, &map, proof),
+        Err(_) => Err(NoCert::Refused),
     }
 }
 

@@ -1,4 +1,4 @@
-//! Tests of the check of certificates by workers: that they run beside each other, and that their answer is that of one.
+//! Tests of the check and of the proof of certificates by workers: that they run beside each other, and that their answer is that of one.
 #![tactic(auto)]
 
 #[cfg(test)]
@@ -7,3 +7,5 @@ mod answers;
 mod beside;
 #[cfg(test)]
 mod certs;
+#[cfg(test)]
+mod holding;
