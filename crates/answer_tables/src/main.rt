@@ -9,6 +9,7 @@
 //! bytes, and `never` for a folder and a sink that never fail. Lines that begin with `#`, and empty ones, are left out.
 #![tactic(auto)]
 
+mod left;
 mod rows;
 mod tables;
 mod trying;

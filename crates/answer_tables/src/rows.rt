@@ -1,5 +1,6 @@
 //! The rows of a table.
 
+use crate::left::{Left, left_of};
 use lazic::Kept;
 use lv_base::Text;
 use std::alloc::Global;
@@ -63,6 +64,7 @@ pub struct Row {
     pub words: Vec<Vec<u8>>,
     pub outside: Outside,
     pub files: Vec<(Text, Vec<u8>)>,
+    pub left: Vec<Left>,
 }
 
 fn kept_of(alloc: Global, column: &str) -> Result<Wanted, Flaw> {
@@ -141,23 +143,38 @@ fn outside_of(alloc: Global, column: &str) -> Result<Outside, Flaw> {
     Ok(outside)
 }
 
-fn file_of(alloc: Global, column: &str) -> Result<(Text, Vec<u8>), Flaw> {
+// A file that is there, or one that is to be there behind the answer.
+fn tell_file(
+    alloc: Global,
+    files: &mut Vec<(Text, Vec<u8>)>,
+    left: &mut Vec<Left>,
+    column: &str,
+) -> Result<(), Flaw> {
     let (name, bytes) = column.split_once("=").ok_or(Flaw::Form)?;
-    Ok((
-        Text::copy_of(alloc, name.as_bytes())?,
-        text_of(alloc, bytes)?,
-    ))
+    match name.strip_suffix(":") {
+        Some(name) => left.push(left_of(alloc, name, bytes)?)?,
+        None => files.push((
+            Text::copy_of(alloc, name.as_bytes())?,
+            text_of(alloc, bytes)?,
+        ))?,
+    }
+    Ok(())
 }
 
-fn files_of(alloc: Global, columns: Option<&str>) -> Result<Vec<(Text, Vec<u8>)>, Flaw> {
+// The files that are there, and what is to be there behind the answer.
+fn files_of(
+    alloc: Global,
+    columns: Option<&str>,
+) -> Result<(Vec<(Text, Vec<u8>)>, Vec<Left>), Flaw> {
     let mut files = Vec::new(alloc);
+    let mut left = Vec::new(alloc);
     let Some(columns) = columns else {
-        return Ok(files);
+        return Ok((files, left));
     };
     for column in columns.split("\t") {
-        files.push(file_of(alloc, column)?)?;
+        tell_file(alloc, &mut files, &mut left, column)?;
     }
-    Ok(files)
+    Ok((files, left))
 }
 
 /// The row of a line.
@@ -170,7 +187,7 @@ pub fn row_of(alloc: Global, line: &str) -> Result<Row, Flaw> {
     let kept = kept_of(alloc, columns.next()?)?;
     let words = words_of(alloc, columns.next()?)?;
     let outside = outside_of(alloc, columns.next()?)?;
-    let files = files_of(alloc, columns.left())?;
+    let (files, left) = files_of(alloc, columns.left())?;
     Ok(Row {
         status,
         text,
@@ -178,5 +195,6 @@ pub fn row_of(alloc: Global, line: &str) -> Result<Row, Flaw> {
         words,
         outside,
         files,
+        left,
     })
 }

@@ -1,5 +1,6 @@
 //! Answers the words of a row.
 
+use crate::left::{Left, are_left};
 use crate::rows::{Row, Wanted};
 use lazic::{Report, run_words};
 use lv_base::Text;
@@ -24,6 +25,7 @@ struct Asked<'a> {
     text: &'a [u8],
     kept: &'a Wanted,
     words: &'a [&'a str],
+    left: &'a [Left],
 }
 
 fn words_of(alloc: Global, words: &[Vec<u8>]) -> Result<Vec<&str>, Flaw> {
@@ -42,8 +44,9 @@ fn compared(
     asked: &Asked<'_>,
     report: &Report,
     text: &[u8],
+    are_left: bool,
 ) -> Result<Answered, Flaw> {
-    let same = report.status as u64 == asked.status && text == asked.text;
+    let same = report.status as u64 == asked.status && text == asked.text && are_left;
     Ok(Answered {
         holds: same && asked.kept.is(&report.kept),
         status: report.status,
@@ -74,7 +77,8 @@ fn over_no_faults<R: Threads + Sync>(
         [0; 16],
         &FreeGate,
     );
-    compared(alloc, asked, &report, out.text())
+    let left = are_left(alloc, &mut folder, asked.left)?;
+    compared(alloc, asked, &report, out.text(), left)
 }
 
 // Over files of which some calls fail.
@@ -100,7 +104,8 @@ fn over_faults<R: Threads + Sync>(
         [0; 16],
         &FreeGate,
     );
-    compared(alloc, asked, &report, out.text())
+    let left = are_left(alloc, &mut folder, asked.left)?;
+    compared(alloc, asked, &report, out.text(), left)
 }
 
 /// What comes of a row.
@@ -114,6 +119,7 @@ pub fn tried<R: Threads + Sync>(rt: &R, alloc: Global, row: Row) -> Result<Answe
         words,
         outside,
         files,
+        left,
     } = row;
     let words = words_of(alloc, &words)?;
     let asked = Asked {
@@ -121,6 +127,7 @@ pub fn tried<R: Threads + Sync>(rt: &R, alloc: Global, row: Row) -> Result<Answe
         text: &text,
         kept: &kept,
         words: &words,
+        left: &left,
     };
     if outside.never {
         return over_no_faults(rt, alloc, &asked, files, outside.room);

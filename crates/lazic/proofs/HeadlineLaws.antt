@@ -1,19 +1,21 @@
 -- What is told of a verdict means what the verdict means.
 use Rattle.std.proofs.Common.{◌≡◌, ◌≢◌, ◌⊎◌, ◌∙◌, inl, inr, refl, sym, ap, subst, ℕ, ◌==◌, Bool, true, false, if◌then◌else◌, List, ◌++◌, ℤ}
-use Rattle.std.specs.Prelude.{◌||◌}
+use Rattle.std.specs.Prelude.{◌||◌, Option, None}
 use Rattle.lv_outside.specs.Bytes.{GrewByFront}
 use Rattle.lv_outside.specs.Counts.{Rose}
 use Rattle.lv_base.specs.declared.kind.Model.{Model}
 use Rattle.lv_base.specs.declared.place.Place.{Place}
 use Rattle.lv_base.specs.declared.fault.ErrorKind.{ErrorKind}
 use Rattle.task_gen.specs.Generated.{generated}
-use Rattle.request_words.specs.Asked.{Asked, Check, Verify, Generate, plain_learn, plain_model, plain_units}
+use Rattle.request_words.specs.Asked.{Asked, Check, Verify, Generate, IsApart, plain_learn, plain_model, plain_units}
 use Rattle.verdicts.specs.Lines.{status_of, text_of}
 use Rattle.verdicts.specs.declared.verdict.Verdict.{Verdict}
 use Rattle.verdicts.specs.declared.verdict.Verdict.TheVariants as verdict
 use Rattle.request_answers.specs.Answers.{IsAnswer, IsKnown, IsVerifyAnswer}
 use Rattle.request_answers.specs.Printed.{text_for}
-use Rattle.request_answers.specs.Stored.{IsOther, IsStored, file_for}
+use Rattle.request_answers.specs.Stored.{IsOther, IsStored, IsUntouched, file_for, witness_file}
+use Rattle.request_answers.specs.Witnessed.{IsWitnessed, has_witness}
+use Rattle.source_witnesses.specs.declared.stamp.Stamp.{Stamp}
 use Rattle.request_answers.proofs.Checks.{check_not_unsafe}
 use Rattle.request_answers.proofs.Zero.{zero_certified}
 use Rattle.request_answers.proofs.Verifications.{unsafe_reached, verify_more}
@@ -61,34 +63,45 @@ reached before behind (Generate seed) file v values h u =
     reached_in before behind plain_model plain_units plain_learn (generated seed) v values (verify_more (Rose before behind) plain_model plain_units plain_learn (generated seed) v h) u
 
 pub told_means :
-    (files_told text_told write_rose put_rose : Type 0) (before behind : ℕ) (asked : Asked) (old new : List ℕ → List ℕ) (text_before text_after : List ℕ) (status : ℕ) (k : Kept)
-    → ToldOf files_told text_told (Rose before behind) write_rose put_rose old new text_before text_after status k asked → Headline files_told asked old status k
-told_means files_told text_told write_rose put_rose before behind asked old new text_before text_after status k (v, t) = record {
+    (files_told text_told write_rose put_rose : Type 0) (before behind : ℕ) (stamp : Stamp) (asked : Asked) (old new : List ℕ → List ℕ) (text_before text_after : List ℕ) (status : ℕ) (k : Kept)
+    → ToldOf files_told text_told (Rose before behind) write_rose put_rose old new text_before text_after status k stamp asked → Headline files_told asked old status k
+told_means files_told text_told write_rose put_rose before behind stamp asked old new text_before text_after status k (v, (w, t)) = record {
   safe = λ f z. zero_certified before behind asked old v (t.answer f) (zero_told status v t.told z);
   unsafe = λ f values e. reached before behind asked old v values (t.answer f) (kept_by ((status == 14) || (status == 15)) v values (sym t.keeps ∙ e));
 }
 
 -- what is told of a verdict, where the status that is reported is the one that was told
 pub told_as :
-    (files_told text_told read_rose write_rose put_rose : Type 0) (asked : Asked) (old new : List ℕ → List ℕ) (text_before text_after : List ℕ) (status told : ℕ) (k : Kept) (v : Verdict)
+    (files_told text_told read_rose write_rose put_rose : Type 0) (stamp : Stamp) (asked : Asked) (old new : List ℕ → List ℕ) (text_before text_after : List ℕ) (status told : ℕ) (k : Kept) (v : Verdict) (w : Option (List ℕ))
     → status ≡ told → k ≡ kept_when told v → (IsKnown files_told asked → IsAnswer read_rose asked old v)
+    → (IsKnown files_told asked → IsWitnessed asked old stamp v w) → (has_witness v ≡ false → w ≡ None)
     → (v ≡ verdict.ReadFault → read_rose) → (told ≡ 14) ⊎ ((told ≡ 15) ⊎ (told ≡ status_of v)) → (told ≡ 14 → write_rose ⊎ put_rose)
     → (text_told → told ≢ 14 → text_after ≡ text_before ++ (if told == 15 then text_of verdict.NoMemory else text_for asked v))
     → (text_told → told ≡ 14 → (text_after ≡ text_before) ⊎ (GrewByFront text_before text_after (text_for asked v) ⊎ GrewByFront text_before text_after (text_of verdict.NoMemory)))
-    → (files_told → told ≢ 14 → told ≢ 15 → IsStored new (file_for asked v)) → ((n : List ℕ) → IsOther (file_for asked v) n → new n ≡ old n)
-    → ToldOf files_told text_told read_rose write_rose put_rose old new text_before text_after status k asked
-told_as files_told text_told read_rose write_rose put_rose asked old new text_before text_after status told k v e kept answer fault is rose printed cut stored others =
-    subst (λ (n : ℕ). ToldOf files_told text_told read_rose write_rose put_rose old new text_before text_after n k asked) (sym e) (
+    → IsApart asked → (files_told → told ≢ 14 → told ≢ 15 → IsApart asked → IsStored new (file_for asked v))
+    → (files_told → told ≢ 14 → told ≢ 15 → IsStored new (witness_file asked w))
+    → (files_told → IsApart asked → IsUntouched old new (witness_file asked w) ⊎ IsStored new (file_for asked v))
+    → ((n : List ℕ) → IsOther (file_for asked v) n → IsOther (witness_file asked w) n → new n ≡ old n)
+    → ToldOf files_told text_told read_rose write_rose put_rose old new text_before text_after status k stamp asked
+told_as files_told text_told read_rose write_rose put_rose stamp asked old new text_before text_after status told k v w e kept answer witnessed silent fault is rose printed cut apart stored written ordered others =
+    subst (λ (n : ℕ). ToldOf files_told text_told read_rose write_rose put_rose old new text_before text_after n k stamp asked) (sym e) (
       v,
-      record {
-        answer = answer;
-        told = is;
-        keeps = kept;
-        read_fault = fault;
-        fault = rose;
-        printed = printed;
-        cut = cut;
-        stored = stored;
-        others = others;
-      },
+      (
+        w,
+        record {
+          answer = answer;
+          witnessed = witnessed;
+          silent = silent;
+          told = is;
+          keeps = kept;
+          read_fault = fault;
+          fault = rose;
+          printed = printed;
+          cut = cut;
+          stored = λ f a b. stored f a b apart;
+          written = written;
+          ordered = λ f. ordered f apart;
+          others = others;
+        },
+      ),
     )

@@ -10,14 +10,15 @@ ghost use Rattle.lazic.specs.Answer.{outcome_of, IsCaused};
 ghost use Rattle.lazic.specs.Meaning.{OneAnswer};
 ghost use Rattle.lazic.specs.Reaching.{ReachesAreTold};
 ghost use Rattle.lazic.specs.Headline.{Headline};
-ghost use Rattle.lazic.specs.Told.{RequestsDiffer, ToldOf};
+ghost use Rattle.lazic.specs.Told.{RequestsDiffer, ToldOf, stamp_of};
 ghost use Rattle.lazic.specs.Report.{MeansReport, kept_of, told_text, IsFree};
 
 use crate::answer::decide;
 use crate::report::{Kept, Report, print};
 use crate::requests::answer_asked;
 use lv_outside::{Folder, Gate, Sink};
-use request_words::{numbers_are_read, request, seeds_are_read};
+use request_words::{names_are_apart, numbers_are_read, request, seeds_are_read};
+use source_witnesses::Stamp;
 use std::alloc::Global;
 use std::thread::Threads;
 
@@ -30,7 +31,7 @@ pub fn run_words<R: Threads + Sync, F: Folder, S: Sink, G: Gate>(
     folder: &mut F,
     out: &mut S,
     moment: i64,
-    _random: [u8; 16],
+    random: [u8; 16],
     gate: &G,
 ) -> Report
     requires from { pos 0 ≤ℤ moment }
@@ -67,16 +68,20 @@ pub fn run_words<R: Threads + Sync, F: Folder, S: Sink, G: Gate>(
     ensures files { IsNone (asked_of (map (λ w. w.now) words.now)) → (n : List ℕ) → F.file folder.new n ≡ F.file folder.old n }
 
     // What is asked of a certificate or a source has a verdict: the files are as it says, and the text grows by its line, and by that of
-    // the seed behind it where the source is a seed's.
-    ensures told { (asked : Asked) → asked_of (map (λ w. w.now) words.now) ≡ Some asked → ToldOf (F.tells folder.old) (S.tells out.new) (Rose (F.read_faults folder.old) (F.read_faults folder.new)) (Rose (F.write_faults folder.old) (F.write_faults folder.new)) (Rose (S.faults out.old) (S.faults out.new)) (F.file folder.old) (F.file folder.new) (S.text out.old) (S.text out.new) result.status result.kept asked }
+    // the seed behind it where the source is a seed's. Where a file is named for a witness, the witness of the verdict is written to it.
+    ensures told { (asked : Asked) → asked_of (map (λ w. w.now) words.now) ≡ Some asked → ToldOf (F.tells folder.old) (S.tells out.new) (Rose (F.read_faults folder.old) (F.read_faults folder.new)) (Rose (F.write_faults folder.old) (F.write_faults folder.new)) (Rose (S.faults out.old) (S.faults out.new)) (F.file folder.old) (F.file folder.new) (S.text out.old) (S.text out.new) result.status result.kept (stamp_of moment random) asked }
 
     // SAFE and ACCEPTED come only where no run of a graph that was made of the source meets an error, so that none of the source does where
     // that graph stands for it; values are kept only where they lead the source to an error.
     ensures headline { (asked : Asked) → asked_of (map (λ w. w.now) words.now) ≡ Some asked → Headline (F.tells folder.old) asked (F.file folder.old) result.status result.kept }
 {
     all_words();
+    names_are_apart();
     match request(words) {
-        Some(asked) => answer_asked(rt, alloc, asked, folder, out, gate),
+        Some(asked) => {
+            let stamp = Stamp { moment, random };
+            answer_asked(rt, alloc, asked, stamp, folder, out, gate)
+        }
         None => replay_words(alloc, words, folder, out),
     }
 }

@@ -1,6 +1,9 @@
 pub mod Certified
 pub mod Checks
+pub mod Files
 pub mod Judgements
+pub mod Readings
 pub mod Refusals
 pub mod Verifications
+pub mod Witnesses
 pub mod Zero

@@ -2,3 +2,4 @@ pub mod Answers
 pub mod Laws
 pub mod Printed
 pub mod Stored
+pub mod Witnessed

@@ -1,6 +1,6 @@
 -- What is stored of an answer.
 use Rattle.std.specs.Prelude.{ℕ, ◌≡◌, ◌≢◌, List, Option, Some, None}
-use Rattle.request_words.specs.Asked.{Asked, Verify}
+use Rattle.request_words.specs.Asked.{Asked, Check, Verify, Generate}
 use Rattle.verdicts.specs.declared.verdict.Verdict.{Verdict}
 use Rattle.verdicts.specs.declared.verdict.Verdict.TheVariants.{Safe, Unsafe}
 
@@ -18,6 +18,17 @@ file_for (Verify w) (Safe text) = in_file w.cert text
 file_for (Verify w) (Unsafe kind place values text) = in_file w.run text
 file_for _ _ = None
 
+-- the witness, where a file is named for it and there is one
+abbrev pub both_named : Option (List ℕ) → Option (List ℕ) → File
+both_named None witness = None
+both_named (Some name) None = None
+both_named (Some name) (Some text) = Some (name, text)
+
+abbrev pub witness_file : Asked → Option (List ℕ) → File
+witness_file (Check c) witness = None
+witness_file (Verify w) witness = both_named w.witness witness
+witness_file (Generate seed) witness = None
+
 -- the file is no other than this one
 abbrev pub IsOther : File → List ℕ → Type 0
 IsOther None name = Unit {0}
@@ -26,3 +37,8 @@ IsOther (Some file) name = name ≢ file.0
 abbrev pub IsStored : (List ℕ → List ℕ) → File → Type 0
 IsStored files None = Unit {0}
 IsStored files (Some file) = files file.0 ≡ file.1
+
+-- the file, where one is named, is as before
+abbrev pub IsUntouched : (List ℕ → List ℕ) → (List ℕ → List ℕ) → File → Type 0
+IsUntouched before after None = Unit {0}
+IsUntouched before after (Some file) = after file.0 ≡ before file.0

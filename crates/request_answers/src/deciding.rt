@@ -1,4 +1,5 @@
-ghost use Rattle.std.specs.Prelude.{◌≡◌, ◌≤◌, ◌<◌, ◌^◌, ℕ, List, length};
+ghost use Rattle.std.specs.Prelude.{◌≡◌, ◌≤◌, ◌<◌, ◌^◌, ℕ, List, length, None, false};
+ghost use Rattle.std.specs.Option.{option_map};
 ghost use Rattle.lv_outside.specs.Counts.{Rose};
 ghost use Rattle.c_typed.specs.Parts.{tree_of};
 ghost use Rattle.source_reading.specs.Reading.{IsReplay};
@@ -6,16 +7,20 @@ ghost use Rattle.program_graphs.specs.Standing.{StandsFor};
 ghost use Rattle.task_gen.specs.Generated.{generated};
 ghost use Rattle.request_words.specs.Asked.{plain_learn, plain_model, plain_units};
 ghost use Rattle.request_words.specs.Views.{asked_by};
+ghost use Rattle.moment_text.specs.Moments.{IsMoment};
+ghost use Rattle.request_answers.specs.Witnessed.{IsWitnessBy, IsWitnessed, has_witness, named_for};
 ghost use Rattle.request_answers.specs.Answers.{IsAnswer, IsCheckAnswer, IsKnown, IsVerifyAnswer};
 
 use crate::loading::{Loaded, load_source};
+use crate::witnessing::{with_witness, witness_name};
 use c_graph::Graph;
 use cert_text::MOST_BYTES;
 use cert_verdicts::judge;
-use lv_base::Model;
+use lv_base::{Model, Text};
 use lv_outside::{FileFail, Folder, Gate, Got};
 use request_words::{Asked, Checking, LEARN, UNITS, Verifying};
 use source_verdicts::{Budget, verify};
+use source_witnesses::Stamp;
 use std::alloc::Global;
 use std::thread::Threads;
 use task_gen::{generate, generated_is_short};
@@ -23,25 +28,29 @@ use verdicts::Verdict;
 
 const MOST_SOURCE: usize = 1_048_576;
 
-/// The answer to what is asked.
+/// The answer to what is asked, and its witness where one is asked for.
 pub(crate) fn decide<R: Threads + Sync, F: Folder, G: Gate>(
     rt: &R,
     alloc: Global,
     folder: &mut F,
     asked: Asked<'_>,
+    stamp: Stamp,
     gate: &G,
-) -> Verdict
-    ensures answer { IsKnown (F.tells folder.old) (asked_by asked.entry) → IsAnswer (Rose (F.read_faults folder.old) (F.read_faults folder.new)) (asked_by asked.entry) (F.file folder.old) result }
-    ensures read_fault { result ≡ Verdict.ReadFault → Rose (F.read_faults folder.old) (F.read_faults folder.new) }
+) -> (Verdict, Option<Text>)
+    requires moment { IsMoment stamp.moment }
+    ensures answer { IsKnown (F.tells folder.old) (asked_by asked.entry) → IsAnswer (Rose (F.read_faults folder.old) (F.read_faults folder.new)) (asked_by asked.entry) (F.file folder.old) result.0 }
+    ensures witness { IsKnown (F.tells folder.old) (asked_by asked.entry) → IsWitnessed (asked_by asked.entry) (F.file folder.old) stamp result.0 result.1 }
+    ensures silent { has_witness result.0 ≡ false → result.1 ≡ None }
+    ensures read_fault { result.0 ≡ Verdict.ReadFault → Rose (F.read_faults folder.old) (F.read_faults folder.new) }
     ensures tells { F.tells folder.old → F.tells folder.new }
     ensures files { (n : List ℕ) → F.file folder.new n ≡ F.file folder.old n }
     ensures later { F.read_faults folder.old ≤ F.read_faults folder.new }
     ensures writes { F.write_faults folder.new ≡ F.write_faults folder.old }
 {
     match asked {
-        Asked::Check(checking) => decide_check(rt, alloc, folder, checking, gate),
-        Asked::Verify(verifying) => decide_verify(alloc, folder, verifying),
-        Asked::Generate(seed) => decide_generate(alloc, seed),
+        Asked::Check(checking) => (decide_check(rt, alloc, folder, checking, gate), None),
+        Asked::Verify(verifying) => decide_verify(rt, alloc, folder, verifying, stamp, gate),
+        Asked::Generate(seed) => (decide_generate(rt, alloc, seed, gate), None),
     }
 }
 
@@ -132,28 +141,56 @@ fn team_of(workers: u64) -> u32
     workers.max(1).min(64) as u32
 }
 
-fn decide_verify<F: Folder>(alloc: Global, folder: &mut F, verifying: Verifying<'_>) -> Verdict
-    ensures answer { F.tells folder.old → IsVerifyAnswer (Rose (F.read_faults folder.old) (F.read_faults folder.new)) verifying.entry.model verifying.entry.units verifying.entry.learn (F.file folder.old verifying.entry.source.now) result }
-    ensures read_fault { result ≡ Verdict.ReadFault → Rose (F.read_faults folder.old) (F.read_faults folder.new) }
+fn decide_verify<R: Threads + Sync, F: Folder, G: Gate>(
+    rt: &R,
+    alloc: Global,
+    folder: &mut F,
+    verifying: Verifying<'_>,
+    stamp: Stamp,
+    gate: &G,
+) -> (Verdict, Option<Text>)
+    requires moment { IsMoment stamp.moment }
+    ensures answer { F.tells folder.old → IsVerifyAnswer (Rose (F.read_faults folder.old) (F.read_faults folder.new)) verifying.entry.model verifying.entry.units verifying.entry.learn (F.file folder.old verifying.entry.source.now) result.0 }
+    ensures witness { F.tells folder.old → IsWitnessBy (named_for (option_map (λ s. s.now) verifying.entry.witness) verifying.entry.source.now) verifying.entry.model (F.file folder.old verifying.entry.source.now) stamp result.0 result.1 }
+    ensures silent { has_witness result.0 ≡ false → result.1 ≡ None }
+    ensures read_fault { result.0 ≡ Verdict.ReadFault → Rose (F.read_faults folder.old) (F.read_faults folder.new) }
     ensures tells { F.tells folder.old → F.tells folder.new }
     ensures files { (n : List ℕ) → F.file folder.new n ≡ F.file folder.old n }
     ensures later { F.read_faults folder.old ≤ F.read_faults folder.new }
     ensures writes { F.write_faults folder.new ≡ F.write_faults folder.old }
 {
+    let name = witness_name(verifying);
     let budget = Budget {
         units: verifying.units,
         learn: verifying.learn,
+        workers: team_of(verifying.workers),
     };
     match folder.read(alloc, verifying.source, MOST_SOURCE) {
-        Ok(Got::Bytes(bytes)) => verify_source(alloc, &bytes, verifying.model, budget),
-        Ok(Got::Longer) => Verdict::Over(1, 1_048_577),
-        Err(FileFail::Failed) => Verdict::ReadFault,
-        Err(FileFail::Memory) => Verdict::NoMemory,
+        Ok(Got::Bytes(bytes)) => {
+            verify_source(
+                rt,
+                alloc,
+                &bytes,
+                verifying.model,
+                budget,
+                name,
+                stamp,
+                gate,
+            )
+        }
+        Ok(Got::Longer) => (Verdict::Over(1, 1_048_577), None),
+        Err(FileFail::Failed) => (Verdict::ReadFault, None),
+        Err(FileFail::Memory) => (Verdict::NoMemory, None),
     }
 }
 
 // The verification of the source of a seed, with the defaults of all options.
-fn decide_generate(alloc: Global, seed: u32) -> Verdict
+fn decide_generate<R: Threads + Sync, G: Gate>(
+    rt: &R,
+    alloc: Global,
+    seed: u32,
+    gate: &G,
+) -> Verdict
     ensures answer { IsVerifyAnswer ⊥ plain_model plain_units plain_learn (generated seed) result }
     ensures no_fault { result ≡ Verdict.ReadFault → ⊥ }
 {
@@ -161,37 +198,84 @@ fn decide_generate(alloc: Global, seed: u32) -> Verdict
     let budget = Budget {
         units: UNITS,
         learn: LEARN,
+        workers: 1,
     };
     match generate(alloc, seed) {
-        Ok(source) => verify_source(alloc, &source, Model::Ilp32, budget),
+        Ok(source) => verify_plain(rt, alloc, &source, Model::Ilp32, budget, gate),
         Err(_) => Verdict::NoMemory,
     }
 }
 
-fn verify_source(alloc: Global, source: &[u8], model: Model, budget: Budget) -> Verdict
+// The verification of a source without a witness.
+fn verify_plain<R: Threads + Sync, G: Gate>(
+    rt: &R,
+    alloc: Global,
+    source: &[u8],
+    model: Model,
+    budget: Budget,
+    gate: &G,
+) -> Verdict
     requires small { length source.now ≤ 2 ^ 20 }
+    requires workers { (1 ≤ budget.workers) × (budget.workers ≤ 64) }
     ensures answer { IsVerifyAnswer ⊥ model budget.units budget.learn source.now result }
     ensures no_fault { result ≡ Verdict.ReadFault → ⊥ }
 {
+    let stamp = Stamp {
+        moment: 0,
+        random: [0; 16],
+    };
+    let (verdict, _witness) = verify_source(rt, alloc, source, model, budget, None, stamp, gate);
+    verdict
+}
+
+// The verification of a source, with a witness where the name of the source's file is given for one.
+fn verify_source<R: Threads + Sync, G: Gate>(
+    rt: &R,
+    alloc: Global,
+    source: &[u8],
+    model: Model,
+    budget: Budget,
+    name: Option<&str>,
+    stamp: Stamp,
+    gate: &G,
+) -> (Verdict, Option<Text>)
+    requires small { length source.now ≤ 2 ^ 20 }
+    requires workers { (1 ≤ budget.workers) × (budget.workers ≤ 64) }
+    requires moment { IsMoment stamp.moment }
+    ensures answer { IsVerifyAnswer ⊥ model budget.units budget.learn source.now result.0 }
+    ensures witness { IsWitnessBy (option_map (λ s. s.now) name.entry) model source.now stamp result.0 result.1 }
+    ensures silent { has_witness result.0 ≡ false → result.1 ≡ None }
+    ensures no_fault { result.0 ≡ Verdict.ReadFault → ⊥ }
+{
     match load_source(alloc, source, model) {
-        Ok(parts) => verify_loaded(alloc, source, &parts, model, budget),
-        Err(verdict) => verdict,
+        Ok(parts) => verify_loaded(rt, alloc, source, &parts, model, budget, name, stamp, gate),
+        Err(verdict) => (verdict, None),
     }
 }
 
-fn verify_loaded(
+fn verify_loaded<R: Threads + Sync, G: Gate>(
+    rt: &R,
     alloc: Global,
     source: &[u8],
     parts: &Loaded,
     model: Model,
     budget: Budget,
-) -> Verdict
+    name: Option<&str>,
+    stamp: Stamp,
+    gate: &G,
+) -> (Verdict, Option<Text>)
     requires small { length source.now ≤ 2 ^ 20 }
+    requires workers { (1 ≤ budget.workers) × (budget.workers ≤ 64) }
+    requires moment { IsMoment stamp.moment }
     requires replay { IsReplay model source.now (tree_of parts.now.examined.typed) }
     requires stands { StandsFor parts.now.graph (tree_of parts.now.examined.typed) }
-    ensures answer { IsVerifyAnswer ⊥ model budget.units budget.learn source.now result }
-    ensures no_fault { result ≡ Verdict.ReadFault → ⊥ }
+    ensures answer { IsVerifyAnswer ⊥ model budget.units budget.learn source.now result.0 }
+    ensures witness { IsWitnessBy (option_map (λ s. s.now) name.entry) model source.now stamp result.0 result.1 }
+    ensures silent { has_witness result.0 ≡ false → result.1 ≡ None }
+    ensures no_fault { result.0 ≡ Verdict.ReadFault → ⊥ }
 {
     let _entry = parts.graph.entry();
-    verify(alloc, &parts.examined, &parts.graph, source, model, budget)
+    let (examined, graph) = (&parts.examined, &parts.graph);
+    let told = verify(rt, alloc, examined, graph, source, model, budget, gate);
+    with_witness(alloc, name, source, model, &parts.graph, told, stamp)
 }

@@ -8,6 +8,7 @@ mod laws;
 mod loading;
 mod printing;
 mod storing;
+mod witnessing;
 
 pub use answering::{Told, answer};
 pub use laws::{accepted_is_certified, safe_is_proved, unsafe_reaches, zero_is_certified};

@@ -1,2 +1,3 @@
+pub mod FileLaws
 pub mod NumberLaws
 pub mod WordLaws

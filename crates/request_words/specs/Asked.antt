@@ -1,5 +1,5 @@
 -- What words ask for.
-use Rattle.std.specs.Prelude.{ℕ, List, [], ◌∷◌, Bool, false, ◌||◌, if◌then◌else◌, Option, Some, None, codes}
+use Rattle.std.specs.Prelude.{ℕ, ◌≡◌, List, [], ◌∷◌, Bool, false, ◌||◌, if◌then◌else◌, Option, Some, None, codes}
 use Rattle.std.specs.Str.{bytes_eq}
 use Rattle.lv_base.specs.declared.kind.Model.{Model}
 use Rattle.lv_base.specs.declared.kind.Model.TheVariants.{Ilp32}
@@ -76,10 +76,8 @@ abbrev pub has_twice : List ℕ → Option (List ℕ) → Option (List ℕ) → 
 has_twice source cert run witness =
     is_named source cert || (is_named source run || (is_named source witness || (is_named_in cert run || (is_named_in cert witness || is_named_in run witness))))
 
--- No witness is written, so words that ask for one ask for nothing.
-abbrev pub verify_with : Given → List ℕ → Option (List ℕ) → Option Asked
-verify_with given source (Some witness) = None
-verify_with given source None =
+abbrev pub verify_with : Given → List ℕ → Option Asked
+verify_with given source =
     Some (Verify (record {
       source = source;
       model = model_or given.model;
@@ -92,7 +90,7 @@ verify_with given source None =
     }))
 
 abbrev pub verify_of : Given → List ℕ → Option Asked
-verify_of given source = if has_twice source given.cert given.run given.witness then None else verify_with given source given.witness
+verify_of given source = if has_twice source given.cert given.run given.witness then None else verify_with given source
 
 abbrev pub verify_at : Given → Option (List ℕ) → Option (List ℕ) → Option Choice → Option Asked
 verify_at given (Some source) None None = verify_of given source
@@ -123,3 +121,14 @@ asked_of (word ∷ words) =
     if bytes_eq word (codes "check") then check_by (with_words command.Check (Some nothing_given) words) else
     if bytes_eq word (codes "verify") then verify_by (with_words command.Verify (Some nothing_given) words) else
     if bytes_eq word (codes "generate") then generate_by words else None
+
+-- ---- Names of files
+
+-- a witness is written to another file than a certificate or a run
+abbrev pub IsApart : Asked → Type 0
+IsApart (Check c) = Unit {0}
+IsApart (Verify w) = (is_named_in w.cert w.witness ≡ false) × (is_named_in w.run w.witness ≡ false)
+IsApart (Generate seed) = Unit {0}
+
+abbrev pub NamesAreApart : Type 0
+NamesAreApart = (words : List (List ℕ)) (asked : Asked) → asked_of words ≡ Some asked → IsApart asked

@@ -1,7 +1,7 @@
 ghost use Rattle.std.specs.Prelude.{◌≡◌, map, Some};
 ghost use Rattle.std.specs.Option.{option_map};
 ghost use Rattle.request_words.specs.Views.{given_of, asked_by};
-ghost use Rattle.request_words.specs.Asked.{is_named, is_named_in, has_twice, check_by, generate_by, verify_by, verify_of, verify_with, asked_of};
+ghost use Rattle.request_words.specs.Asked.{is_named, is_named_in, has_twice, check_by, generate_by, verify_by, verify_of, verify_with, asked_of, NamesAreApart};
 
 use crate::gathering::{Command, Given, gathered};
 use crate::values::seed_in;
@@ -95,23 +95,19 @@ fn verify_source<'a>(given: Given<'a>, source: &'a str) -> Option<Asked<'a>>
     verify_given(given, source)
 }
 
-// No witness is written, so words that ask for one ask for nothing.
 fn verify_given<'a>(given: Given<'a>, source: &'a str) -> Option<Asked<'a>>
-    ensures { option_map asked_by result ≡ verify_with (given_of given.entry) source.now (option_map (λ s. s.now) given.entry.witness) }
+    ensures { option_map asked_by result ≡ verify_with (given_of given.entry) source.now }
 {
-    match given.witness {
-        Some(_) => None,
-        None => Some(Asked::Verify(Verifying {
-            source,
-            model: given.model.unwrap_or(Model::Ilp32),
-            units: given.units.unwrap_or(UNITS),
-            learn: given.learn.unwrap_or(LEARN),
-            workers: given.workers.unwrap_or(1),
-            cert: given.cert,
-            run: given.run,
-            witness: given.witness,
-        })),
-    }
+    Some(Asked::Verify(Verifying {
+        source,
+        model: given.model.unwrap_or(Model::Ilp32),
+        units: given.units.unwrap_or(UNITS),
+        learn: given.learn.unwrap_or(LEARN),
+        workers: given.workers.unwrap_or(1),
+        cert: given.cert,
+        run: given.run,
+        witness: given.witness,
+    }))
 }
 
 // One word is the seed, and there is no option.
@@ -153,3 +149,8 @@ fn is_other_in(name: Option<&str>, other: Option<&str>) -> bool
         Some(name) => is_other(name, other),
     }
 }
+
+/// What words ask for has its witness written to another file than its certificate and its run.
+pub fn names_are_apart()
+    ensures { NamesAreApart }
+{}

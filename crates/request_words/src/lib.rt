@@ -11,7 +11,7 @@ mod gathering;
 mod options;
 mod values;
 
-pub use asking::{Asked, Checking, LEARN, UNITS, Verifying, request};
+pub use asking::{Asked, Checking, LEARN, UNITS, Verifying, names_are_apart, request};
 pub use gathering::{Command, Given};
 pub use options::Choice;
 pub use values::{is_name, model_in, number_in, numbers_are_read, seed_in, seeds_are_read};

@@ -3,4 +3,4 @@
 
 mod reading;
 
-pub use reading::examined;
+pub use reading::{examined, tree};

@@ -27,8 +27,10 @@ pub fn examined(alloc: Global, source: &[u8], model: Model) -> Result<Examined, 
     accepted(alloc, &unit, model)
 }
 
-// The tree of a source's tokens.
-fn tree(alloc: Global, source: &[u8]) -> Result<Unit, SourceFail>
+/// The tree of a source's tokens, be it one that breaks a rule or not.
+///
+/// Fails with the first rule of tokens or of the grammar that is broken, with a limit that they pass, or with `Memory`.
+pub fn tree(alloc: Global, source: &[u8]) -> Result<Unit, SourceFail>
     ensures tree { MatchResult result
         (λ unit. tree_read source.now ≡ Ok (tree_of unit))
         (λ fail. (fail ≡ SourceFail.Memory) ⊎ (tree_read source.now ≡ Err fail)) }

@@ -1,4 +1,5 @@
 pub mod Accepting
+pub mod Holding
 pub mod Replays
 pub mod Writing
 pub mod Spending

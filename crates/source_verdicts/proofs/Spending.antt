@@ -11,6 +11,7 @@ use Rattle.clause_learning.specs.Solve.{IsHeavy, IsSpent}
 use Rattle.clause_learning.specs.declared.QueryFail.TheVariants.{Over as TooLong, OverLog as TooHeavy}
 use Rattle.cover_engine.specs.Unwindings.{Unwound}
 use Rattle.cover_engine.specs.Units.{Legal}
+use Rattle.cover_engine.specs.Steering.{Steered}
 use Rattle.explore.specs.Ends.{IsAsked}
 use Rattle.obligations.specs.Stated.{obligation_says}
 use Rattle.cert_build.specs.Proofs.{IsLowest, IsProveCause}
@@ -22,14 +23,14 @@ use Rattle.source_verdicts.specs.Verified.IsMet.{of_question, of_obligation}
 module _ (p : Program) (g : Flow) (source : List ℕ) (model : Model) (units learn : ℕ) where
   -- ---- Of a question
 
-  pub question_spent : (u : Unwound) (log : List Chain) → Legal g u → IsAsked g units u (λ clauses. IsSpent clauses learn log) → IsVerified p g source model units learn (OutOfLearn learn)
-  question_spent u log legal asked = (refl, inr (log, of_question u legal asked))
+  pub question_spent : (u : Unwound) (log : List Chain) → Legal g u → Steered g u → IsAsked g units u (λ clauses. IsSpent clauses learn log) → IsVerified p g source model units learn (OutOfLearn learn)
+  question_spent u log legal steered asked = (refl, inr (log, of_question u legal steered asked))
 
-  pub question_long : (u : Unwound) (n : ℕ) → Legal g u → IsAsked g units u (λ clauses. IsCutOff clauses (PastLiterals n)) → IsVerified p g source model units learn (Over 6 n)
-  question_long u n legal asked = of_literals refl (of_question u legal asked)
+  pub question_long : (u : Unwound) (n : ℕ) → Legal g u → Steered g u → IsAsked g units u (λ clauses. IsCutOff clauses (PastLiterals n)) → IsVerified p g source model units learn (Over 6 n)
+  question_long u n legal steered asked = of_literals refl (of_question u legal steered asked)
 
-  pub question_heavy : (u : Unwound) (log : List Chain) → Legal g u → IsAsked g units u (λ clauses. IsHeavy clauses learn 134217728 log) → IsVerified p g source model units learn (Over 7 134217728)
-  question_heavy u log legal asked = of_pairs refl refl (log, of_question u legal asked)
+  pub question_heavy : (u : Unwound) (log : List Chain) → Legal g u → Steered g u → IsAsked g units u (λ clauses. IsHeavy clauses learn 134217728 log) → IsVerified p g source model units learn (Over 7 134217728)
+  question_heavy u log legal steered asked = of_pairs refl refl (log, of_question u legal steered asked)
 
   -- ---- Of an obligation
 

@@ -18,7 +18,7 @@ use Rattle.cert_text.specs.Writing.{write_cert_of}
 use Rattle.cert_verdicts.specs.Judged.{IsCertificate}
 use Rattle.verdicts.specs.declared.verdict.Verdict.{Verdict}
 use Rattle.verdicts.specs.declared.verdict.Verdict.TheVariants.{Unsafe}
-use Rattle.source_verdicts.specs.Verified.{IsVerified, Meets, unwritten_for}
+use Rattle.source_verdicts.specs.Verified.{IsVerified, Meets, MeetsAt, unwritten_for}
 use Rattle.source_verdicts.specs.Verified.IsLimit.{of_bytes, of_values}
 
 module _ (p : Program) (g : Flow) (source : List ℕ) (model : Model) (units learn : ℕ) where
@@ -48,3 +48,8 @@ module _ (p : Program) (g : Flow) (source : List ℕ) (model : Model) (units lea
 -- an error at this offset
 pub meets_at : (p : Program) (source : List ℕ) (kind : ErrorKind) (place : Place) (at turns : ℕ) (values : List ℤ) → place ≡ place_at source at → run turns p values ≡ Error kind at (length values) → Meets p source kind place values
 meets_at p source kind place at turns values is ends = record { at = at; is_at = is; turns = turns; ends = ends }
+
+-- the same of a copy of the values
+pub met_at_offset : (p : Program) (source : List ℕ) (kind : ErrorKind) (place : Place) (at turns : ℕ) (values copy : List ℤ) → copy ≡ values → place ≡ place_at source at → run turns p values ≡ Error kind at (length values) → MeetsAt p source kind place copy at
+met_at_offset p source kind place at turns values copy same is ends =
+    subst (λ (x : List ℤ). MeetsAt p source kind place x at) (sym same) (record { is_at = is; turns = turns; ends = ends })

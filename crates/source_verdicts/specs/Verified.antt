@@ -1,5 +1,5 @@
 -- What the verdict on a source means.
-use Rattle.std.specs.Prelude.{ℕ, ◌≡◌, ◌<◌, ◌⊎◌, Bool, false, nat_lt, ◌==◌, if◌then◌else◌, List, length, ℤ, Option, Some, None, Ok, Err, unsigned_abs}
+use Rattle.std.specs.Prelude.{ℕ, ◌≡◌, ◌⊎◌, Bool, false, nat_lt, ◌==◌, if◌then◌else◌, List, length, ℤ, Option, Some, None, Ok, Err, unsigned_abs}
 use Rattle.std.specs.List.{list_all}
 use Rattle.lv_base.specs.Place.{place_at}
 use Rattle.lv_base.specs.declared.kind.Model.{Model}
@@ -19,6 +19,7 @@ use Rattle.resolution_log.specs.declared.Chain.{Chain}
 use Rattle.clause_learning.specs.Solve.{IsHeavy, IsSpent}
 use Rattle.cover_engine.specs.Unwindings.{Unwound, is_complete}
 use Rattle.cover_engine.specs.Units.{Legal}
+use Rattle.cover_engine.specs.Steering.{Steered}
 use Rattle.explore.specs.Ends.{IsAsked}
 use Rattle.obligations.specs.Stated.{obligation_says}
 use Rattle.stored_text.specs.declared.StoredFail.{StoredFail}
@@ -31,6 +32,9 @@ use Rattle.cert_text.specs.Writing.{write_cert_of}
 use Rattle.cert_build.specs.Proofs.{IsLowest}
 use Rattle.cert_verdicts.specs.Judged.{IsCertificate}
 use Rattle.source_verdicts.specs.declared.replaying.Met.{Met}
+use Rattle.cert_check.specs.Answers.{numbered}
+use Rattle.source_verdicts.specs.declared.found.Found.{Found}
+use Rattle.source_verdicts.specs.declared.found.Found.TheVariants as found
 use Rattle.verdicts.specs.declared.verdict.Verdict.{Verdict}
 use Rattle.verdicts.specs.declared.verdict.Verdict.TheVariants.{Safe, Unsafe, OutOfUnits, OutOfLearn, Unreplayed, Accepted, Rejected, Faulty, Over, ReadFault, NoMemory}
 
@@ -66,10 +70,10 @@ met_at n _ = None
 abbrev pub IsAstray : Program → List ℤ → Type 0
 IsAstray p values = (list_all is_short_value values ≡ false) ⊎ ((turns : ℕ) × (met_in (length values) (run turns p values) ≡ None))
 
--- Something is so of the clauses of a question that a legal unwinding of the graph has, which is not complete and has fewer units than are
--- allowed; or of those of an obligation of a map, the ones before it being refuted with so many learned clauses each.
+-- Something is so of the clauses of a question that a legal and steered unwinding of the graph has, which is not complete and has fewer units
+-- than are allowed; or of those of an obligation of a map, the ones before it being refuted with so many learned clauses each.
 pub data IsMet (g : Flow) (units learn : ℕ) (Why : List (List Lit) → Type 0) : Type 0 where
-  of_question : (unwinding : Unwound) → Legal g unwinding → IsAsked g units unwinding Why → IsMet g units learn Why
+  of_question : (unwinding : Unwound) → Legal g unwinding → Steered g unwinding → IsAsked g units unwinding Why → IsMet g units learn Why
   of_obligation : (m : Formulas) (number : ℕ) → IsMapOf g m → IsLowest g m learn number → Why (obligation_says g m number) → IsMet g units learn Why
 
 -- A log over the clauses numbers the learned clauses that are allowed.
@@ -92,10 +96,11 @@ pub data IsLimit (p : Program) (g : Flow) (source : List ℕ) (model : Model) (u
   of_bytes : (cert : Cert) → IsCertificate g source model cert → write_cert_of (content_of cert) ≡ Err (stored.Over number count) → IsLimit p g source model units learn number count
   of_values : (kind : ErrorKind) (place : Place) (values : List ℤ) → Meets p source kind place values → write_run_of values ≡ Err (stored.Over number count) → IsLimit p g source model units learn number count
 
--- a legal unwinding of the graph has all units that are allowed and is not complete
+-- a legal and steered unwinding of the graph has all units that are allowed and is not complete
 pub record IsOutOfUnits (g : Flow) (units : ℕ) : Type 0 where
   pub unwinding : Unwound
   pub legal : Legal g unwinding
+  pub steered : Steered g unwinding
   pub incomplete : is_complete g unwinding ≡ false
   pub all : length unwinding.journal ≡ units
 
@@ -119,3 +124,49 @@ abbrev pub unwritten_for : StoredFail → Verdict
 unwritten_for (stored.Over number count) = Over number count
 unwritten_for (stored.Format at) = NoMemory
 unwritten_for stored.Memory = NoMemory
+
+-- ---- What witnesses tell of
+
+-- the map is that of the certificate of this text, which proves that the source is safe
+pub record HoldsMap (g : Flow) (source : List ℕ) (model : Model) (text : List ℕ) (m : Formulas) : Type 0 where
+  pub proved : IsProved g source model text
+  pub terms : proved.cert.terms.items ≡ m.terms.terms
+  pub formulas : numbered proved.cert.formulas.items ≡ m.at
+
+-- these values, all of them being drawn, lead the program to this error at this offset
+pub record MeetsAt (p : Program) (source : List ℕ) (kind : ErrorKind) (place : Place) (values : List ℤ) (at : ℕ) : Type 0 where
+  pub is_at : place ≡ place_at source at
+  pub turns : ℕ
+  pub ends : run turns p values ≡ Error kind at (length values)
+
+-- the map that makes a source safe, or the offset of the error that is reached
+abbrev pub IsFound : Program → Flow → List ℕ → Model → Verdict → Found → Type 0
+IsFound p g source model (Safe text) f = (m : Formulas) × (f ≡ found.OfMap m) × HoldsMap g source model text m
+IsFound p g source model (Unsafe kind place values text) f = (at : ℕ) × (f ≡ found.AtOffset at) × MeetsAt p source kind place values at
+IsFound p g source model (OutOfUnits n) f = Unit {0}
+IsFound p g source model (OutOfLearn n) f = Unit {0}
+IsFound p g source model Unreplayed f = Unit {0}
+IsFound p g source model (Over number count) f = Unit {0}
+IsFound p g source model NoMemory f = Unit {0}
+IsFound p g source model Accepted f = Unit {0}
+IsFound p g source model (Rejected rejection) f = Unit {0}
+IsFound p g source model (Faulty fault place) f = Unit {0}
+IsFound p g source model ReadFault f = Unit {0}
+
+-- the verdict, and what a witness of it tells of
+abbrev pub IsVerifiedAs : Program → Flow → List ℕ → Model → ℕ → ℕ → Verdict × Found → Type 0
+IsVerifiedAs p g source model units learn v = IsVerified p g source model units learn v.0 × IsFound p g source model v.0 v.1
+
+-- a verdict by a map: SAFE is by the certificate of this map
+abbrev pub IsByMap : Flow → List ℕ → Model → Formulas → Verdict → Type 0
+IsByMap g source model m (Safe text) = HoldsMap g source model text m
+IsByMap g source model m (Unsafe kind place values text) = ⊥
+IsByMap g source model m (OutOfUnits n) = Unit {0}
+IsByMap g source model m (OutOfLearn n) = Unit {0}
+IsByMap g source model m Unreplayed = Unit {0}
+IsByMap g source model m (Over number count) = Unit {0}
+IsByMap g source model m NoMemory = Unit {0}
+IsByMap g source model m Accepted = Unit {0}
+IsByMap g source model m (Rejected rejection) = Unit {0}
+IsByMap g source model m (Faulty fault place) = Unit {0}
+IsByMap g source model m ReadFault = Unit {0}

@@ -1,19 +1,21 @@
-ghost use Rattle.std.specs.Prelude.{◌≡◌, ◌<◌, ℕ, true};
+ghost use Rattle.std.specs.Prelude.{◌≡◌, ◌<◌, ◌≤◌, ℕ, true};
 ghost use Rattle.sha2.specs.Sha256.{sha256};
 ghost use Rattle.c_graph.specs.Runs.{IsMapOf};
 ghost use Rattle.c_graph.specs.Shape.{widths_of};
 ghost use Rattle.cert_build.specs.Proofs.{AreProofs};
-ghost use Rattle.cert_check.specs.Answers.{IsAccepted};
+ghost use Rattle.cert_check.specs.Answers.{IsAccepted, numbered};
 ghost use Rattle.cover_engine.specs.Unwindings.{is_complete};
 ghost use Rattle.cover_engine.specs.Units.{Legal};
 ghost use Rattle.obligation_laws.specs.Laws.{AllRefuted};
 ghost use Rattle.c_typed.specs.Tree.{Program};
-ghost use Rattle.source_verdicts.specs.Verified.{IsVerified};
+ghost use Rattle.source_verdicts.specs.Verified.{IsByMap, IsVerified, IsVerifiedAs};
 
+use crate::found::Found;
 use crate::unwritten::unwritten;
+use crate::verifying::Budget;
 use c_graph::{Graph, Map};
 use cdcl_solver::QueryFail;
-use cert_build::{Proved, certificate, prove};
+use cert_build::{Proved, certificate};
 use cert_check_laws::accepted_is_safe;
 use cert_text::{Cert, write_cert};
 use certificate_laws::written_is_read;
@@ -21,28 +23,34 @@ use clause_learning::MOST_PAIRS;
 use cover_engine::Unwinding;
 use invariant_map::extract;
 use lv_base::{Model, Text};
+use lv_outside::Gate;
 use map_laws::extracted_is_inductive;
 use obligation_laws::inductive_exact;
+use prove_workers::prove_beside;
 use resolution_log::Log;
 use sha2::{Digest, Sha256};
 use std::alloc::Global;
+use std::thread::Threads;
 use verdicts::Verdict;
 
 /// The verdict on a complete unwinding: each obligation of its map is refuted, and the certificate of that is written. Since the map is
 /// inductive, no obligation fails.
-pub(crate) fn certified(
+pub(crate) fn certified<R: Threads + Sync, G: Gate>(
+    rt: &R,
     alloc: Global,
     graph: &Graph,
     source: &[u8],
     model: Model,
     unwinding: &Unwinding,
-    learn: u64,
-) -> Verdict
+    budget: Budget,
+    gate: &G,
+) -> (Verdict, Found)
     requires cells { unwinding.now.terms.cells ≡ widths_of graph.now.cells }
     requires legal { Legal graph.now unwinding.now }
     requires complete { is_complete graph.now unwinding.now ≡ true }
-    requires learn { 0 < learn }
-    ensures { (p : Program) (units : ℕ) → IsVerified p graph.now source.now model units learn result }
+    requires learn { 0 < budget.learn }
+    requires workers { (1 ≤ budget.workers) × (budget.workers ≤ 64) }
+    ensures { (p : Program) (units : ℕ) → IsVerifiedAs p graph.now source.now model units budget.learn result }
 {
     extracted_is_inductive();
     inductive_exact();
@@ -51,26 +59,31 @@ pub(crate) fn certified(
     match extract(alloc, graph, unwinding) {
         Ok(map) => {
             let _widths = map.terms().cells();
-            proved(alloc, graph, source, model, &map, learn)
+            let verdict = proved(rt, alloc, graph, source, model, &map, budget, gate);
+            (verdict, Found::OfMap(map))
         }
-        Err(_) => Verdict::NoMemory,
+        Err(_) => (Verdict::NoMemory, Found::Nothing),
     }
 }
 
-fn proved(
+fn proved<R: Threads + Sync, G: Gate>(
+    rt: &R,
     alloc: Global,
     graph: &Graph,
     source: &[u8],
     model: Model,
     map: &Map,
-    learn: u64,
+    budget: Budget,
+    gate: &G,
 ) -> Verdict
     requires map { IsMapOf graph.now map.now }
     requires refuted { AllRefuted graph.now map.now }
-    requires learn { 0 < learn }
-    ensures { (p : Program) (units : ℕ) → IsVerified p graph.now source.now model units learn result }
+    requires learn { 0 < budget.learn }
+    requires workers { (1 ≤ budget.workers) × (budget.workers ≤ 64) }
+    ensures { ((p : Program) (units : ℕ) → IsVerified p graph.now source.now model units budget.learn result) × IsByMap graph.now source.now model map.now result }
 {
-    match prove(alloc, graph, map, learn) {
+    let (learn, workers) = (budget.learn, budget.workers);
+    match prove_beside(rt, alloc, graph, map, learn, workers, gate) {
         Ok(Proved::Logs(logs)) => stored(alloc, graph, source, model, map, logs),
         Ok(Proved::Fails(_number)) => unreachable!(),
         Ok(Proved::Spent(_number, _log)) => Verdict::OutOfLearn(learn),
@@ -90,20 +103,28 @@ fn stored(
 ) -> Verdict
     requires map { IsMapOf graph.now map.now }
     requires proofs { (learn : ℕ) × AreProofs graph.now map.now learn logs.items }
-    ensures { (p : Program) (units learn : ℕ) → IsVerified p graph.now source.now model units learn result }
+    ensures { ((p : Program) (units learn : ℕ) → IsVerified p graph.now source.now model units learn result) × IsByMap graph.now source.now model map.now result }
 {
     match certificate(alloc, Sha256::digest(source), model, map, logs) {
-        Ok(cert) => written(alloc, graph, source, model, &cert),
+        Ok(cert) => written(alloc, graph, source, model, map, &cert),
         Err(_) => Verdict::NoMemory,
     }
 }
 
-// The text of a certificate that is accepted.
-fn written(alloc: Global, graph: &Graph, _source: &[u8], _model: Model, cert: &Cert) -> Verdict
+// The text of a certificate that is accepted, which is made of this map.
+fn written(
+    alloc: Global,
+    graph: &Graph,
+    _source: &[u8],
+    _model: Model,
+    _map: &Map,
+    cert: &Cert,
+) -> Verdict
     requires hash { cert.now.hash ≡ sha256 _source.now }
     requires model { cert.now.model ≡ _model }
+    requires of_map { (cert.now.terms.items ≡ _map.now.terms.terms) × (numbered cert.now.formulas.items ≡ _map.now.at) }
     requires accepted { IsAccepted graph.now cert.now }
-    ensures { (p : Program) (units learn : ℕ) → IsVerified p graph.now _source.now _model units learn result }
+    ensures { ((p : Program) (units learn : ℕ) → IsVerified p graph.now _source.now _model units learn result) × IsByMap graph.now _source.now _model _map.now result }
 {
     accepted_is_safe();
     written_is_read();

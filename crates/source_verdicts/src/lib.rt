@@ -3,10 +3,12 @@
 #![tactic(auto)]
 
 mod certifying;
+mod found;
 mod laws;
 mod replaying;
 mod unwritten;
 mod verifying;
 
+pub use found::Found;
 pub use laws::written_is_accepted;
 pub use verifying::{Budget, verify};

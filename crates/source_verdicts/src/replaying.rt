@@ -9,8 +9,9 @@ ghost use Rattle.c_typed.specs.Parts.{tree_of};
 ghost use Rattle.c_typed.specs.Run as typed;
 ghost use Rattle.slot_code.specs.Machine.{ending_of};
 ghost use Rattle.stored_text.specs.RunText.{AreShort};
-ghost use Rattle.source_verdicts.specs.Verified.{IsVerified, is_short_value, met_at};
+ghost use Rattle.source_verdicts.specs.Verified.{IsVerifiedAs, is_short_value, met_at};
 
+use crate::found::Found;
 use crate::unwritten::unwritten;
 use c_rules::Examined;
 use lv_base::{ErrorKind, Memory, Place, Text, place_of};
@@ -35,28 +36,34 @@ pub(crate) fn replayed(
     source: &[u8],
     values: &[i128],
     turns: u64,
-) -> Verdict
+) -> (Verdict, Found)
     requires small { length source.now ≤ 2 ^ 20 }
-    ensures { (g : Flow) (model : Model) (units learn : ℕ) → IsVerified (tree_of examined.now.typed) g source.now model units learn result }
+    ensures { (g : Flow) (model : Model) (units learn : ℕ) → IsVerifiedAs (tree_of examined.now.typed) g source.now model units learn result }
 {
     if !are_short(values) {
-        return Verdict::Unreplayed;
+        return (Verdict::Unreplayed, Found::Nothing);
     }
     match Replay::new(alloc, examined) {
         Ok(mut replay) => ended(alloc, source, values, replay.run(values, turns), turns),
-        Err(_) => Verdict::NoMemory,
+        Err(_) => (Verdict::NoMemory, Found::Nothing),
     }
 }
 
 // The verdict on how a run ended.
-fn ended(alloc: Global, source: &[u8], values: &[i128], ending: Ending, _turns: u64) -> Verdict
+fn ended(
+    alloc: Global,
+    source: &[u8],
+    values: &[i128],
+    ending: Ending,
+    _turns: u64,
+) -> (Verdict, Found)
     requires small { length source.now ≤ 2 ^ 20 }
     requires short { list_all is_short_value values.now ≡ true }
-    ensures { (p : Program) (g : Flow) (model : Model) (units learn : ℕ) → ending ≡ ending_of (typed.run _turns p values.now) → IsVerified p g source.now model units learn result }
+    ensures { (p : Program) (g : Flow) (model : Model) (units learn : ℕ) → ending ≡ ending_of (typed.run _turns p values.now) → IsVerifiedAs p g source.now model units learn result }
 {
     match met_by(ending, values.len()) {
         Some(met) => reached(alloc, source, met, values, _turns),
-        None => Verdict::Unreplayed,
+        None => (Verdict::Unreplayed, Found::Nothing),
     }
 }
 
@@ -77,18 +84,21 @@ fn met_by(ending: Ending, count: usize) -> Option<Met>
 }
 
 // The verdict on values that reach an error, all of them being drawn.
-fn reached(alloc: Global, source: &[u8], met: Met, values: &[i128], _turns: u64) -> Verdict
+fn reached(alloc: Global, source: &[u8], met: Met, values: &[i128], _turns: u64) -> (Verdict, Found)
     requires small { length source.now ≤ 2 ^ 20 }
     requires short { list_all is_short_value values.now ≡ true }
-    ensures { (p : Program) (g : Flow) (model : Model) (units learn : ℕ) → typed.run _turns p values.now ≡ Error met.kind met.at (length values.now) → IsVerified p g source.now model units learn result }
+    ensures { (p : Program) (g : Flow) (model : Model) (units learn : ℕ) → typed.run _turns p values.now ≡ Error met.kind met.at (length values.now) → IsVerifiedAs p g source.now model units learn result }
 {
     let place = place_in(source, met.at);
     match copied(alloc, values) {
         Ok(copy) => match write_run(alloc, values) {
-            Ok(text) => Verdict::Unsafe(met.kind, place, copy, Text::new(text)),
-            Err(fail) => unwritten(fail),
+            Ok(text) => (
+                Verdict::Unsafe(met.kind, place, copy, Text::new(text)),
+                Found::AtOffset(met.at),
+            ),
+            Err(fail) => (unwritten(fail), Found::Nothing),
         },
-        Err(_) => Verdict::NoMemory,
+        Err(_) => (Verdict::NoMemory, Found::Nothing),
     }
 }
 

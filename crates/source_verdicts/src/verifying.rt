@@ -1,71 +1,84 @@
 ghost use Rattle.std.specs.Prelude.{◌<◌, ◌≤◌, ◌^◌, length};
 ghost use Rattle.c_typed.specs.Parts.{tree_of};
-ghost use Rattle.source_verdicts.specs.Verified.{IsVerified};
+ghost use Rattle.source_verdicts.specs.Verified.{IsVerifiedAs};
 
 use crate::certifying::certified;
+use crate::found::Found;
 use crate::replaying::replayed;
 use c_graph::Graph;
 use c_rules::Examined;
 use clause_learning::MOST_PAIRS;
 use explore::{Explored, explore};
 use lv_base::Model;
+use lv_outside::Gate;
 use std::alloc::Global;
+use std::thread::Threads;
 use verdicts::Verdict;
 
-/// What a verification may spend: units of the method, and learned clauses of a question.
+/// What a verification may spend: units of the method, learned clauses of a question, and workers for the proofs of a certificate.
 #[derive(Clone, Copy)]
 pub struct Budget {
     pub units: u64,
     pub learn: u64,
+    pub workers: u32,
 }
 
 /// The verdict on a source, by its typed tree and the graph that was made of it. Without units or learned clauses nothing is tried.
-pub fn verify(
+pub fn verify<R: Threads + Sync, G: Gate>(
+    rt: &R,
     alloc: Global,
     examined: &Examined,
     graph: &Graph,
     source: &[u8],
     model: Model,
     budget: Budget,
-) -> Verdict
+    gate: &G,
+) -> (Verdict, Found)
     requires small { length source.now ≤ 2 ^ 20 }
-    ensures { IsVerified (tree_of examined.now.typed) graph.now source.now model budget.units budget.learn result }
+    requires workers { (1 ≤ budget.workers) × (budget.workers ≤ 64) }
+    ensures { IsVerifiedAs (tree_of examined.now.typed) graph.now source.now model budget.units budget.learn result }
 {
     if budget.units == 0 {
-        return Verdict::OutOfUnits(0);
+        return (Verdict::OutOfUnits(0), Found::Nothing);
     }
     if budget.learn == 0 {
-        return Verdict::OutOfLearn(0);
+        return (Verdict::OutOfLearn(0), Found::Nothing);
     }
-    explored(alloc, examined, graph, source, model, budget)
+    explored(rt, alloc, examined, graph, source, model, budget, gate)
 }
 
-fn explored(
+fn explored<R: Threads + Sync, G: Gate>(
+    rt: &R,
     alloc: Global,
     examined: &Examined,
     graph: &Graph,
     source: &[u8],
     model: Model,
     budget: Budget,
-) -> Verdict
+    gate: &G,
+) -> (Verdict, Found)
     requires small { length source.now ≤ 2 ^ 20 }
+    requires workers { (1 ≤ budget.workers) × (budget.workers ≤ 64) }
     requires units { 0 < budget.units }
     requires learn { 0 < budget.learn }
-    ensures { IsVerified (tree_of examined.now.typed) graph.now source.now model budget.units budget.learn result }
+    ensures { IsVerifiedAs (tree_of examined.now.typed) graph.now source.now model budget.units budget.learn result }
 {
     match explore(alloc, graph, budget.units, budget.learn) {
         Ok(Explored::Complete(unwinding)) => {
-            certified(alloc, graph, source, model, &unwinding, budget.learn)
+            certified(rt, alloc, graph, source, model, &unwinding, budget, gate)
         }
         Ok(Explored::Feasible(unwinding, values)) => {
             let steps = steps_in(graph, unwinding.vertices().len());
             replayed(alloc, examined, source, values.as_slice(), steps)
         }
-        Ok(Explored::Units(_)) => Verdict::OutOfUnits(budget.units),
-        Ok(Explored::Learned(_unwinding, _log)) => Verdict::OutOfLearn(budget.learn),
-        Ok(Explored::Over(_unwinding, count)) => Verdict::Over(6, count),
-        Ok(Explored::OverLog(_unwinding, _log)) => Verdict::Over(7, MOST_PAIRS),
-        Err(_) => Verdict::NoMemory,
+        Ok(Explored::Units(_)) => (Verdict::OutOfUnits(budget.units), Found::Nothing),
+        Ok(Explored::Learned(_unwinding, _log)) => (
+            Verdict::OutOfLearn(budget.learn),
+            Found::Nothing,
+        ),
+        Ok(Explored::Over(_unwinding, count)) => (Verdict::Over(6, count), Found::Nothing),
+        Ok(Explored::OverLog(_unwinding, _log)) => (Verdict::Over(7, MOST_PAIRS), Found::Nothing),
+        Err(_) => (Verdict::NoMemory, Found::Nothing),
     }
 }
 

@@ -7,27 +7,35 @@ use Rattle.source_verdicts.proofs.Spending.{obligation_spent, obligation_long, o
 use Rattle.source_verdicts.proofs.certifying.proved.Goals as goal
 
 pub returns-in-Ok-Logs : goal.returns-in-Ok-Logs
-returns-in-Ok-Logs c = λ p units. c.stored.ensures p units c.args.learn
+returns-in-Ok-Logs g c = (λ p units. c.stored.ensures.0 p units c.args.budget.learn, c.stored.ensures.1)
 
 pub returns-in-Ok-Spent : goal.returns-in-Ok-Spent
-returns-in-Ok-Spent c = λ p units.
-    let spent = subst (λ (x : Proved). IsProved c.args.graph.now c.args.map.now c.args.learn x) c.in-Ok-Spent.field-0-is c.in-Ok-Spent.ensures.proved in
-    obligation_spent p c.args.graph.now c.args.source.now c.args.model units c.args.learn c.args.map.now c.in-Ok-Spent._number c.in-Ok-Spent._log c.requires.map
-    spent.0 spent.1
+returns-in-Ok-Spent g c =
+    let spent = subst (λ (x : Proved). IsProved c.args.graph.now c.args.map.now c.args.budget.learn x) c.in-Ok-Spent.field-0-is c.in-Ok-Spent.ensures.proved in (
+      λ p units. obligation_spent p c.args.graph.now c.args.source.now c.args.model units c.args.budget.learn c.args.map.now c.in-Ok-Spent._number c.in-Ok-Spent._log c.requires.map
+          spent.0 spent.1,
+      tt,
+    )
 
 pub returns-in-Err-Over : goal.returns-in-Err-Over
-returns-in-Err-Over c = λ p units.
-    let g = c.args.graph.now in
-    let long = obligation_long p g c.args.source.now c.args.model units c.args.learn c.args.map.now c.in-Err-Over.count c.requires.map
-    (subst (λ (x : QueryFail). IsProveCause g c.args.map.now c.args.learn x) c.in-Err-Over.field-0-is c.in-Err-Over.ensures.cause) in
-    subst (λ (n : ℕ). IsLimit p g c.args.source.now c.args.model units c.args.learn 6 n) (sym c.in-Err-Over.count-is) long
+returns-in-Err-Over g c = (
+  λ p units.
+      let g = c.args.graph.now in
+      let long = obligation_long p g c.args.source.now c.args.model units c.args.budget.learn c.args.map.now c.in-Err-Over.count c.requires.map
+      (subst (λ (x : QueryFail). IsProveCause g c.args.map.now c.args.budget.learn x) c.in-Err-Over.field-0-is c.in-Err-Over.ensures.cause) in
+      subst (λ (n : ℕ). IsLimit p g c.args.source.now c.args.model units c.args.budget.learn 6 n) (sym c.in-Err-Over.count-is) long,
+  tt,
+)
 
 pub returns-in-Err-OverLog : goal.returns-in-Err-OverLog
-returns-in-Err-OverLog c = λ p units.
-    obligation_heavy p c.args.graph.now c.args.source.now c.args.model units c.args.learn c.args.map.now c.in-Err-OverLog._log c.requires.map
-    (subst (λ (x : QueryFail). IsProveCause c.args.graph.now c.args.map.now c.args.learn x) c.in-Err-OverLog.field-0-is c.in-Err-OverLog.ensures.cause)
+returns-in-Err-OverLog g c = (
+  λ p units.
+      obligation_heavy p c.args.graph.now c.args.source.now c.args.model units c.args.budget.learn c.args.map.now c.in-Err-OverLog._log c.requires.map
+      (subst (λ (x : QueryFail). IsProveCause c.args.graph.now c.args.map.now c.args.budget.learn x) c.in-Err-OverLog.field-0-is c.in-Err-OverLog.ensures.cause),
+  tt,
+)
 
 pub unreachable-requires : goal.unreachable-requires
-unreachable-requires c =
-    let fails = subst (λ (x : Proved). IsProved c.args.graph.now c.args.map.now c.args.learn x) c.in-Ok-Fails.field-0-is c.in-Ok-Fails.ensures.proved in
+unreachable-requires g c =
+    let fails = subst (λ (x : Proved). IsProved c.args.graph.now c.args.map.now c.args.budget.learn x) c.in-Ok-Fails.field-0-is c.in-Ok-Fails.ensures.proved in
     c.requires.refuted c.in-Ok-Fails._number fails.0.there fails.1.0 fails.1.1

@@ -9,4 +9,4 @@ returns-in-Some c = λ p g model units learn is.
 
 pub returns-in-None : goal.returns-in-None
 returns-in-None c = λ p g model units learn is.
-    (c.args.values.now, inr (c.args._turns, none_met (length c.args.values.now) c.args.ending (typed.run c.args._turns p c.args.values.now) is c.in-None.ensures))
+    ((c.args.values.now, inr (c.args._turns, none_met (length c.args.values.now) c.args.ending (typed.run c.args._turns p c.args.values.now) is c.in-None.ensures)), tt)
