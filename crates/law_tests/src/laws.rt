@@ -138,6 +138,20 @@ fn instructions_and_cells() {
 }
 
 #[test]
+fn runs_over_graphs_that_come_back() {
+    code_back_laws::moves_are_determined();
+    code_back_laws::returns_are_unread();
+    code_back_laws::stores_open();
+    code_back_laws::flat_errors_come_back();
+    code_back_laws::typed_errors_come_back();
+    code_back_laws::program_errors_come_back();
+    code_visit_laws::flat_visits_follow();
+    inline_back_laws::inlined_runs_come_back();
+    inline_back_laws::met_errors_come_back();
+    inline_back_laws::inlined_errors_come_back();
+}
+
+#[test]
 fn graphs_of_blocks() {
     block_laws::blocks_keep_errors();
     block_laws::blocked_map_means_safe();
@@ -248,6 +262,8 @@ fn unwindings() {
     unwinding_laws::legal_paths_are_of_edges();
     unwinding_laws::one_more_is_steered();
     unwinding_laws::growing_tables_keep_steering();
+    journal_length_laws::journals_are_short();
+    enough_unit_laws::enough_units_are_not_spent();
 }
 
 #[test]
@@ -280,6 +296,15 @@ fn chains_of_edges() {
     join_laws::blocks_keep();
     join_laws::chains_keep();
     join_laws::error_flow_fails();
+}
+
+#[test]
+fn runs_that_come_back() {
+    edge_chain_back_laws::chains_come_back();
+    edge_chain_back_laws::chain_errors_come_back();
+    block_back_laws::blocks_come_back();
+    block_back_laws::block_errors_come_back();
+    block_edges::complements_cover();
 }
 
 #[test]
@@ -362,6 +387,13 @@ fn clauses_of_paths() {
 fn formulas_along_paths() {
     chain_laws::formulas_are_linked();
     chain_laws::formulas_make_links();
+}
+
+#[test]
+fn needed_cells() {
+    needed_cell_laws::needed_is_read();
+    needed_cell_laws::cuts_are_read();
+    needed_cell_laws::shared_is_read();
 }
 
 #[test]

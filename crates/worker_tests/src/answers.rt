@@ -32,7 +32,9 @@ fn the_answer_is_that_of_one(rt: HostRuntime) -> Result<(), Fail> {
 fn what_is_proved_is_accepted(rt: HostRuntime) -> Result<(), Fail> {
     let alloc = rt.alloc();
     let graph = row_graph(alloc).map_err(|_| "no graph")?;
-    let map = row_map(alloc, &graph, &[0, 0, 0, 1]).map_err(|_| "no map")?;
+    let Ok(map) = row_map(alloc, &graph, &[0, 0, 0, 1]) else {
+        return Err("no map".into());
+    };
     for workers in [1, 2, 8, 64] {
         let proof = prove_beside(&rt, alloc, &graph, &map, 1_000, workers, &FreeGate).map_err(
             |_| "no proof",
@@ -50,7 +52,9 @@ fn what_is_proved_is_accepted(rt: HostRuntime) -> Result<(), Fail> {
 fn the_lowest_that_fails_is_told(rt: HostRuntime) -> Result<(), Fail> {
     let alloc = rt.alloc();
     let graph = row_graph(alloc).map_err(|_| "no graph")?;
-    let map = row_map(alloc, &graph, &[0, 1, 0, 0]).map_err(|_| "no map")?;
+    let Ok(map) = row_map(alloc, &graph, &[0, 1, 0, 0]) else {
+        return Err("no map".into());
+    };
     for workers in [1, 2, 8, 64] {
         let proof = prove_beside(&rt, alloc, &graph, &map, 1_000, workers, &FreeGate).map_err(
             |_| "no proof",

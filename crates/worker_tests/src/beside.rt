@@ -22,7 +22,9 @@ fn workers_run_beside_each_other(rt: HostRuntime) -> Result<(), Fail> {
 fn provers_run_beside_each_other(rt: HostRuntime) -> Result<(), Fail> {
     let alloc = rt.alloc();
     let graph = row_graph(alloc).map_err(|_| "no graph")?;
-    let map = row_map(alloc, &graph, &[0, 0, 0, 1]).map_err(|_| "no map")?;
+    let Ok(map) = row_map(alloc, &graph, &[0, 0, 0, 1]) else {
+        return Err("no map".into());
+    };
     let gate = HoldGate::new();
     let proof = prove_beside(&rt, alloc, &graph, &map, 1_000, 2, &gate).map_err(|_| "no proof")?;
     assert_eq!(rt; matches!(proof, Proved::Logs(_)), true);

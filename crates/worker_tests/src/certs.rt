@@ -1,5 +1,8 @@
 //! A graph of three nodes in a row and an error to which none leads, and its certificate: true everywhere but at the error.
 
+ghost use Rattle.std.specs.Prelude.{IfOk};
+ghost use Rattle.c_graph.specs.Runs.{IsMapOf};
+
 use bv_term::{Term, Terms};
 use c_graph::{Edge, Graph, Map, Node, NodeId, Operations, graph_from};
 use cert_build::{Proved, certificate, prove};
@@ -76,8 +79,13 @@ fn unproved(alloc: Global, formulas: &[u32]) -> Result<Cert, NoCert> {
 }
 
 /// The map with one of the terms true and false, by number, at each node of the graph.
-pub(crate) fn row_map(alloc: Global, graph: &Graph, formulas: &[u32]) -> Result<Map, NoCert> {
-    map_of(alloc, graph, &unproved(alloc, formulas)?).map_err(|_| NoCert::Refused)
+pub(crate) fn row_map(alloc: Global, graph: &Graph, formulas: &[u32]) -> Result<Map, NoCert>
+    ensures { IfOk result (λ m. IsMapOf graph.now m) }
+{
+    let Ok(map) = map_of(alloc, graph, &unproved(alloc, formulas)?) else {
+        return Err(NoCert::Refused);
+    };
+    Ok(map)
 }
 
 /// The certificate of a map and its proof.
