@@ -1,5 +1,5 @@
 -- The value of a cell among rising ones.
-use Rattle.std.proofs.Common.{◌≡◌, ℕ, ◌+◌, ◌<◌, ◌≤◌, length, List, [], ◌∷◌, arith, ap, sym, ◌∙◌, refl, suc, zero, slice_index_or, drop, Bool, true, false, nat_lt, ◌==◌, if◌then◌else◌, drop-cons, subst, inl, inr}
+use Rattle.std.proofs.Common.{◌≡◌, ℕ, ◌+◌, ◌<◌, ◌≤◌, length, List, [], ◌∷◌, arith, ap, ◌∙◌, refl, suc, zero, slice_index_or, drop, Bool, true, false, nat_lt, if◌then◌else◌, drop-cons, subst, inl, inr}
 use Rattle.std.proofs.lemmas.Bool.{ltb-false, eq-eqb, ne_eqb, cases_eq}
 use Rattle.c_graph.specs.declared.store.Named.{Named}
 use Rattle.c_graph.specs.Stores.{kept_for, rises_from}

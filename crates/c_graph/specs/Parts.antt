@@ -6,6 +6,7 @@ use Rattle.c_graph.specs.declared.graph.NodeId.{NodeId}
 use Rattle.c_graph.specs.declared.graph.Node.{Node}
 use Rattle.c_graph.specs.declared.graph.Node.TheVariants.{Plain, Error, End, Call}
 use Rattle.c_graph.specs.declared.graph.Edge.{Edge}
+use Rattle.c_graph.specs.declared.graph.Cell.{Cell}
 use Rattle.c_graph.specs.declared.graph.LoopAt.{LoopAt}
 use Rattle.c_graph.specs.Shape.{Flow, EdgeFits, GoesOn, IsNodeOf, has_out}
 use Rattle.c_graph.specs.Functions.{FnFlow, Flows}
@@ -13,6 +14,10 @@ use Rattle.c_graph.specs.Functions.{FnFlow, Flows}
 -- an edge leads from each node that is marked
 abbrev pub AreMarks : List Edge → List Bool → Type 0
 AreMarks edges marks = (v : ℕ) → slice_index_or marks v false ≡ true → has_out edges (record { 0 = v }) ≡ true
+
+-- each of so many nodes from which an edge leads is marked
+abbrev pub AllMarked : ℕ → List Edge → List Bool → Type 0
+AllMarked count edges marks = (v : ℕ) → v < count → has_out edges (record { 0 = v }) ≡ true → slice_index_or marks v false ≡ true
 
 -- a plain node is marked
 abbrev pub GoesOnBy : List Node → List Bool → NodeId → Type 0
@@ -33,6 +38,18 @@ pub record IsSound (nodes : List Node) (leads : List Edge) (table : Table) (firs
   pub entry_goes_on : GoesOn nodes leads first
   pub targets_go_on : All (λ e. GoesOn nodes leads e.to) leads
   pub loops : All (λ l. IsNodeOf nodes l.node) places
+
+-- each function returns at an end node of its own
+abbrev pub ReturnAt : List FnFlow → List NodeId → Type 0
+ReturnAt graphs exits = (k : ℕ) (g : FnFlow) (v : NodeId) → slice_get graphs k ≡ Some g → slice_get exits k ≡ Some v → slice_get g.nodes v.0 ≡ Some End
+
+-- the graph and the function graphs of these parts
+abbrev pub flow_of : List Node → List Edge → List Cell → Table → NodeId → List LoopAt → Flow
+flow_of nodes edges cells terms entry loops =
+    record { nodes = nodes; edges = edges; cells = cells; terms = terms; entry = entry; loops = loops }
+
+abbrev pub flows_of : List FnFlow → List Cell → Table → List NodeId → ℕ → Flows
+flows_of graphs cells terms exits main = record { graphs = graphs; cells = cells; terms = terms; exits = exits; main = main }
 
 -- no terms, over no cells
 abbrev pub no_terms : Table

@@ -44,7 +44,7 @@ pub fn is_graph(
 }
 
 pub(crate) fn no_calls(nodes: &[Node]) -> bool
-    ensures { IsTrue result → All IsNoCall nodes.now }
+    ensures { IsTrue result ↔ All IsNoCall nodes.now }
 {
     for node in nodes {
         if let Node::Call(_, _) = *node {
@@ -55,7 +55,7 @@ pub(crate) fn no_calls(nodes: &[Node]) -> bool
 }
 
 pub(crate) fn are_widths_of(cells: &[Cell], widths: &[u32]) -> bool
-    ensures { IsTrue result → widths.now ≡ widths_of cells.now }
+    ensures { IsTrue result ↔ (widths.now ≡ widths_of cells.now) }
 {
     if cells.len() != widths.len() {
         return false;
@@ -75,7 +75,7 @@ pub(crate) fn is_node(nodes: &[Node], node: NodeId) -> bool
 }
 
 pub(crate) fn are_loops(nodes: &[Node], loops: &[LoopAt]) -> bool
-    ensures { IsTrue result → All (λ l. IsNodeOf nodes.now l.node) loops.now }
+    ensures { IsTrue result ↔ All (λ l. IsNodeOf nodes.now l.node) loops.now }
 {
     for a_loop in loops {
         if !is_node(nodes, a_loop.node) {
@@ -127,7 +127,7 @@ fn targets_go_on(nodes: &[Node], edges: &[Edge]) -> bool
 }
 
 pub(crate) fn fit_edges(nodes: &[Node], terms: &Terms, edges: &[Edge]) -> bool
-    ensures { IsTrue result → All (EdgeFits nodes.now terms.now) edges.now }
+    ensures { IsTrue result ↔ All (EdgeFits nodes.now terms.now) edges.now }
 {
     for edge in edges {
         if !fits_edge(nodes, terms, edge) {
@@ -138,7 +138,7 @@ pub(crate) fn fit_edges(nodes: &[Node], terms: &Terms, edges: &[Edge]) -> bool
 }
 
 fn fits_edge(nodes: &[Node], terms: &Terms, edge: &Edge) -> bool
-    ensures { IsTrue result → EdgeFits nodes.now terms.now edge.now }
+    ensures { IsTrue result ↔ EdgeFits nodes.now terms.now edge.now }
 {
     is_plain(nodes, edge.from)
         && is_node(nodes, edge.to)
@@ -146,7 +146,7 @@ fn fits_edge(nodes: &[Node], terms: &Terms, edge: &Edge) -> bool
 }
 
 fn fit_operations(terms: &Terms, operations: &[Operation]) -> bool
-    ensures { IsTrue result → All (OperationFits terms.now) operations.now }
+    ensures { IsTrue result ↔ All (OperationFits terms.now) operations.now }
 {
     for operation in operations {
         if !fits_operation(terms, *operation) {
@@ -157,7 +157,7 @@ fn fit_operations(terms: &Terms, operations: &[Operation]) -> bool
 }
 
 fn fits_operation(terms: &Terms, operation: Operation) -> bool
-    ensures { IsTrue result → OperationFits terms.now operation }
+    ensures { IsTrue result ↔ OperationFits terms.now operation }
 {
     match operation {
         Operation::Assume(term) => has_width(terms, term, 1),
@@ -173,20 +173,20 @@ fn fits_operation(terms: &Terms, operation: Operation) -> bool
 }
 
 fn has_width(terms: &Terms, term: TermId, width: u32) -> bool
-    ensures { IsTrue result → HasWidth terms.now term width }
+    ensures { IsTrue result ↔ HasWidth terms.now term width }
 {
     term.0 < terms.count() && terms.width_of(term) == width
 }
 
 fn fits_cell(terms: &Terms, cell: u32, term: TermId) -> bool
-    ensures { IsTrue result → FitsCell terms.now cell term }
+    ensures { IsTrue result ↔ FitsCell terms.now cell term }
 {
     let cells = terms.cells();
     (cell as usize) < cells.len() && has_width(terms, term, cells[cell as usize])
 }
 
 fn is_array(terms: &Terms, first: u32, length: u32, index: TermId) -> bool
-    ensures { IsTrue result → IsIndexed terms.now first length index }
+    ensures { IsTrue result ↔ IsIndexed terms.now first length index }
 {
     laws::one_for_each();
     terms.fits(Term::Element(first, length, index))

@@ -1,10 +1,10 @@
 //! Graphs from parts that are tested first, in time that grows with the parts alone: a mark for each node from which an edge
 //! leads answers whether a run that is there goes on.
-ghost use Rattle.std.specs.Prelude.{◌≡◌, ◌⊎◌, IsTrue, All, Some, IfOk, List, length, slice_get, ℕ};
+ghost use Rattle.std.specs.Prelude.{◌≡◌, ◌⊎◌, ◌↔◌, IsTrue, All, Some, IfOk, List, length, slice_get, ℕ};
 ghost use Rattle.c_graph.specs.declared.graph.Node.TheVariants.{End};
 ghost use Rattle.c_graph.specs.Shape.{Flow, IsFlow, IsNodeOf};
 ghost use Rattle.c_graph.specs.Functions.{AreFlows, Flows, FnFlow, IsFnFlow};
-ghost use Rattle.c_graph.specs.Parts.{AreMarks, CallFitsBy, GoesOnBy, IsSound, error_flow, error_flows, error_function};
+ghost use Rattle.c_graph.specs.Parts.{AllMarked, AreMarks, CallFitsBy, GoesOnBy, IsSound, ReturnAt, error_flow, error_flows, error_function, flow_of, flows_of};
 
 use crate::check::{
     MOST_CELLS, MOST_PARTS, are_loops, are_widths_of, fit_edges, is_node, is_plain, no_calls,
@@ -27,14 +27,8 @@ pub fn graph_from(
     entry: NodeId,
     loops: Vec<LoopAt>,
 ) -> Result<Graph, Memory>
-    ensures { IfOk result (λ g. (g ≡ record {
-      nodes = nodes.items;
-      edges = edges.items;
-      cells = cells.items;
-      terms = terms;
-      entry = entry;
-      loops = loops.items;
-    }) ⊎ (g ≡ error_flow)) }
+    ensures made { IfOk result (λ g. (g ≡ flow_of nodes.items edges.items cells.items terms entry loops.items) ⊎ (g ≡ error_flow)) }
+    ensures whole { IsFlow (flow_of nodes.items edges.items cells.items terms entry loops.items) → IfOk result (λ g. g ≡ flow_of nodes.items edges.items cells.items terms entry loops.items) }
 {
     if make_graph(alloc, &nodes, &edges, &cells, &terms, entry, &loops)? {
         Graph::new(alloc, nodes, edges, cells, terms, entry, loops)
@@ -53,14 +47,7 @@ fn make_graph(
     entry: NodeId,
     loops: &[LoopAt],
 ) -> Result<bool, Memory>
-    ensures { IfOk result (λ b. IsTrue b → IsFlow (record {
-      nodes = nodes.now;
-      edges = edges.now;
-      cells = cells.now;
-      terms = terms.now;
-      entry = entry;
-      loops = loops.now;
-    })) }
+    ensures { IfOk result (λ b. IsTrue b ↔ IsFlow (flow_of nodes.now edges.now cells.now terms.now entry loops.now)) }
 {
     if cells.len() > MOST_CELLS || !no_calls(nodes) || !are_widths_of(cells, terms.cells()) {
         return Ok(false);
@@ -89,7 +76,8 @@ fn error_graph(alloc: Global) -> Result<Graph, Memory>
 
 /// A mark for each node from which an edge leads.
 fn marks_of(alloc: Global, nodes: usize, edges: &[Edge]) -> Result<Vec<bool>, Memory>
-    ensures { IfOk result (λ m. AreMarks edges.now m.items) }
+    ensures marked { IfOk result (λ m. AreMarks edges.now m.items) }
+    ensures all { IfOk result (λ m. AllMarked nodes edges.now m.items) }
 {
     let mut marks = vec![in alloc; false; nodes]?;
     for edge in edges {
@@ -103,7 +91,7 @@ fn marks_of(alloc: Global, nodes: usize, edges: &[Edge]) -> Result<Vec<bool>, Me
 
 /// Whether a plain node is marked.
 fn goes_on_by(nodes: &[Node], marks: &[bool], node: NodeId) -> bool
-    ensures { IsTrue result → GoesOnBy nodes.now marks.now node }
+    ensures { IsTrue result ↔ GoesOnBy nodes.now marks.now node }
 {
     let number = node.0 as usize;
     !is_plain(nodes, node) || (number < marks.len() && marks[number])
@@ -111,7 +99,7 @@ fn goes_on_by(nodes: &[Node], marks: &[bool], node: NodeId) -> bool
 
 /// Whether each node to which an edge leads is marked if it is plain.
 fn targets_go_on_by(nodes: &[Node], edges: &[Edge], marks: &[bool]) -> bool
-    ensures { IsTrue result → All (λ e. GoesOnBy nodes.now marks.now e.to) edges.now }
+    ensures { IsTrue result ↔ All (λ e. GoesOnBy nodes.now marks.now e.to) edges.now }
 {
     for edge in edges {
         if !goes_on_by(nodes, marks, edge.to) {
@@ -130,8 +118,9 @@ fn is_sound(
     entry: NodeId,
     loops: &[LoopAt],
 ) -> bool
-    requires { AreMarks edges.now marks.now }
-    ensures { IsTrue result → IsSound nodes.now edges.now terms.now entry loops.now }
+    requires marked { AreMarks edges.now marks.now }
+    requires all { AllMarked (length nodes.now) edges.now marks.now }
+    ensures { IsTrue result ↔ IsSound nodes.now edges.now terms.now entry loops.now }
 {
     let is_few = nodes.len() <= MOST_PARTS && edges.len() <= MOST_PARTS - nodes.len();
     is_few
@@ -153,13 +142,8 @@ pub fn function_graphs_from(
     exits: Vec<NodeId>,
     main: u32,
 ) -> Result<FnGraphs, Memory>
-    ensures { IfOk result (λ g. (g ≡ record {
-      graphs = graphs.items;
-      cells = cells.items;
-      terms = terms;
-      exits = exits.items;
-      main = main;
-    }) ⊎ (g ≡ error_flows)) }
+    ensures made { IfOk result (λ g. (g ≡ flows_of graphs.items cells.items terms exits.items main) ⊎ (g ≡ error_flows)) }
+    ensures whole { AreFlows (flows_of graphs.items cells.items terms exits.items main) → IfOk result (λ g. g ≡ flows_of graphs.items cells.items terms exits.items main) }
 {
     if make_function_graphs(alloc, &graphs, &cells, &terms, &exits, main)? {
         Ok(FnGraphs::new(graphs, cells, terms, exits, main))
@@ -177,13 +161,7 @@ fn make_function_graphs(
     exits: &[NodeId],
     main: u32,
 ) -> Result<bool, Memory>
-    ensures { IfOk result (λ b. IsTrue b → AreFlows (record {
-      graphs = graphs.now;
-      cells = cells.now;
-      terms = terms.now;
-      exits = exits.now;
-      main = main;
-    })) }
+    ensures { IfOk result (λ b. IsTrue b ↔ AreFlows (flows_of graphs.now cells.now terms.now exits.now main)) }
 {
     let is_there = (main as usize) < graphs.len();
     if cells.len() > MOST_CELLS {
@@ -203,6 +181,7 @@ fn make_function_graphs(
 /// Whether each graph has its exit: an end node among its own.
 fn return_at(graphs: &[FnGraph], exits: &[NodeId]) -> bool
     ensures count { IsTrue result → length exits.now ≡ length graphs.now }
+    ensures all { length exits.now ≡ length graphs.now → ReturnAt graphs.now exits.now → IsTrue result }
     ensures ends { IsTrue result → (k : ℕ) (g : FnFlow) (v : NodeId) → slice_get graphs.now k ≡ Some g → slice_get exits.now k ≡ Some v → slice_get g.nodes v.0 ≡ Some End }
 {
     if graphs.len() != exits.len() {
@@ -217,7 +196,7 @@ fn return_at(graphs: &[FnGraph], exits: &[NodeId]) -> bool
 }
 
 fn is_end(nodes: &[Node], node: NodeId) -> bool
-    ensures { IsTrue result → slice_get nodes.now node.0 ≡ Some End }
+    ensures { IsTrue result ↔ (slice_get nodes.now node.0 ≡ Some End) }
 {
     let number = node.0 as usize;
     if number >= nodes.len() {
@@ -236,7 +215,7 @@ fn is_function_graph(
     graph: &FnGraph,
     terms: &Terms,
 ) -> Result<bool, Memory>
-    ensures { IfOk result (λ b. IsTrue b → IsFnFlow functions terms.now graph.now) }
+    ensures { IfOk result (λ b. IsTrue b ↔ IsFnFlow functions terms.now graph.now) }
 {
     let nodes = graph.nodes();
     let marks = marks_of(alloc, nodes.len(), graph.edges())?;
@@ -255,7 +234,7 @@ fn is_function_graph(
 
 /// Whether each call is of one of so many functions, and goes on at a node that goes on.
 fn calls_fit(functions: usize, nodes: &[Node], marks: &[bool]) -> bool
-    ensures { IsTrue result → All (CallFitsBy functions nodes.now marks.now) nodes.now }
+    ensures { IsTrue result ↔ All (CallFitsBy functions nodes.now marks.now) nodes.now }
 {
     for node in nodes {
         if !call_fits(functions, nodes, marks, *node) {
@@ -266,7 +245,7 @@ fn calls_fit(functions: usize, nodes: &[Node], marks: &[bool]) -> bool
 }
 
 fn call_fits(functions: usize, nodes: &[Node], marks: &[bool], node: Node) -> bool
-    ensures { IsTrue result → CallFitsBy functions nodes.now marks.now node }
+    ensures { IsTrue result ↔ CallFitsBy functions nodes.now marks.now node }
 {
     match node {
         Node::Call(function, next) => {

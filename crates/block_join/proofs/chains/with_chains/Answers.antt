@@ -18,4 +18,4 @@ returns c =
     c.in_ok-terms.terms c.entry-entry.result c.in_ok-loops.loops.items (nodes ∙ c.nodes.ensures.value) (c.in_ok-edges.ensures ∙ c.edges.ensures.value)
     (cells ∙ c.cells.ensures.value) (c.in_ok-terms.ensures ∙ c.terms.ensures.value) c.entry-entry.ensures.value (loops ∙ c.loops.ensures.value) joined
     made)
-    c.graph_from.ensures
+    c.graph_from.ensures.made

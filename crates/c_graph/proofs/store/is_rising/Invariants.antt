@@ -1,4 +1,4 @@
-use Rattle.std.proofs.Common.{◌≡◌, ◌≤◌, drop}
+use Rattle.std.proofs.Common.{◌≡◌, drop}
 use Rattle.c_graph.specs.Stores.{rises_from}
 use Rattle.c_graph.proofs.store.is_rising.Given as goal
 

@@ -32,4 +32,4 @@ returns c =
           (ap (λ (f : Flow). f.edges) e ∙ edges) (ap (λ (f : Flow). f.entry) e ∙ entry)
           (ap (λ (f : Flow). f.cells) e ∙ cells) (ap (λ (f : Flow). f.terms) e ∙ terms))
       | inr e ↦ inr e
-    ]) c.graph_from.ensures
+    ]) c.graph_from.ensures.made
