@@ -6,6 +6,7 @@ use Rattle.cover_engine.specs.Unwindings.{Unwound}
 use Rattle.cover_engine.specs.Units.{Legal}
 use Rattle.reach_tree.specs.declared.vertex.VertexId.{VertexId}
 use Rattle.cover_engine.specs.declared.unit.UnitDone.TheVariants.{Refine}
+use Rattle.resolution_log.specs.declared.Chain.{Chain}
 use Rattle.refine.specs.Refinements.{IsStrengthened, OnlyGrows}
 use Rattle.refine.specs.Witnesses.{Known}
 use Rattle.refine.proofs.Knowing.{known_stays}
@@ -24,7 +25,7 @@ ready_grows g units old new ws e legal few r = record {
 pub same_units : (old new : Unwound) → OnlyGrows old new → length new.journal ≡ length old.journal
 same_units old new h = ap (λ (u : Unwound). length u.journal) h.others
 
-pub one_unit : (g : Flow) (old new : Unwound) (v : VertexId) → IsStrengthened g old new v → length new.journal ≡ length old.journal + 1
+pub one_unit : {log : List Chain} (g : Flow) (old new : Unwound) (v : VertexId) → IsStrengthened g old new v log → length new.journal ≡ length old.journal + 1
 one_unit g old new v h =
     ap (λ (u : Unwound). length u.journal) h.made ∙ length-append h.grown.journal (Refine v h.formulas ∷ [])
     ∙ ap (λ (n : ℕ). n + 1) (same_units old h.grown h.grows)

@@ -11,6 +11,7 @@ use Rattle.cover_engine.specs.Steering.{IsHighestOpen, IsNoError, StandsOn, Stee
 use Rattle.unwinding_laws.specs.Steered.{last_refined}
 use Rattle.unwinding_laws.proofs.Rooting.{legal_tree}
 use Rattle.refine.specs.Decisions.{IsPairSettled}
+use Rattle.resolution_log.specs.declared.Chain.{Chain}
 use Rattle.refine.specs.Refinements.{IsRefined, IsStrengthened}
 use Rattle.refine.specs.declared.answers.Refined.{Refined}
 use Rattle.refine.specs.declared.answers.Refined.TheVariants.{Strengthened, Feasible, Spent}
@@ -54,7 +55,7 @@ refined-steered g old new v learn (Strengthened log) legal st highest (h, why) =
 refined-steered g old new v learn (Feasible values) legal st highest (e, why) = subst (Steered g) (sym e) st
 refined-steered g old new v learn (Spent log) legal st highest (e, why) = subst (Steered g) (sym e) st
 
-pub strengthened-nodes : (g : Flow) (old new : Unwound) (v : VertexId) → IsStrengthened g old new v → SameNodes old.vertices new.vertices
+pub strengthened-nodes : {log : List Chain} (g : Flow) (old new : Unwound) (v : VertexId) → IsStrengthened g old new v log → SameNodes old.vertices new.vertices
 strengthened-nodes g old new v h =
     let grown : h.grown.vertices ≡ old.vertices = ap (λ (u : Unwound). u.vertices) h.grows.others in
     let made : new.vertices ≡ (after_refine h.grown v h.formulas).vertices = ap (λ (u : Unwound). u.vertices) h.made in
@@ -62,7 +63,7 @@ strengthened-nodes g old new v h =
     (subst (λ (vs : List Vertex). SameNodes vs (after_refine h.grown v h.formulas).vertices) grown
     (nodes-refined h.grown.terms h.grown.vertices (path_of h.grown.vertices v) (reverse h.formulas)))
 
-pub strengthened-last : (g : Flow) (old new : Unwound) (v : VertexId) → IsStrengthened g old new v → last_refined None new.journal ≡ Some v
+pub strengthened-last : {log : List Chain} (g : Flow) (old new : Unwound) (v : VertexId) → IsStrengthened g old new v log → last_refined None new.journal ≡ Some v
 strengthened-last g old new v h = ap (λ (u : Unwound). last_refined None u.journal) h.made ∙ refined-now h.grown.journal v h.formulas
 
 -- a leaf that was expanded

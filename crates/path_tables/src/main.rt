@@ -3,14 +3,17 @@
 //!
 //! `source TEXT` gives the source of the rows behind it, under the model ilp32. `refuted EDGES COUNT`: so many paths of at most so
 //! many edges lead from the entry to an error, each has a refutation, and the formulas of its cuts are a chain, from true to false, each
-//! of whose links the solver confirms. `reached EDGES = VALUES`: exactly one of them has a run, which draws these values.
+//! of whose links the solver confirms. `reached EDGES = VALUES`: exactly one of them has a run, which draws these values. `again UNITS`: an
+//! exploration by at most so many units is complete, and covers a pair that a later strengthening removes, and covers it again.
 #![tactic(auto)]
 
 mod asking;
 mod finding;
+mod journals;
 mod linking;
 
 use crate::asking::{Tally, try_paths};
+use crate::journals::covers_again;
 use c_graph::Graph;
 use lv_base::{Model, SourceFail};
 use row_text::{RowFail, Table, fields, halves, number, run_tables};
@@ -70,6 +73,12 @@ fn is_reached(alloc: Global, source: &str, rest: &str) -> Result<bool, RowFail> 
     Ok(reached == 1 && others == 0 && are_values(wanted, &values)?)
 }
 
+// Tries the row of a pair that is covered, removed, and covered again.
+fn is_again(alloc: Global, source: &str, rest: &str) -> Result<bool, RowFail> {
+    let graph = graph_of(alloc, source)?;
+    covers_again(alloc, &graph, u64::from(number(Some(rest))?))
+}
+
 impl Table for PathTable {
     fn is_so(&mut self, alloc: Global, row: &str) -> Result<bool, RowFail> {
         let (kind, rest) = fields(row);
@@ -80,6 +89,7 @@ impl Table for PathTable {
             }
             "refuted" => are_refuted(alloc, self.source.as_str(), rest),
             "reached" => is_reached(alloc, self.source.as_str(), rest),
+            "again" => is_again(alloc, self.source.as_str(), rest),
             _ => Err(RowFail::Bad),
         }
     }

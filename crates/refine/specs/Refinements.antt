@@ -1,6 +1,7 @@
 -- What refining a leaf makes of an unwinding.
-use Rattle.std.specs.Prelude.{ℕ, ℤ, ◌≡◌, true, List, Some, reverse, slice_get}
+use Rattle.std.specs.Prelude.{ℕ, ℤ, ◌≡◌, true, List, Some, length, map, reverse, slice_get}
 use Rattle.bv_term.specs.declared.term.TermId.{TermId}
+use Rattle.bv_term.specs.WellFormed.{Table}
 use Rattle.bv_term.specs.Laws.{Extends}
 use Rattle.lv_base.specs.declared.fault.ErrorKind.{ErrorKind}
 use Rattle.c_graph.specs.declared.graph.EdgeId.{EdgeId}
@@ -17,6 +18,10 @@ use Rattle.reach_tree.specs.declared.vertex.VertexId.{VertexId}
 use Rattle.reach_tree.specs.Trees.{vertex_at}
 use Rattle.cover_engine.specs.Unwindings.{Unwound, is_open_leaf, path_of}
 use Rattle.cover_engine.specs.Units.{Legal, after_refine, edges_to}
+use Rattle.resolution_log.specs.declared.Chain.{Chain}
+use Rattle.interpolants.specs.CutMeanings.{AreCutFormulas}
+use Rattle.interpolants.specs.Cuts.{AreFormulas}
+use Rattle.term_copy.specs.Copies.{AreCopies, number_in}
 use Rattle.chain_laws.specs.Laws.{AreLinks}
 use Rattle.refine.specs.Refusals.{IsRefused}
 use Rattle.refine.specs.declared.answers.Refined.{Refined}
@@ -46,18 +51,31 @@ pub record OnlyGrows (old new : Unwound) : Type 0 where
   pub extends : Extends old.terms new.terms
   pub others : new ≡ record old { terms = new.terms }
 
--- one Refine unit, once terms have come to the table; where the unwinding is legal its formulas are links along the path, from true to false
-pub record IsStrengthened (g : Flow) (old new : Unwound) (v : VertexId) : Type 0 where
+-- the formulas of the cuts of the vertex's path that a refutation gives, under new numbers in the table of the unwinding
+pub record AreOfLog (g : Flow) (old grown : Unwound) (v : VertexId) (log : List Chain) (formulas : List TermId) : Type 0 where
+  pub table : Table
+  pub cuts : List TermId
+  pub to : List TermId
+  pub whole : AreFormulas table (length (edges_of old v)) cuts
+  pub meaning : AreCutFormulas table (question_at g old v) log cuts
+  pub count : length to ≡ length table.terms
+  pub copies : AreCopies table grown.terms to
+  pub are : formulas ≡ map (number_in to) cuts
+
+-- one Refine unit, once terms have come to the table, with the formulas that this refutation gives; where the unwinding is legal they are
+-- links along the path, from true to false
+pub record IsStrengthened (g : Flow) (old new : Unwound) (v : VertexId) (log : List Chain) : Type 0 where
   pub grown : Unwound
   pub grows : OnlyGrows old grown
   pub formulas : List TermId
   pub made : new ≡ after_refine grown v formulas
+  pub own : AreOfLog g old grown v log formulas
   pub links : Legal g old → AreLinks g grown v formulas
 
 -- no run follows the path, which this refutation shows, and it was strengthened; or these values drive one along it, where the unwinding is
 -- legal; or the budget is spent on the question
 abbrev pub IsRefined : Flow → Unwound → Unwound → VertexId → ℕ → Refined → Type 0
-IsRefined g old new v learn (Strengthened log) = IsStrengthened g old new v × IsRefuted (question_at g old v).clauses learn log
+IsRefined g old new v learn (Strengthened log) = IsStrengthened g old new v log × IsRefuted (question_at g old v).clauses learn log
 IsRefined g old new v learn (Feasible values) = (new ≡ old) × (Legal g old → IsDriven g old v values)
 IsRefined g old new v learn (Spent log) = (new ≡ old) × IsSpent (question_at g old v).clauses learn log
 

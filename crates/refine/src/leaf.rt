@@ -12,7 +12,7 @@ ghost use Rattle.path_formula.specs.Questions.{question_of};
 ghost use Rattle.cover_engine.specs.Unwindings.{path_of};
 ghost use Rattle.cover_engine.specs.Units.{Legal, edges_to};
 ghost use Rattle.chain_laws.specs.Laws.{AreLinks};
-ghost use Rattle.refine.specs.Refinements.{IsErrorLeaf, IsRefined, IsStrengthened, IsLeafRefused, OnlyGrows, edges_of};
+ghost use Rattle.refine.specs.Refinements.{AreOfLog, IsErrorLeaf, IsRefined, IsStrengthened, IsLeafRefused, OnlyGrows, edges_of};
 
 use crate::answers::{Refined, answer_to, no_clauses, no_memory};
 use crate::values::drawn_values;
@@ -56,6 +56,8 @@ fn formulas_of(
     ensures formulas { IfOk result (IsLabel unwinding.new.terms) }
     ensures extends { Extends unwinding.old.terms unwinding.new.terms }
     ensures others { unwinding.new ≡ record unwinding.old { terms = unwinding.new.terms } }
+    ensures own { (v : VertexId) → path.now ≡ edges_of unwinding.old v
+        → IfOk result (AreOfLog graph.now unwinding.old unwinding.new v log.now) }
     ensures links { (v : VertexId) → Legal graph.now unwinding.old → v.0 < length unwinding.old.vertices → path.now ≡ edges_of unwinding.old v
         → IfOk result (AreLinks graph.now unwinding.new v) }
 {
@@ -85,7 +87,7 @@ fn strengthen(
     requires question { query.now ≡ question_of graph.now path.now }
     requires path { path.now ≡ edges_of unwinding.old v }
     ensures extends { Extends unwinding.old.terms unwinding.new.terms }
-    ensures strengthened { IfOk result (λ _. IsStrengthened graph.now unwinding.old unwinding.new v) }
+    ensures strengthened { IfOk result (λ _. IsStrengthened graph.now unwinding.old unwinding.new v log.now) }
     ensures legal { Legal graph.now unwinding.old → IsErrorLeaf graph.now unwinding.old v → Legal graph.now unwinding.new }
     ensures only { OnErr result (OnlyGrows unwinding.old unwinding.new) }
 {

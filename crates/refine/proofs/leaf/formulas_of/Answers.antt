@@ -8,6 +8,9 @@ use Rattle.reach_tree.specs.Trees.{IsLabel}
 use Rattle.term_copy.specs.Copies.{number_in}
 use Rattle.interpolants.specs.CutMeanings.{AreCutFormulas}
 use Rattle.interpolants.specs.NamedCells.{AreNamed}
+use Rattle.interpolants.specs.Cuts.{AreFormulas}
+use Rattle.c_graph.specs.declared.graph.EdgeId.{EdgeId}
+use Rattle.path_formula.specs.Questions.{question_of}
 use Rattle.cover_engine.specs.Unwindings.{Unwound}
 use Rattle.unwinding_laws.proofs.Tables.{legal_later}
 use Rattle.chain_laws.specs.Laws.{AreLinks}
@@ -22,6 +25,26 @@ returns-clause-formulas c =
     ∙ ap (map (number_in c.in_ok-to.to.items)) c.deref-2.ensures.value in
     subst (IsLabel c.take_terms.new.self.terms) (sym named)
     (renumbered_bits _ _ c.in_ok-to.to.items c.in_ok-formulas.formulas.items c.in_ok-to.ensures.copies c.in_ok-to.ensures.count c.in_ok-formulas.ensures.formulas.bits)
+
+pub returns-clause-own : goal.returns-clause-own
+returns-clause-own c =
+    let fs : List TermId = c.in_ok-formulas.formulas.items in
+    let to : List TermId = c.in_ok-to.to.items in
+    let named : c.new.result ≡ map (number_in to) fs =
+    c.new.ensures ∙ c.in_ok-numbers.ensures ∙ ap (λ (to : List TermId). map (number_in to) c.deref-2.result.now) c.deref.ensures.value
+    ∙ ap (map (number_in c.in_ok-to.to.items)) c.deref-2.ensures.value in
+    λ v e. record {
+      table = c.chain.new.terms;
+      cuts = fs;
+      to = to;
+      whole = subst (λ (es : List EdgeId). AreFormulas c.chain.new.terms (length es) fs) e c.in_ok-formulas.ensures.formulas;
+      meaning =
+          subst (λ (es : List EdgeId). AreCutFormulas c.chain.new.terms (question_of c.args.graph.now es) c.args.log.now fs) e
+          (subst (λ (q : PathQuery). AreCutFormulas c.chain.new.terms q c.args.log.now fs) c.requires.question c.in_ok-formulas.ensures.meaning);
+      count = c.in_ok-to.ensures.count;
+      copies = c.in_ok-to.ensures.copies;
+      are = named;
+    }
 
 pub returns-clause-links : goal.returns-clause-links
 returns-clause-links c =
