@@ -1,5 +1,5 @@
 -- A graph that has no other edges than a code's runs as the code does.
-use Rattle.std.proofs.Common.{◌≡◌, ℕ, ◌≤◌, ◌⊎◌, inl, inr, Bool, not, List, [], ◌∷◌, ◌++◌, Option, Some, None, refl, sym, ap, ◌∙◌, subst, zero, suc, length, arith, All, slice_get, slice_set, if◌then◌else◌}
+use Rattle.std.proofs.Common.{◌≡◌, ℕ, ◌⊎◌, inl, inr, Bool, not, List, [], ◌∷◌, ◌++◌, Option, Some, None, refl, sym, ap, ◌∙◌, subst, zero, suc, arith, All, slice_get, slice_set, if◌then◌else◌}
 use Rattle.std.proofs.lemmas.Bool.{cases_Bool}
 use Rattle.bv_term.specs.WellFormed.{Table, IsTable}
 use Rattle.bv_term.specs.Values.{value}
@@ -66,12 +66,16 @@ deeds-do table v _ _ m is fits are whole = absurd are
 plain-error : (h : Flow) (v : ℕ) → slice_get h.nodes v ≡ Some Plain → IsError h v → ⊥
 plain-error h v plain (kind, (at, e)) = absurd (let z : Some Plain ≡ Some (Error kind at) = sym plain ∙ e in cc)
 
+-- the first path is the end of the second
+abbrev pub IsTail : List EdgeId → List EdgeId → Type 0
+IsTail path all = (front : List EdgeId) × (all ≡ front ++ path)
+
 module _ (h : Flow) (flow : IsFlow h) (w : ℕ) (a : Moment) (error : IsError h w) where
-  -- the code ends from a moment, and the run goes on from there along at most so many edges
-  abbrev pub Passes : Code → Option Moment → ℕ → Type 0
-  Passes c r most =
+  -- the code ends from a moment, and the run goes on from there along the end of a path
+  abbrev pub Passes : Code → Option Moment → List EdgeId → Type 0
+  Passes c r all =
       (to : ℕ) × ((end : Moment) × (ran h.terms c r ≡ Some (to, end)) × IsWhole h.terms.cells end.store
-      × ((path : List EdgeId) × (length path ≤ most) × Along h path to end w a))
+      × ((path : List EdgeId) × IsTail path all × Along h path to end w a))
 
   -- a run along an edge of a node, in a whole store, and then along others
   abbrev pub Takes : Edge → List EdgeId → Moment → Type 0
@@ -81,7 +85,7 @@ module _ (h : Flow) (flow : IsFlow h) (w : ℕ) (a : Moment) (error : IsError h 
   -- a code by whose edges the graph runs as the code does
   abbrev Follows : Code → Type 0
   Follows c =
-      (ds : List Deed) (e : Edge) (path : List EdgeId) (m : Moment) → OneOf h ds c e → Takes e path m → Passes c (did_all h.terms ds (Some m)) (length path)
+      (ds : List Deed) (e : Edge) (path : List EdgeId) (m : Moment) → OneOf h ds c e → Takes e path m → Passes c (did_all h.terms ds (Some m)) path
 
   done : (ds : List Deed) (e : Edge) (path : List EdgeId) (m : Moment) → AreDeeds h.terms e.ops ds → (t : Takes e path m)
       → (did_all h.terms ds (Some m) ≡ Some t.0) × IsWhole h.terms.cells t.0.store
@@ -91,7 +95,7 @@ module _ (h : Flow) (flow : IsFlow h) (w : ℕ) (a : Moment) (error : IsError h 
 
   -- a branch, by the side that the run takes
   sides : (p : List ℕ → Bool) (c d : Code) → Follows c → Follows d → (e : Edge) (path : List EdgeId) (m : Moment)
-      → OneOf h (Tests p ∷ []) c e ⊎ OneOf h (Tests (λ s. not (p s)) ∷ []) d e → Takes e path m → Passes (Branches p c d) (Some m) (length path)
+      → OneOf h (Tests p ∷ []) c e ⊎ OneOf h (Tests (λ s. not (p s)) ∷ []) d e → Takes e path m → Passes (Branches p c d) (Some m) path
   sides p c d one other e path m (inl is) takes =
       let (to, (end, go, last, rest)) = one (Tests p ∷ []) e path m is takes in
       let go2 : ran h.terms c (if p m.store then Some m else None) ≡ Some (to, end) = go in
@@ -119,14 +123,14 @@ module _ (h : Flow) (flow : IsFlow h) (w : ℕ) (a : Moment) (error : IsError h 
 
   branches : (p : List ℕ → Bool) (c d : Code) → Follows c → Follows d → Follows (Branches p c d)
   branches p c d one other ds e path m (inl (none, is)) takes =
-      subst (λ (xs : List Deed). Passes (Branches p c d) (did_all h.terms xs (Some m)) (length path)) (sym none) (sides p c d one other e path m is takes)
+      subst (λ (xs : List Deed). Passes (Branches p c d) (did_all h.terms xs (Some m)) path) (sym none) (sides p c d one other e path m is takes)
   branches p c d one other ds e [] m (inr (plain, are, only)) (mid, there, whole, go, (same, last)) =
       absurd (plain-error h e.to.0 plain (subst (λ (x : ℕ). IsError h x) (sym same) error))
   branches p c d one other ds e (k ∷ path) m (inr (plain, are, only)) takes =
       let (mid, there, whole, go, (f, is, from, (mid2, go2, run))) = takes in
       let (did, next) = done ds e (k ∷ path) m are takes in
-      let (to, (end, went, last, (path2, less, run2))) = sides p c d one other f path mid (only k.0 f is from) (mid2, (k.0, is), next, go2, run) in
-      (to, (end, ap (ran h.terms (Branches p c d)) did ∙ went, last, (path2, omega (arith, less), run2)))
+      let (to, (end, went, last, (path2, (front, parts), run2))) = sides p c d one other f path mid (only k.0 f is from) (mid2, (k.0, is), next, go2, run) in
+      (to, (end, ap (ran h.terms (Branches p c d)) did ∙ went, last, (path2, (k ∷ front, ap (λ (xs : List EdgeId). k ∷ xs) parts), run2)))
 
   pub follows-code : (c : Code) → Follows c
   follows-code Stops ds e path m is takes = absurd is
@@ -134,7 +138,7 @@ module _ (h : Flow) (flow : IsFlow h) (w : ℕ) (a : Moment) (error : IsError h 
   follows-code (Ends to) ds e path m (goal, are) takes =
       let (mid, there, whole, go, run) = takes in
       let (did, next) = done ds e path m are takes in
-      (to, (mid, ap (ran h.terms (Ends to)) did, next, (path, omega arith, subst (λ (x : ℕ). Along h path x mid w a) goal run)))
+      (to, (mid, ap (ran h.terms (Ends to)) did, next, (path, ([], refl), subst (λ (x : ℕ). Along h path x mid w a) goal run)))
   follows-code (Does d c) ds e path m is takes =
       let (to, (end, go, last, rest)) = follows-code c (ds ++ d ∷ []) e path m is takes in
       (to, (end, ap (ran h.terms c) (sym (did-more h.terms ds (d ∷ []) (Some m))) ∙ go, last, rest))

@@ -1,5 +1,5 @@
 -- The ways out of a place at which the run is: it goes on by what the tests are worth in the store.
-use Rattle.std.proofs.Common.{◌≡◌, ℕ, ℤ, ◌≤◌, ◌==◌, ◌⊎◌, inl, inr, Bool, true, false, ◌&&◌, ◌||◌, List, [], ◌∷◌, ◌++◌, Option, Some, None, refl, sym, ap, ◌∙◌, subst, suc, length, arith, slice_set, if◌then◌else◌, eq-eqb}
+use Rattle.std.proofs.Common.{◌≡◌, ℕ, ℤ, ◌+◌, ◌≤◌, ◌==◌, ◌⊎◌, inl, inr, Bool, true, false, ◌&&◌, ◌||◌, List, [], ◌∷◌, ◌++◌, Option, Some, None, refl, sym, ap, ◌∙◌, subst, suc, length, length-append, arith, slice_set, if◌then◌else◌, eq-eqb}
 use Rattle.std.proofs.lemmas.Bool.{cases_Bool, eqb-true}
 use Rattle.bv_term.specs.Numbers.{truth}
 use Rattle.bv_term.specs.declared.term.TermId.{TermId}
@@ -54,27 +54,33 @@ under-value : (table : Table) (gd : Option ℕ) (t : TermId) (s : List ℕ) → 
 under-value table gd t s e = eqb-true (value table s t) 1 (and-second (is_on gd s) (value table s t == 1) e)
 
 module _ (g : Flow) (wide : Table) (plan : Plan) (many : ℕ) (widths : Widths (length g.cells) g.terms wide) (flow : IsFlow g) (is : IsPlan g plan) (le : length g.cells ≤ many)
-    (v0 : ℕ) (m0 : Moment) where
+    (v0 : ℕ) (m0 : Moment) (most : ℕ) where
   abbrev n : ℕ
   n = length g.cells
 
-  -- a run of the graph from where it began
-  abbrev pub Runs : ℕ → Moment → Type 0
-  Runs to m = (path : List EdgeId) × Along g path v0 m0 to m
+  -- a run of the graph from where it began, which may go on along so many edges
+  abbrev pub Runs : ℕ → ℕ → Moment → Type 0
+  Runs left to m = (path : List EdgeId) × Along g path v0 m0 to m × (length path + left ≤ most)
+
+  pub fewer : (left to : ℕ) (m : Moment) → Runs (suc left) to m → Runs left to m
+  fewer left to m run = (run.0, run.1, omega (arith, run.2))
+
+  over : (left to : ℕ) (m : Moment) → Runs left to m → Runs 0 to m
+  over left to m run = (run.0, run.1, omega (arith, run.2))
 
   -- a run of the graph to an error, or to a cut point where the stores agree
   abbrev pub Reached : ℕ → Moment → Type 0
   Reached to end =
-      (m : Moment) × Runs to m × (m.inputs ≡ end.inputs)
+      (m : Moment) × Runs 0 to m × (m.inputs ≡ end.inputs)
       × (IsError g to ⊎ ((plan.cuts to ≡ true) × (matters plan to ≡ true) × Agree n (plan.live to) m.store end.store × IsWhole g.terms.cells m.store))
 
-  abbrev pub Waits : State → List ℕ → List ℤ → Type 0
-  Waits st s ins =
-      (r : ℕ) × ((m : Moment) × Runs r m × (m.inputs ≡ ins) × Ready n many st None true None (λ x. x == r) s × Agree n (plan.live r) m.store s
+  abbrev pub Waits : ℕ → State → List ℕ → List ℤ → Type 0
+  Waits left st s ins =
+      (r : ℕ) × ((m : Moment) × Runs left r m × (m.inputs ≡ ins) × Ready n many st None true None (λ x. x == r) s × Agree n (plan.live r) m.store s
       × IsWhole g.terms.cells m.store × (matters plan r ≡ true))
 
   abbrev pub FailedAt : ℕ → List ℤ → Type 0
-  FailedAt e ins = (m : Moment) × Runs e m × (m.inputs ≡ ins) × IsError g e
+  FailedAt e ins = (m : Moment) × Runs 0 e m × (m.inputs ≡ ins) × IsError g e
 
   abbrev pub Failed : State → List ℕ → List ℤ → Type 0
   Failed st s ins = (e : ℕ) × ((at : ℕ → Bool) × FailedAt e ins × Ready n many st None true (Some e) at s)
@@ -83,14 +89,14 @@ module _ (g : Flow) (wide : Table) (plan : Plan) (many : ℕ) (widths : Widths (
   Lost st s = Ready n many st None true None (λ x. false) s × (st.lost ≡ true)
 
   -- where the run of the graph stands: it waits at a place, a check failed, or it was lost
-  abbrev pub Stands : State → List ℕ → List ℤ → Type 0
-  Stands st s ins = Waits st s ins ⊎ (Failed st s ins ⊎ Lost st s)
+  abbrev pub Stands : ℕ → State → List ℕ → List ℤ → Type 0
+  Stands left st s ins = Waits left st s ins ⊎ (Failed st s ins ⊎ Lost st s)
 
   abbrev pub C : Code → Moment → Type 0
   C = Comes wide many Reached
 
-  abbrev pub Arrives : (State → Code) → Type 0
-  Arrives rest = (st : State) (s : List ℕ) (ins : List ℤ) → Stands st s ins → C (rest st) (moment s ins)
+  abbrev pub Arrives : ℕ → (State → Code) → Type 0
+  Arrives left rest = (st : State) (s : List ℕ) (ins : List ℤ) → Stands left st s ins → C (rest st) (moment s ins)
 
   pub reached-failed : (e : ℕ) (ins : List ℤ) → FailedAt e ins → Failing g.terms wide plan n many Reached widths (Some e) ins
   reached-failed e ins (m, run, same, err) x t q =
@@ -103,7 +109,7 @@ module _ (g : Flow) (wide : Table) (plan : Plan) (many : ℕ) (widths : Widths (
   pub whole-long : (s : List ℕ) → IsWhole g.terms.cells s → length s ≡ n
   whole-long s whole = whole.length ∙ ap length flow.cells ∙ widths-long g.cells
 
-  module _ (r : ℕ) (m : Moment) (ins : List ℤ) (run : Runs r m) (same : m.inputs ≡ ins) (whole : IsWhole g.terms.cells m.store) (reached : plan.reached r ≡ true) where
+  module _ (left r : ℕ) (m : Moment) (ins : List ℤ) (run : Runs (suc left) r m) (same : m.inputs ≡ ins) (whole : IsWhole g.terms.cells m.store) (reached : plan.reached r ≡ true) where
     error-matters : (ops : List Operation) (to : ℕ) → Leaves g r ops to → IsError g to → matters plan to ≡ true
     error-matters ops to (j, (e, there, from, way)) err =
         both-true (plan.reached to) (plan.alive to) (ap plan.reached (sym way.1) ∙ is.reaches j e there (ap plan.reached from ∙ reached)) (is.errors to err.0 err.1.0 err.1.1)
@@ -126,7 +132,7 @@ module _ (g : Flow) (wide : Table) (plan : Plan) (many : ℕ) (widths : Widths (
     value-later t s u b = is.terms t s u (λ c lt y. b c lt)
 
     abbrev Stepped : ℕ → Moment → Type 0
-    Stepped to a = (u : List ℕ) × Runs to (moment u a.inputs) × Agree n (plan.live to) u a.store × IsWhole g.terms.cells u
+    Stepped to a = (u : List ℕ) × Runs left to (moment u a.inputs) × Agree n (plan.live to) u a.store × IsWhole g.terms.cells u
 
     -- the run of the graph takes an edge whose operations go on in the other store
     pub step : (ops : List Operation) (to : ℕ) (s : List ℕ) (a : Moment) → Leaves g r ops to → matters plan to ≡ true → AllSetBelow n ops → Agree n (plan.live r) m.store s → n ≤ length s
@@ -143,7 +149,11 @@ module _ (g : Flow) (wide : Table) (plan : Plan) (many : ℕ) (widths : Widths (
         let more : Along g (id ∷ []) r m to (moment u a.inputs) = (e, there, from, (moment u a.inputs, go2, (way.1, refl))) in
         let fits = edge-fits g j e flow there in (
           u,
-          (run.0 ++ id ∷ [], along-append g run.0 (id ∷ []) v0 m0 r m to (moment u a.inputs) run.1 more),
+          (
+            run.0 ++ id ∷ [],
+            along-append g run.0 (id ∷ []) v0 m0 r m to (moment u a.inputs) run.1 more,
+            omega (arith, run.2, length-append run.0 (id ∷ [])),
+          ),
           (λ c lt y. sym (alike.0 c lt y)),
           whole-after g.terms e m (moment u a.inputs) flow.table fits.operations whole go2,
         )
@@ -153,9 +163,9 @@ module _ (g : Flow) (wide : Table) (plan : Plan) (many : ℕ) (widths : Widths (
     fails t error s leaves err agree long one =
         let alive = error-matters (Assume t ∷ []) error leaves err in
         let (u, go, a, w) = step (Assume t ∷ []) error s (moment s ins) leaves alive (tt, tt) agree long (passes-one g.terms t [] (moment s ins) one) in
-        (moment u ins, go, refl, err)
+        (moment u ins, over left error (moment u ins) go, refl, err)
 
-    module _ (rest : State → Code) (k : Arrives rest) where
+    module _ (rest : State → Code) (k : Arrives left rest) where
       lost-stays : (s : List ℕ) → Stays g.terms wide plan n many Reached widths None (λ x. false) r rest s ins
       lost-stays s st t ready known a = k st t ins (inr (inr (ready, elim (known refl) [ inl z ↦ absurd (false-true z) | inr l ↦ l ])))
 

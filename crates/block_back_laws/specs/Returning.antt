@@ -6,9 +6,11 @@ use Rattle.c_graph.specs.declared.graph.Node.TheVariants.{Error}
 use Rattle.c_graph.specs.Shape.{Flow, IsFlow}
 use Rattle.c_graph.specs.Runs.{RunsTo}
 use Rattle.program_graphs.specs.Standing.{MeetsError}
+use Rattle.program_graphs.specs.Weighing.{ComesBackAt}
 use Rattle.block_rule.specs.Plans.{Plan}
 use Rattle.block_rule.specs.Blocked.{IsBlocked}
 use Rattle.block_edges.specs.Exact.{HasNoMore}
+use Rattle.block_edges.specs.Weights.{IsExact}
 
 -- a run of the graph of blocks to an error node has a run of the graph to the same error node, which draws the same values
 abbrev pub BlocksComeBack : Type 0
@@ -22,3 +24,7 @@ abbrev pub BlockErrorsComeBack : Type 0
 BlockErrorsComeBack =
     (g h : Flow) (plan : Plan) (draws : List ℤ) (kind : ErrorKind) (at : ℕ)
     → IsFlow g → IsFlow h → IsBlocked g h plan → HasNoMore g h plan → MeetsError h draws kind at → MeetsError g draws kind at
+
+-- and along a path that has at most as many edges as the run of the graph of blocks costs
+abbrev pub BlockPathsComeBack : Type 0
+BlockPathsComeBack = (g h : Flow) (plan : Plan) → IsFlow g → IsFlow h → IsBlocked g h plan → (exact : IsExact g h plan) → ComesBackAt exact.weight g h

@@ -6,7 +6,7 @@
 //! the code does not end.
 #![tactic(auto)]
 
-ghost use Rattle.block_back_laws.specs.Returning.{BlockErrorsComeBack, BlocksComeBack};
+ghost use Rattle.block_back_laws.specs.Returning.{BlockErrorsComeBack, BlockPathsComeBack, BlocksComeBack};
 
 /// A run of the graph of blocks to an error node has a run of the graph to the same error node, with the same values.
 pub fn blocks_come_back()
@@ -16,4 +16,10 @@ pub fn blocks_come_back()
 /// Each error that a run of the graph of blocks meets, a run of the graph meets, with the same values.
 pub fn block_errors_come_back()
     ensures { BlockErrorsComeBack }
+{}
+
+/// And along a path that has at most as many edges as the run of the graph of blocks costs, where the node of each block weighs as many
+/// as it has places.
+pub fn block_paths_come_back()
+    ensures { BlockPathsComeBack }
 {}

@@ -44,6 +44,10 @@ pub weaken : {A : Type 0} → {E : Type 0} → (r : Result A E) (P Q : A → Typ
 weaken (Ok x) P Q f h = f x h
 weaken (Err e) P Q f h = tt
 
+pub both : {A : Type 0} → {E : Type 0} → (r : Result A E) (P Q : A → Type 0) → IfOk r P → IfOk r Q → IfOk r (λ x. P x × Q x)
+both (Ok x) P Q p q = (p, q)
+both (Err e) P Q p q = tt
+
 pub weaken_some : {A : Type 0} → (o : Option A) (P Q : A → Type 0) → ((x : A) → P x → Q x) → IfSome o P → IfSome o Q
 weaken_some None P Q f h = tt
 weaken_some (Some x) P Q f h = f x h

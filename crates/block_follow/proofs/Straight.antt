@@ -4,9 +4,10 @@ use Rattle.bv_term.specs.WellFormed.{Table}
 use Rattle.c_graph.specs.declared.graph.Edge.{Edge}
 use Rattle.c_graph.specs.declared.graph.Operation.{Operation}
 use Rattle.c_graph.specs.Shape.{Flow}
-use Rattle.block_rule.specs.Deeds.{Deed, Code, Ends, Does, Has, Leading}
+use Rattle.block_rule.specs.Deeds.{Deed, AreDeeds, Code, Ends, Does, Has, Leading}
 use Rattle.block_rule.specs.Blocked.{plain_deeds}
 use Rattle.block_rule.specs.Rule.{guarded}
+use Rattle.block_edges.specs.Exact.{OneOf}
 use Rattle.block_steps.specs.Cursors.{Meets}
 use Rattle.block_steps.specs.declared.cursor.Cursor.{Cursor}
 use Rattle.block_walk.proofs.Following.{drop-step, drop-all}
@@ -40,3 +41,16 @@ pub straight-end : (h : Flow) (table : Table) (ops : List Operation) (n : ℕ) (
     → (code : Code) → Meets h at code → Meets h k (straight table ops code)
 straight-end h table ops n k at le before code m =
     before code (subst (λ (xs : List Operation). Meets h at (straight table xs code)) (sym (drop-all ops n le)) m)
+
+one-straight : (h : Flow) (table : Table) (to : ℕ) (e : Edge) (ops : List Operation) (ds : List Deed) → OneOf h ds (straight table ops (Ends to)) e
+    → (e.to.0 ≡ to) × AreDeeds h.terms e.ops (ds ++ plain_deeds table ops)
+one-straight h table to e [] ds (goal, are) = (goal, subst (AreDeeds h.terms e.ops) (sym (append-nil ds)) are)
+one-straight h table to e (op ∷ ops) ds one =
+    let d : Deed = guarded table None op in
+    let (goal, are) = one-straight h table to e ops (ds ++ d ∷ []) one in
+    (goal, subst (AreDeeds h.terms e.ops) (append_assoc ds (d ∷ []) (plain_deeds table ops)) are)
+
+-- and nothing else
+pub same-straight : (h : Flow) (table : Table) (at to : ℕ) (ops : List Operation) → Meets h (record { edge_at = at; op_at = 0 }) (straight table ops (Ends to))
+    → (e : Edge) → slice_get h.edges at ≡ Some e → (to ≡ e.to.0) × AreDeeds h.terms e.ops (plain_deeds table ops)
+same-straight h table at to ops m e get = let (goal, are) = one-straight h table to e ops [] (m.one e [] get tt) in (sym goal, are)

@@ -1,26 +1,32 @@
 //! Whether each cut point has a block by the rule, or the edges that it had.
-ghost use Rattle.std.specs.Prelude.{ℕ, ◌≡◌, IfOk, IfSome, IsTrue, length};
+ghost use Rattle.std.specs.Prelude.{ℕ, ◌≡◌, ◌<◌, ◌≤◌, false, IfOk, IfSome, IsTrue, length, slice_index};
 ghost use Rattle.c_graph.specs.Shape.{IsFlow};
 ghost use Rattle.truth_terms.specs.Truths.{Grew};
-ghost use Rattle.block_rule.specs.Blocked.{Begins, IsBlocked};
+ghost use Rattle.program_graphs.specs.Weighing.{total};
+ghost use Rattle.block_rule.specs.Blocked.{IsBlocked};
 ghost use Rattle.block_rule.specs.Plans.{ArePlaces};
+ghost use Rattle.block_rule.specs.Plans as rule;
+ghost use Rattle.block_edges.specs.Exact.{AllLed};
+ghost use Rattle.block_edges.specs.Weights.{IsExact};
 ghost use Rattle.block_walk.specs.Known.{plan_of};
 ghost use Rattle.block_walk.specs.Walks.{places_of};
-ghost use Rattle.block_follow.specs.Following.{Follows, IsFirst};
+ghost use Rattle.block_follow.specs.Following.{AreOver, Follows, HasBlockOf, IsFirst};
 
 use crate::growth::grows;
 use crate::keeping::keeps;
+use crate::outs::are_over;
+use crate::sizes::{are_few, size_at};
 use block_places::places_of_nodes;
-use block_steps::{Cursor, leads_from};
+use block_steps::{Cursor, are_sides, leads_from};
 use block_walk::{Known, Place, Stop, block, matters};
 use c_graph::{Graph, NodeId};
 use lv_base::Memory;
 use plan_tests::is_plan;
 use std::alloc::Global;
 
-/// Whether the second graph has for each cut point of the first a block by the rule, or the edges that it had. What is known of the
-/// first graph is tested too. The members of each node are a guess of the places of its block, the node itself first; a node whose
-/// members have no regular ways out has to keep its edges.
+/// Whether the second graph has for each cut point of the first a block by the rule, or the edges that it had, and no more. What is
+/// known of the first graph is tested too. The members of each node are a guess of the places of its block, the node itself first, and
+/// no node is a member of two; a node whose members have no regular ways out has to keep its edges.
 pub fn follows_rule(
     alloc: Global,
     old: &Graph,
@@ -28,7 +34,8 @@ pub fn follows_rule(
     known: &Known,
     members: &[Vec<NodeId>],
 ) -> Result<bool, Memory>
-    ensures { IfOk result (λ b. IsTrue b → IsBlocked old.now new.now (plan_of known.now)) }
+    ensures blocked { IfOk result (λ b. IsTrue b → IsBlocked old.now new.now (plan_of known.now)) }
+    ensures exact { IfOk result (λ b. IsTrue b → IsExact old.now new.now (plan_of known.now)) }
 {
     if !grows(old, new) {
         return Ok(false);
@@ -36,22 +43,61 @@ pub fn follows_rule(
     if !is_plan(old, known) {
         return Ok(false);
     }
-    all_follow(alloc, old, new, known, members)
+    let over = ends_where_nothing_matters(alloc, old, new, known)?;
+    if !over {
+        return Ok(false);
+    }
+    let sizes = sizes_of(alloc, members)?;
+    all_follow(alloc, old, new, known, members, &sizes)
 }
 
+// How many members each node has.
+fn sizes_of(alloc: Global, members: &[Vec<NodeId>]) -> Result<Vec<usize>, Memory> {
+    let mut sizes = Vec::new(alloc);
+    for nodes in members {
+        sizes.push(nodes.len())?;
+    }
+    Ok(sizes)
+}
+
+/// Whether the entry matters, or each edge from it leads to an end or back to it.
+fn ends_where_nothing_matters(
+    alloc: Global,
+    old: &Graph,
+    new: &Graph,
+    known: &Known,
+) -> Result<bool, Memory>
+    ensures { IfOk result (λ b. IsTrue b → rule.matters (plan_of known.now) old.now.entry.0 ≡ false → AreOver new.now new.now.entry.0) }
+{
+    if matters(known, old.entry().0) {
+        return Ok(true);
+    }
+    are_over(alloc, new, new.entry().0)
+}
+
+/// Whether each cut point that matters has a block of no more places than its size, or the edges that it had, and all sizes together are
+/// no more than the first graph has nodes.
 fn all_follow(
     alloc: Global,
     old: &Graph,
     new: &Graph,
     known: &Known,
     members: &[Vec<NodeId>],
+    sizes: &[usize],
 ) -> Result<bool, Memory>
     requires { Grew old.now.terms new.now.terms }
-    ensures { IfOk result (λ b. IsTrue b → (v : ℕ) → Follows old.now new.now (plan_of known.now) v) }
+    ensures flow { IsFlow old.now }
+    ensures follow { IfOk result (λ b. IsTrue b → (v : ℕ) → v < length old.now.nodes → Follows old.now new.now (plan_of known.now) (slice_index sizes.now) v) }
+    ensures few { IfOk result (λ b. IsTrue b → total (slice_index sizes.now) (length new.now.nodes) ≤ length old.now.nodes) }
 {
+    let count = count_nodes(old);
+    let all = count_nodes(new);
+    if !are_few(sizes, all as usize, count as usize) {
+        return Ok(false);
+    }
     let firsts = first_edges(alloc, new)?;
-    for node in 0..count_nodes(old) {
-        if !follows(alloc, old, new, known, members, &firsts, node)? {
+    for node in 0..count {
+        if !follows(alloc, old, new, known, members, &firsts, sizes, node)? {
             return Ok(false);
         }
     }
@@ -84,7 +130,7 @@ fn first_edges(alloc: Global, graph: &Graph) -> Result<Vec<usize>, Memory> {
     Ok(firsts)
 }
 
-/// Whether a node, if it is a cut point that matters, has a block by the rule, or the edges that it had.
+/// Whether a node, if it is a cut point that matters, has a block by the rule of no more places than its size, or the edges that it had.
 fn follows(
     alloc: Global,
     old: &Graph,
@@ -92,10 +138,11 @@ fn follows(
     known: &Known,
     members: &[Vec<NodeId>],
     firsts: &[usize],
+    sizes: &[usize],
     node: u32,
 ) -> Result<bool, Memory>
     requires { Grew old.now.terms new.now.terms }
-    ensures { IfOk result (λ b. IsTrue b → Follows old.now new.now (plan_of known.now) node) }
+    ensures { IfOk result (λ b. IsTrue b → Follows old.now new.now (plan_of known.now) (slice_index sizes.now) node) }
 {
     if !known.cuts.get(node) {
         return Ok(true);
@@ -103,10 +150,14 @@ fn follows(
     if !matters(known, node) {
         return Ok(true);
     }
+    let size = size_at(sizes, node as usize);
+    if size == 0 {
+        return Ok(false);
+    }
     let first = firsts.get(node as usize).copied().unwrap_or(usize::MAX);
     match places_at(alloc, old, known, members, node)? {
         None => keeps(alloc, old, new, known, node, first),
-        Some(places) => begins(alloc, old, new, known, &places, node, first),
+        Some(places) => begins(alloc, old, new, known, &places, size, node, first),
     }
 }
 
@@ -118,7 +169,8 @@ fn places_at(
     members: &[Vec<NodeId>],
     node: u32,
 ) -> Result<Option<Vec<Place>>, Memory>
-    ensures { IfOk result (λ o. IfSome o (λ ps. ArePlaces old.now (plan_of known.now) (length old.now.cells) (places_of old.now ps.items))) }
+    ensures places { IfOk result (λ o. IfSome o (λ ps. ArePlaces old.now (plan_of known.now) (length old.now.cells) (places_of old.now ps.items))) }
+    ensures led { IfOk result (λ o. IfSome o (λ ps. AllLed old.now (places_of old.now ps.items))) }
 {
     match members.get(node as usize) {
         None => Ok(None),
@@ -126,24 +178,29 @@ fn places_at(
     }
 }
 
-/// Whether a node has the block of these places, from the edge of a number on.
+/// Whether a node has the block of these places, which are no more than so many, from the edge of a number on, and no other edge than that.
 fn begins(
     alloc: Global,
     old: &Graph,
     new: &Graph,
     known: &Known,
     places: &[Place],
+    size: usize,
     node: u32,
     first: usize,
 ) -> Result<bool, Memory>
     requires grew { Grew old.now.terms new.now.terms }
     requires places { ArePlaces old.now (plan_of known.now) (length old.now.cells) (places_of old.now places.now) }
-    ensures { IfOk result (λ b. IsTrue b → Begins old.now new.now (plan_of known.now) node) }
+    requires led { AllLed old.now (places_of old.now places.now) }
+    ensures { IfOk result (λ b. IsTrue b → HasBlockOf old.now new.now (plan_of known.now) size node) }
 {
-    if !is_first(places, node) {
+    if places.len() > size || !is_first(places, node) {
         return Ok(false);
     }
     if !leads_from(new, first, node) {
+        return Ok(false);
+    }
+    if !are_sides(alloc, new, node, first, first)? {
         return Ok(false);
     }
     let cursor = Cursor {

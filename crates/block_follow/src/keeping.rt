@@ -1,13 +1,15 @@
 //! Whether a node has the edges that it had.
-ghost use Rattle.std.specs.Prelude.{◌≡◌, IfOk, IfSome, IsTrue, None, length};
+ghost use Rattle.std.specs.Prelude.{IfOk, IfSome, IsTrue, None};
 ghost use Rattle.truth_terms.specs.Truths.{Grew};
-ghost use Rattle.block_rule.specs.Blocked.{Keeps, plain_deeds};
+ghost use Rattle.block_rule.specs.Blocked.{plain_deeds};
+ghost use Rattle.block_edges.specs.Exact.{HasKept};
 ghost use Rattle.block_rule.specs.Deeds.{Code, Does, Leading};
 ghost use Rattle.block_rule.specs.Rule.{guarded};
 ghost use Rattle.block_steps.specs.Cursors.{Meets};
 ghost use Rattle.block_walk.specs.Known.{plan_of};
-ghost use Rattle.block_follow.specs.Following.{AreKept, IsKept, IsKeptEdge, straight};
+ghost use Rattle.block_follow.specs.Following.{AreCopies, AreKept, AreMade, IsKept, IsKeptEdge, IsSame, straight};
 
+use crate::outs::are_within;
 use block_steps::{Cursor, Test, assumes, ends, leads_from, stores};
 use block_walk::{Known, matters};
 use bv_term::Terms;
@@ -16,7 +18,7 @@ use lv_base::Memory;
 use std::alloc::Global;
 
 /// Whether the edges of a node that lead to nodes that matter lead to cut points, and stand in the other graph one behind the other,
-/// the first having this number.
+/// the first having this number, and no other edges lead from the node there.
 pub(crate) fn keeps(
     alloc: Global,
     old: &Graph,
@@ -26,31 +28,36 @@ pub(crate) fn keeps(
     first: usize,
 ) -> Result<bool, Memory>
     requires { Grew old.now.terms new.now.terms }
-    ensures { IfOk result (λ b. IsTrue b → Keeps old.now new.now (plan_of known.now) node) }
+    ensures { IfOk result (λ b. IsTrue b → HasKept old.now new.now (plan_of known.now) node) }
 {
     let outs = old.outs(alloc, NodeId(node))?;
-    Ok(are_kept(old, new, known, node, first, &outs))
+    match kept_until(old, new, known, node, first, &outs) {
+        None => Ok(false),
+        Some(end) => are_within(alloc, new, node, first, end),
+    }
 }
 
-fn are_kept(
+/// The number behind those of a node's edges that are kept, the first having this number.
+fn kept_until(
     old: &Graph,
     new: &Graph,
     known: &Known,
     node: u32,
     first: usize,
     outs: &[EdgeId],
-) -> bool
+) -> Option<usize>
     requires { Grew old.now.terms new.now.terms }
-    ensures { IsTrue result → AreKept old.now new.now (plan_of known.now) node outs.now }
+    ensures kept { IfSome result (λ n. AreKept old.now new.now (plan_of known.now) node outs.now) }
+    ensures made { IfSome result (λ n. AreMade old.now new.now (plan_of known.now) node first n) }
 {
     let mut at = first;
     for number in 0..outs.len() {
         let Some(next) = kept_at(old, new, known, node, outs[number], at) else {
-            return false;
+            return None;
         };
         at = next;
     }
-    true
+    Some(at)
 }
 
 /// The number behind that of an edge that is kept, or the same number where the edge leads to a node that does not matter.
@@ -63,7 +70,8 @@ fn kept_at(
     at: usize,
 ) -> Option<usize>
     requires { Grew old.now.terms new.now.terms }
-    ensures { IfSome result (λ n. IsKept old.now new.now (plan_of known.now) node edge.0) }
+    ensures kept { IfSome result (λ n. IsKept old.now new.now (plan_of known.now) node edge.0) }
+    ensures made { IfSome result (λ n. AreMade old.now new.now (plan_of known.now) node at n) }
 {
     let edges = old.edges();
     let number = edge.0 as usize;
@@ -82,36 +90,44 @@ fn kept_edge(
     at: usize,
 ) -> Option<usize>
     requires { Grew old.now.terms new.now.terms }
-    ensures { IfSome result (λ n. IsKeptEdge old.now new.now (plan_of known.now) node edge.now) }
+    ensures kept { IfSome result (λ n. IsKeptEdge old.now new.now (plan_of known.now) node edge.now) }
+    ensures copies { IfSome result (λ n. AreCopies old.now new.now (plan_of known.now) node edge.now at n) }
 {
     if !matters(known, edge.to.0) {
         return Some(at);
     }
-    if !known.cuts.get(edge.to.0) {
+    if !known.cuts.get(edge.to.0) || edge.from.0 != node {
         return None;
     }
-    same_edge(old, new, node, edge, at)
+    if !is_same_edge(old, new, node, edge, at) {
+        return None;
+    }
+    if at == usize::MAX {
+        return None;
+    }
+    Some(at + 1)
 }
 
-/// The number behind that of an edge from the node that does the same and leads to the same node.
-fn same_edge(old: &Graph, new: &Graph, node: u32, edge: &Edge, at: usize) -> Option<usize>
+/// Whether the edge of this number leads from the node, does the same and leads to the same node.
+fn is_same_edge(old: &Graph, new: &Graph, node: u32, edge: &Edge, at: usize) -> bool
     requires { Grew old.now.terms new.now.terms }
-    ensures { IfSome result (λ n. Leading new.now node (plain_deeds old.now.terms edge.now.ops) edge.now.to.0) }
+    ensures leads { IsTrue result → Leading new.now node (plain_deeds old.now.terms edge.now.ops) edge.now.to.0 }
+    ensures same { IsTrue result → IsSame old.now new.now at edge.now }
 {
     if !leads_from(new, at, node) {
-        return None;
+        return false;
     }
     let cursor = Cursor {
         edge_at: at,
         op_at: 0,
     };
     let Some(done) = passed(old.terms(), new, cursor, edge.ops.as_slice()) else {
-        return None;
+        return false;
     };
-    let Some(next) = ends(new, done, edge.to.0) else {
-        return None;
-    };
-    Some(next.edge_at)
+    match ends(new, done, edge.to.0) {
+        None => false,
+        Some(_) => true,
+    }
 }
 
 /// The place behind operations as they are.

@@ -1,5 +1,5 @@
 -- Errors kept by a graph with joined chains, and by one graph after another.
-use Rattle.std.proofs.Common.{Result, Ok, Err, IfOk, ◌≡◌, ◌⊎◌, inl, inr, List, sym, ap, ◌∙◌, subst}
+use Rattle.std.proofs.Common.{Result, Ok, Err, IfOk, ◌≡◌, ◌⊎◌, inl, inr, List, length, sym, ap, ◌∙◌, subst, arith}
 use Rattle.bv_term.specs.WellFormed.{Table}
 use Rattle.c_graph.specs.declared.graph.Cell.{Cell}
 use Rattle.c_graph.specs.declared.graph.Edge.{Edge}
@@ -7,12 +7,13 @@ use Rattle.c_graph.specs.declared.graph.LoopAt.{LoopAt}
 use Rattle.c_graph.specs.declared.graph.Node.{Node}
 use Rattle.c_graph.specs.declared.graph.NodeId.{NodeId}
 use Rattle.c_graph.specs.Parts.{error_flow}
-use Rattle.c_graph.specs.Shape.{Flow}
+use Rattle.c_graph.specs.Shape.{Flow, IsFlow}
 use Rattle.edge_chains.specs.Joining.{IsJoined}
 use Rattle.edge_chain_laws.specs.Keeping.{with_edges}
-use Rattle.program_graphs.specs.Standing.{MeetsSome}
+use Rattle.edge_chain_back_laws.proofs.Unjoining.{chain_paths_come_back}
 use Rattle.join_laws.specs.Keeping.{KeepsErrors}
-use Rattle.join_laws.proofs.Errors.{chains_keep, error_flow_fails}
+use Rattle.join_laws.proofs.Errors.{chains_keep}
+use Rattle.block_join.specs.Joined.{ChainsReturn, HasMore, IsChained}
 
 pub weaken : {A : Type 0} → {E : Type 0} → (r : Result A E) (P Q : A → Type 0) → ((x : A) → P x → Q x) → IfOk r P → IfOk r Q
 weaken (Ok x) P Q f h = f x h
@@ -37,16 +38,33 @@ pub chained : (g h : Flow) (nodes : List Node) (edges joined : List Edge) (cells
     → nodes ≡ g.nodes → edges ≡ g.edges → cells ≡ g.cells → terms ≡ g.terms → entry ≡ g.entry → loops ≡ g.loops
     → IsJoined nodes entry edges joined
     → (h ≡ record { nodes = nodes; edges = joined; cells = cells; terms = terms; entry = entry; loops = loops }) ⊎ (h ≡ error_flow)
-    → KeepsErrors g h ⊎ MeetsSome h
+    → IsChained g h ⊎ (h ≡ error_flow)
 chained g h nodes edges joined cells terms entry loops a o b c d e is (inl made) =
     let one : IsJoined g.nodes entry edges joined = subst (λ (x : List Node). IsJoined x entry edges joined) a is in
     let two : IsJoined g.nodes g.entry edges joined = subst (λ (x : NodeId). IsJoined g.nodes x edges joined) d one in
     let three : IsJoined g.nodes g.entry g.edges joined = subst (λ (x : List Edge). IsJoined g.nodes g.entry x joined) o two in
     let whole : h ≡ with_edges g joined = made ∙ same-parts g nodes joined cells terms entry loops a b c d e in
-    inl (subst (λ (x : Flow). KeepsErrors g x) (sym whole) (chains_keep g joined three))
-chained g h nodes edges joined cells terms entry loops a o b c d e is (inr none) = inr (subst MeetsSome (sym none) error_flow_fails)
+    inl (joined, (three, whole))
+chained g h nodes edges joined cells terms entry loops a o b c d e is (inr none) = inr none
+
+-- the graph that stands where parts make none has no more than a node
+no-more : (h : Flow) → HasMore h → h ≡ error_flow → ⊥
+no-more h (inl some) is = omega (arith, some, ap (λ (x : Flow). length x.nodes) is)
+no-more h (inr (inl some)) is = omega (arith, some, ap (λ (x : Flow). length x.edges) is)
+no-more h (inr (inr some)) is = omega (arith, some, ap (λ (x : Flow). length x.cells) is)
+
+pub chained-keeps : (g h : Flow) → IsChained g h ⊎ (h ≡ error_flow) → HasMore h → KeepsErrors g h
+chained-keeps g h (inl (new, (is, whole))) more = subst (λ (x : Flow). KeepsErrors g x) (sym whole) (chains_keep g new is)
+chained-keeps g h (inr none) more = absurd (no-more h more none)
+
+pub chained-back : (g h : Flow) → IsFlow g → IsChained g h ⊎ (h ≡ error_flow) → HasMore h → ChainsReturn g h
+chained-back g h flow (inl (new, (is, whole))) more = subst (λ (x : Flow). ChainsReturn g x) (sym whole) (λ weight. chain_paths_come_back g new weight flow is)
+chained-back g h flow (inr none) more = absurd (no-more h more none)
+
+-- a graph keeps its own errors
+pub keeps-own : (g : Flow) → KeepsErrors g g
+keeps-own g draws kind at met = met
 
 -- one graph after another
-pub kept-on : (g b h : Flow) → KeepsErrors g b → KeepsErrors b h ⊎ MeetsSome h → KeepsErrors g h ⊎ MeetsSome h
-kept-on g b h first (inl second) = inl (λ draws kind at met. second draws kind at (first draws kind at met))
-kept-on g b h first (inr some) = inr some
+pub kept-on : (g b h : Flow) → KeepsErrors g b → KeepsErrors b h → KeepsErrors g h
+kept-on g b h first second draws kind at met = second draws kind at (first draws kind at met)

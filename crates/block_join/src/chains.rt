@@ -1,16 +1,31 @@
 //! A graph with joined chains of edges.
-ghost use Rattle.std.specs.Prelude.{◌≡◌, ◌⊎◌, IfOk};
-ghost use Rattle.program_graphs.specs.Standing.{MeetsSome};
+ghost use Rattle.std.specs.Prelude.{◌≡◌, ◌⊎◌, IfOk, IsTrue};
+ghost use Rattle.c_graph.specs.Parts.{error_flow};
 ghost use Rattle.join_laws.specs.Keeping.{KeepsErrors};
+ghost use Rattle.block_join.specs.Joined.{ChainsReturn, HasMore, IsChained};
 
 use c_graph::{Edge, Graph, Operations, graph_from};
 use edge_chains::join_chains;
 use lv_base::Memory;
 use std::alloc::Global;
 
-/// The graph in which chains of edges are one edge each.
-pub(crate) fn with_chains(alloc: Global, graph: &Graph) -> Result<Graph, Memory>
-    ensures { IfOk result (λ h. KeepsErrors graph.now h ⊎ MeetsSome h) }
+/// The graph in which chains of edges are one edge each, or the graph itself where these make none.
+pub(crate) fn with_chains(alloc: Global, graph: Graph) -> Result<Graph, Memory>
+    ensures keeps { IfOk result (λ h. KeepsErrors graph h) }
+    ensures back { IfOk result (λ h. ChainsReturn graph h) }
+{
+    let _entry = graph.entry();
+    let joined = joined(alloc, &graph)?;
+    if has_more(&joined) {
+        Ok(joined)
+    } else {
+        Ok(graph)
+    }
+}
+
+/// The graph of a graph's parts with joined chains of edges, or the one that stands where parts make none.
+fn joined(alloc: Global, graph: &Graph) -> Result<Graph, Memory>
+    ensures { IfOk result (λ h. IsChained graph.now h ⊎ (h ≡ error_flow)) }
 {
     let nodes = graph.nodes().to_vec(alloc)?;
     let edges = copied_edges(alloc, graph.edges())?;
@@ -20,6 +35,19 @@ pub(crate) fn with_chains(alloc: Global, graph: &Graph) -> Result<Graph, Memory>
     let terms = graph.terms().copy()?;
     let joined = join_chains(alloc, &nodes, edges, entry, &loops)?;
     graph_from(alloc, nodes, joined, cells, terms, entry, loops)
+}
+
+/// Whether a graph has more than the one that stands where parts make none, which is a node alone.
+fn has_more(graph: &Graph) -> bool
+    ensures { IsTrue result → HasMore graph.now }
+{
+    if graph.nodes().len() > 1 {
+        return true;
+    }
+    if graph.edges().len() > 0 {
+        return true;
+    }
+    graph.cells().len() > 0
 }
 
 fn copied_edges(alloc: Global, edges: &[Edge]) -> Result<Vec<Edge>, Memory>

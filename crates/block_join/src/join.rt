@@ -1,7 +1,8 @@
 //! A graph of blocks is made, and taken only where it has what the rule says.
-ghost use Rattle.std.specs.Prelude.{◌⊎◌, IfOk, IsTrue};
-ghost use Rattle.program_graphs.specs.Standing.{MeetsSome};
+ghost use Rattle.std.specs.Prelude.{IfOk, IsTrue};
+ghost use Rattle.program_graphs.specs.Returning.{ComesBack};
 ghost use Rattle.join_laws.specs.Keeping.{KeepsErrors};
+ghost use Rattle.block_join.specs.Joined.{BlocksReturn};
 
 use crate::chains::{copied_edge, with_chains};
 use crate::emission::{Draft, Plan};
@@ -17,27 +18,35 @@ use std::alloc::Global;
 /// The graph in which everything between two cut points is one edge, with a branch for its failed checks and one for each way out;
 /// and then each node with one way in and one way out, that is neither the entry nor a loop's, has given its edge away. Nodes keep
 /// their numbers, also those without edges that are left over; new ones stand behind them. Where the graph of blocks is not what the
-/// rule says, the graph's own chains of edges are joined.
-pub fn join_blocks(alloc: Global, graph: &Graph) -> Result<Graph, Memory>
-    ensures { IfOk result (λ h. KeepsErrors graph.now h ⊎ MeetsSome h) }
+/// rule says, the graph's own chains of edges are joined, and where these make no graph, it stays as it is.
+pub fn join_blocks(alloc: Global, graph: Graph) -> Result<Graph, Memory>
+    ensures keeps { IfOk result (λ h. KeepsErrors graph h) }
+    ensures back { IfOk result (λ h. ComesBack graph h) }
 {
-    let made = attempted(alloc, graph)?;
-    if keeps_errors(alloc, graph, &made.graph, &made.known, &made.members)? {
-        with_chains(alloc, &made.graph)
+    let made = attempted(alloc, &graph)?;
+    let Attempt {
+        graph: blocked,
+        known,
+        members,
+    } = made;
+    let are_same = have_same_errors(alloc, &graph, &blocked, &known, &members)?;
+    if are_same {
+        with_chains(alloc, blocked)
     } else {
         with_chains(alloc, graph)
     }
 }
 
 /// Whether the second graph has the blocks of the first, by what is known of that and the places of each block.
-fn keeps_errors(
+fn have_same_errors(
     alloc: Global,
     graph: &Graph,
     blocked: &Graph,
     known: &Known,
     members: &[Vec<NodeId>],
 ) -> Result<bool, Memory>
-    ensures { IfOk result (λ b. IsTrue b → KeepsErrors graph.now blocked.now) }
+    ensures keeps { IfOk result (λ b. IsTrue b → KeepsErrors graph.now blocked.now) }
+    ensures back { IfOk result (λ b. IsTrue b → BlocksReturn graph.now blocked.now) }
 {
     let _entry = graph.entry();
     let _start = blocked.entry();

@@ -19,9 +19,10 @@
 //! But for the plan it takes time in proportion to the graph, times the ways out that wait at once in a block.
 //!
 //! Of how blocks are made no contract says more than that the call returns. What was made is tested ([`block_follow`]): where it has the
-//! blocks that the rule says, errors that runs meet are kept, and chains of its edges become one edge each ([`edge_chains`]); where it
-//! has not, chains of the first graph's edges are joined instead. So each error that a run of the first graph meets, a run of the answer
-//! meets, with the same values.
+//! blocks that the rule says and no more, its runs meet the errors that runs of the first graph meet, and chains of its edges become one
+//! edge each ([`edge_chains`]); where it has not, chains of the first graph's edges are joined instead, and where these make no graph, the
+//! first graph is the answer. So runs of the answer meet the errors that runs of the first graph meet, with the same values, and no others,
+//! along paths that have an edge of the answer for as many edges as the first graph has nodes, or fewer.
 #![tactic(auto)]
 
 mod chains;

@@ -2,6 +2,7 @@
 use Rattle.std.proofs.Common.{◌≡◌, ℕ, ◌+◌, ◌<◌, ◌≤◌, List, [], ◌∷◌, ◌++◌, Some, zero, suc, length, ap, ◌∙◌, sym, arith, subst, slice_get, drop}
 use Rattle.bv_term.specs.declared.term.TermId.{TermId}
 use Rattle.c_graph.specs.declared.graph.NodeId.{NodeId}
+use Rattle.c_graph.specs.declared.graph.Edge.{Edge}
 use Rattle.c_graph.specs.declared.graph.EdgeId.{EdgeId}
 use Rattle.c_graph.specs.declared.graph.Node.TheVariants.{Plain}
 use Rattle.c_graph.specs.declared.graph.Operation.{Operation}
@@ -12,10 +13,12 @@ use Rattle.block_rule.specs.Plans.{Plan, AreMoves, ArePlaces, AreRegular, IsMove
 use Rattle.block_walk.specs.declared.known.Known.{Known}
 use Rattle.block_walk.specs.declared.state.Place.{Place}
 use Rattle.block_walk.specs.declared.state.Ways.{Ways}
+use Rattle.block_walk.specs.declared.state.Ways.TheVariants.{Goes, Tested, Checked, Fails, Forks}
+use Rattle.block_edges.specs.Exact.{AllLed, AreLed, Leaves}
 use Rattle.block_walk.specs.Known.{on_unit, plan_of}
 use Rattle.block_walk.specs.Walks.{place_of, places_of, ways_of}
-use Rattle.block_places.specs.Covering.{AreCovered}
-use Rattle.block_places.proofs.Leaving.{edge_id, leaving}
+use Rattle.block_places.specs.Covering.{AreCovered, AreLeading, IsTotal, Leads}
+use Rattle.block_steps.proofs.Leaving.{edge_id, leaving}
 
 pub front : (ops : List Operation) (op : Operation) → slice_get ops 0 ≡ Some op → ops ≡ op ∷ drop 1 ops
 front [] op s = absurd (cc)
@@ -59,3 +62,19 @@ pub more-places : (g : Flow) (plan : Plan) (n : ℕ) (ps : List Place) (p : Plac
     → ArePlaces g plan n (places_of g (ps ++ p ∷ []))
 more-places g plan n [] p are is = (is, tt)
 more-places g plan n (q ∷ ps) p are is = (are.0, more-places g plan n ps p are.1 is)
+
+-- ways that are edges, and of which a run takes one
+pub are-led : (g : Flow) (v : ℕ) (ways : Ways) → AreLeading g v ways → IsTotal g ways → AreLed g v (ways_of g ways)
+are-led g v (Goes way) leads total = leads
+are-led g v (Tested t way) leads total = leads
+are-led g v (Checked t error u way) leads total = (leads.0, leads.1, total)
+are-led g v (Fails t error u other) leads total = (leads.0, leads.1, total)
+are-led g v (Forks t one u other) leads total = (leads.0, leads.1, total)
+
+pub more-led : (g : Flow) (ps : List Place) (p : Place) → AllLed g (places_of g ps) → AreLed g p.node (ways_of g p.ways) → AllLed g (places_of g (ps ++ p ∷ []))
+more-led g [] p are is = (is, tt)
+more-led g (q ∷ ps) p are is = (are.0, more-led g ps p are.1 is)
+
+-- an edge that leads from the node and is the way
+pub leaves-by : (g : Flow) (v k : ℕ) (ops : List Operation) (to : ℕ) → (e : Edge) × ((slice_get g.edges k ≡ Some e) × (e.from.0 ≡ v)) → Leads g k ops to → Leaves g v ops to
+leaves-by g v k ops to (e, (there, from)) is = (k, (e, there, from, is e there))

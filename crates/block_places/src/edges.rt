@@ -48,7 +48,7 @@ fn begins(edge: &Edge, test: TermId, to: u32) -> bool
 }
 
 /// Whether the edge of a number tests the term, does nothing more, and leads there.
-fn is_bare(graph: &Graph, number: usize, test: TermId, to: u32) -> bool
+pub(crate) fn is_bare(graph: &Graph, number: usize, test: TermId, to: u32) -> bool
     ensures { IsTrue result → Leads graph.now number (Assume test ∷ []) to }
 {
     let edges = graph.edges();
@@ -59,7 +59,7 @@ fn is_bare(graph: &Graph, number: usize, test: TermId, to: u32) -> bool
 }
 
 /// Whether the edge of a number tests the term, and behind that is the way.
-fn is_behind(graph: &Graph, number: usize, test: TermId, way: Way) -> bool
+pub(crate) fn is_behind(graph: &Graph, number: usize, test: TermId, way: Way) -> bool
     ensures { IsTrue result → Leads graph.now number (Assume test ∷ moves_of graph.now way) way.to }
 {
     let edges = graph.edges();
@@ -70,7 +70,7 @@ fn is_behind(graph: &Graph, number: usize, test: TermId, way: Way) -> bool
 }
 
 /// Whether the edge of a number is the way.
-fn is_whole(graph: &Graph, number: usize, way: Way) -> bool
+pub(crate) fn is_whole(graph: &Graph, number: usize, way: Way) -> bool
     ensures { IsTrue result → Leads graph.now number (moves_of graph.now way) way.to }
 {
     let edges = graph.edges();

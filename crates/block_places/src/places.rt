@@ -3,25 +3,19 @@ ghost use Rattle.std.specs.Prelude.{◌≡◌, IfOk, IfSome, IsTrue, Some, lengt
 ghost use Rattle.c_graph.specs.declared.graph.Node.TheVariants.{Plain};
 ghost use Rattle.c_graph.specs.Shape.{outs};
 ghost use Rattle.block_rule.specs.Plans.{ArePlaces, IsPlace};
+ghost use Rattle.block_edges.specs.Exact.{AllLed, AreLed};
 ghost use Rattle.block_walk.specs.Known.{plan_of};
-ghost use Rattle.block_walk.specs.Walks.{place_of, places_of};
+ghost use Rattle.block_walk.specs.Walks.{place_of, places_of, ways_of};
 
 use crate::edges::are_covered;
 use crate::exits::guess;
+use crate::leading::are_leading;
 use crate::regular::is_regular;
+use block_steps::is_plain;
 use block_walk::{Known, Place, Ways};
-use c_graph::{EdgeId, Graph, Node, NodeId};
+use c_graph::{EdgeId, Graph, NodeId};
 use lv_base::Memory;
 use std::alloc::Global;
-
-fn is_plain(graph: &Graph, node: u32) -> bool
-    ensures { IsTrue result → slice_get graph.now.nodes node ≡ Some Plain }
-{
-    match graph.nodes().get(node as usize) {
-        Some(Node::Plain) => true,
-        _ => false,
-    }
-}
 
 /// The place with these ways, if they pass the tests.
 fn tested(
@@ -33,9 +27,13 @@ fn tested(
 ) -> Option<Place>
     requires plain { slice_get graph.now.nodes node.0 ≡ Some Plain }
     requires all { numbers.now ≡ outs graph.now node }
-    ensures { IfSome result (λ p. IsPlace graph.now (plan_of known.now) (length graph.now.cells) (place_of graph.now p)) }
+    ensures place { IfSome result (λ p. IsPlace graph.now (plan_of known.now) (length graph.now.cells) (place_of graph.now p)) }
+    ensures led { IfSome result (λ p. AreLed graph.now p.node (ways_of graph.now p.ways)) }
 {
     if !are_covered(graph, ways, numbers) || !is_regular(graph, known, ways) {
+        return None;
+    }
+    if !are_leading(graph, node.0, ways, numbers) {
         return None;
     }
     Some(Place { node: node.0, ways })
@@ -49,7 +47,8 @@ pub fn place_of_node(
     known: &Known,
     node: u32,
 ) -> Result<Option<Place>, Memory>
-    ensures { IfOk result (λ o. IfSome o (λ p. IsPlace graph.now (plan_of known.now) (length graph.now.cells) (place_of graph.now p))) }
+    ensures place { IfOk result (λ o. IfSome o (λ p. IsPlace graph.now (plan_of known.now) (length graph.now.cells) (place_of graph.now p))) }
+    ensures led { IfOk result (λ o. IfSome o (λ p. AreLed graph.now p.node (ways_of graph.now p.ways))) }
 {
     if !is_plain(graph, node) {
         return Ok(None);
@@ -68,7 +67,8 @@ pub fn places_of_nodes(
     known: &Known,
     nodes: &[NodeId],
 ) -> Result<Option<Vec<Place>>, Memory>
-    ensures { IfOk result (λ o. IfSome o (λ ps. ArePlaces graph.now (plan_of known.now) (length graph.now.cells) (places_of graph.now ps.items))) }
+    ensures places { IfOk result (λ o. IfSome o (λ ps. ArePlaces graph.now (plan_of known.now) (length graph.now.cells) (places_of graph.now ps.items))) }
+    ensures led { IfOk result (λ o. IfSome o (λ ps. AllLed graph.now (places_of graph.now ps.items))) }
 {
     let mut places = Vec::new(alloc);
     for node in nodes {

@@ -3,8 +3,10 @@ ghost use Rattle.std.specs.Prelude.{◌≡◌, IsTrue, length};
 ghost use Rattle.bv_term.specs.WellFormed.{IsTable};
 ghost use Rattle.graph_walk_laws.specs.Walks.{AreComplements};
 ghost use Rattle.block_rule.specs.Plans.{AreRegular, Exclude, IsError};
+ghost use Rattle.block_edges.specs.Exact.{Either};
 ghost use Rattle.block_walk.specs.Known.{plan_of};
 ghost use Rattle.block_walk.specs.Walks.{ways_of};
+ghost use Rattle.block_places.specs.Covering.{IsTotal};
 
 use crate::moves::has_moves;
 use block_walk::{Known, Ways};
@@ -31,9 +33,10 @@ fn are_complements(terms: &Terms, first: TermId, second: TermId) -> bool
     terms.width_of(first) == 1 && is_not(terms.get(second), first)
 }
 
-/// Whether one of the terms is the complement of the other.
+/// Whether one of the terms is the complement of the other: one of them is 1, and only one.
 fn exclude(terms: &Terms, first: TermId, second: TermId) -> bool
-    ensures { IsTrue result → Exclude terms.now first second }
+    ensures alone { IsTrue result → Exclude terms.now first second }
+    ensures either { IsTrue result → Either terms.now first second }
 {
     are_complements(terms, first, second) || are_complements(terms, second, first)
 }
@@ -47,9 +50,10 @@ fn is_error(graph: &Graph, node: u32) -> bool
     }
 }
 
-/// Whether the tests of two ways exclude each other, what is said to be an error is one, and the operations of ways are moves.
+/// Whether of the tests of two ways one holds, and only one, what is said to be an error is one, and the operations of ways are moves.
 pub(crate) fn is_regular(graph: &Graph, known: &Known, ways: Ways) -> bool
-    ensures { IsTrue result → AreRegular graph.now (plan_of known.now) (length graph.now.cells) (ways_of graph.now ways) }
+    ensures regular { IsTrue result → AreRegular graph.now (plan_of known.now) (length graph.now.cells) (ways_of graph.now ways) }
+    ensures total { IsTrue result → IsTotal graph.now ways }
 {
     match ways {
         Ways::Goes(way) | Ways::Tested(_, way) => has_moves(graph, known, way),

@@ -3,7 +3,7 @@ ghost use Rattle.std.specs.Prelude.{◌≡◌, IfSome, IsTrue, Some, slice_get};
 ghost use Rattle.c_graph.specs.declared.graph.Edge.{Edge};
 ghost use Rattle.c_graph.specs.declared.graph.Operation.TheVariants.{Assume};
 ghost use Rattle.block_rule.specs.Deeds.{Ends};
-ghost use Rattle.block_steps.specs.Cursors.{Comes, EndAt, IsBehind, Meets, OpAt, SideAt};
+ghost use Rattle.block_steps.specs.Cursors.{EndAt, IsBehind, Meets, OpAt, SideAt};
 
 use bv_term::TermId;
 use c_graph::{Graph, Operation};
@@ -22,7 +22,7 @@ pub(crate) struct Step {
     pub(crate) next: Cursor,
 }
 
-/// A node, and the place of its first edge.
+/// A node, and the place of the edge that is looked at next.
 #[derive(Clone, Copy)]
 pub struct Fork {
     pub node: u32,
@@ -113,13 +113,10 @@ pub fn ends(graph: &Graph, cursor: Cursor, to: u32) -> Option<Cursor>
     first_of_next(cursor)
 }
 
-/// The node at which what was done leads on: the edge's first, where nothing was done, else that to which the edge leads.
+/// The node of a branch, to which an edge leads whose operations are all done.
 pub fn find_branch(graph: &Graph, cursor: Cursor) -> Option<Fork>
-    ensures { IfSome result (λ f. Comes graph.now cursor f.node) }
+    ensures { IfSome result (λ f. EndAt graph.now cursor f.node) }
 {
-    if cursor.op_at == 0 {
-        return here(graph, cursor);
-    }
     let Some(node) = end_of(graph, cursor) else {
         return None;
     };
@@ -127,20 +124,6 @@ pub fn find_branch(graph: &Graph, cursor: Cursor) -> Option<Fork>
         None => None,
         Some(next) => Some(Fork { node, next }),
     }
-}
-
-fn here(graph: &Graph, cursor: Cursor) -> Option<Fork>
-    requires { cursor.op_at ≡ 0 }
-    ensures { IfSome result (λ f. Comes graph.now cursor f.node) }
-{
-    let edges = graph.edges();
-    if cursor.edge_at >= edges.len() {
-        return None;
-    }
-    Some(Fork {
-        node: edges[cursor.edge_at].from.0,
-        next: cursor,
-    })
 }
 
 /// The term on which an edge of a node goes on, if it begins with an Assume.

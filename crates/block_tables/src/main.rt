@@ -48,7 +48,7 @@ impl<R: Print + Drop> BlockTable<R> {
     // Tries a row about a graph and the graph of its blocks.
     fn of_graph(&self, alloc: Global, kind: &str, rest: &str) -> Result<bool, RowFail> {
         let graph = whole_graph(alloc, self.graph.as_str())?;
-        let blocks = join_blocks(alloc, &graph)?;
+        let blocks = join_blocks(alloc, whole_graph(alloc, self.graph.as_str())?)?;
         match kind {
             "walk" => walks::ends_so(alloc, &self.rt, &graph, &blocks, &self.firsts, rest),
             "edges" => edges::are_so_many(&self.rt, &blocks, rest),

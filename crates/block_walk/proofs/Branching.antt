@@ -10,7 +10,7 @@ use Rattle.truth_terms.proofs.Bits.{test-is}
 use Rattle.block_rule.specs.Deeds.{Deed, Code, Stops, Ends, Does, Branches}
 use Rattle.block_rule.specs.Plans as plans
 use Rattle.block_rule.specs.Rule.{Wait, Bad, State, with_wait, is_none, some_bad, is_set, is_on, exits, flushed, certain, moved, some_draw, leads, goes, clear}
-use Rattle.block_steps.specs.Cursors.{Comes, Meets, SideAt}
+use Rattle.block_steps.specs.Cursors.{AreSides, EndAt, Meets, SideAt}
 use Rattle.block_steps.specs.declared.cursor.Cursor.{Cursor}
 use Rattle.block_steps.proofs.Places.{branches, branches-once}
 use Rattle.block_walk.specs.declared.state.Waiting.{Waiting}
@@ -23,25 +23,27 @@ use Rattle.block_walk.proofs.Following.{drop-step, drop-all, waits-last, chosen,
 abbrev pub IsOther : Table → TermId → TermId → Type 0
 IsOther table t u = (q : List ℕ → Bool) → IsBit table t q → IsBit table u (λ s. not (q s))
 
-pub branch-found : (h : Flow) (k a b : Cursor) (w : ℕ) (t u : TermId) (p : List ℕ → Bool) (one code : Code) → Comes h k w → SideAt h a w t
-    → IsBit h.terms t p → SideAt h b w u → IsOther h.terms t u → Meets h a one → Meets h b code → Meets h k (Branches p one code)
-branch-found h k a b w t u p one code comes sa bit sb other ma mb =
-    branches h k a b w t u p one code comes sa (λ s wh. test-is h.terms t p s bit wh) sb
-    (λ s wh. test-is h.terms u (λ x. not (p x)) s (other p bit) wh) ma mb
+pub branch-found : (h : Flow) (k a b : Cursor) (w : ℕ) (t u : TermId) (p : List ℕ → Bool) (one code : Code) → EndAt h k w → SideAt h a w t
+    → IsBit h.terms t p → SideAt h b w u → IsOther h.terms t u → AreSides h w a.edge_at b.edge_at → Meets h a one → Meets h b code
+    → Meets h k (Branches p one code)
+branch-found h k a b w t u p one code end sa bit sb other both ma mb =
+    branches h k a b w t u p one code end sa (λ s wh. test-is h.terms t p s bit wh) sb
+    (λ s wh. test-is h.terms u (λ x. not (p x)) s (other p bit) wh) both ma mb
 
-pub flush-found : (h : Flow) (bs : List Failing) (k a b : Cursor) (w : ℕ) (t u : TermId) (code : Code) → 0 < length bs → Comes h k w → SideAt h a w t
-    → IsBit h.terms t (some_bad (bads_of bs)) → SideAt h b w u → IsOther h.terms t u → Meets h a (first_of (bads_of bs)) → Meets h b code
-    → Meets h k (flushed (bads_of bs) code)
-flush-found h [] k a b w t u code some comes sa bit sb other ma mb = absurd (omega (arith, some))
-flush-found h (x ∷ bs) k a b w t u code some comes sa bit sb other ma mb =
-    branch-found h k a b w t u (some_bad (bads_of (x ∷ bs))) (first_of (bads_of (x ∷ bs))) code comes sa bit sb other ma mb
+pub flush-found : (h : Flow) (bs : List Failing) (k a b : Cursor) (w : ℕ) (t u : TermId) (code : Code) → 0 < length bs → EndAt h k w → SideAt h a w t
+    → IsBit h.terms t (some_bad (bads_of bs)) → SideAt h b w u → IsOther h.terms t u → AreSides h w a.edge_at b.edge_at
+    → Meets h a (first_of (bads_of bs)) → Meets h b code → Meets h k (flushed (bads_of bs) code)
+flush-found h [] k a b w t u code some end sa bit sb other both ma mb = absurd (omega (arith, some))
+flush-found h (x ∷ bs) k a b w t u code some end sa bit sb other both ma mb =
+    branch-found h k a b w t u (some_bad (bads_of (x ∷ bs))) (first_of (bads_of (x ∷ bs))) code end sa bit sb other both ma mb
 
-pub last-found : (h : Flow) (bs : List Failing) (k a : Cursor) (w : ℕ) (t : TermId) → 0 < length bs → Comes h k w → SideAt h a w t
-    → IsBit h.terms t (some_bad (bads_of bs)) → Meets h a (first_of (bads_of bs)) → Meets h k (flushed (bads_of bs) Stops)
-last-found h [] k a w t some comes sa bit ma = absurd (omega (arith, some))
-last-found h (x ∷ bs) k a w t some comes sa bit ma =
-    branches-once h k a w t (some_bad (bads_of (x ∷ bs))) (first_of (bads_of (x ∷ bs))) comes sa
-    (λ s wh. test-is h.terms t (some_bad (bads_of (x ∷ bs))) s bit wh) ma
+pub last-found : (h : Flow) (bs : List Failing) (k a : Cursor) (w : ℕ) (t : TermId) → 0 < length bs → EndAt h k w → SideAt h a w t
+    → IsBit h.terms t (some_bad (bads_of bs)) → AreSides h w a.edge_at a.edge_at → Meets h a (first_of (bads_of bs))
+    → Meets h k (flushed (bads_of bs) Stops)
+last-found h [] k a w t some end sa bit alone ma = absurd (omega (arith, some))
+last-found h (x ∷ bs) k a w t some end sa bit alone ma =
+    branches-once h k a w t (some_bad (bads_of (x ∷ bs))) (first_of (bads_of (x ∷ bs))) end sa
+    (λ s wh. test-is h.terms t (some_bad (bads_of (x ∷ bs))) s bit wh) alone ma
 
 get-some : {A : Type 0} → (xs : List A) (n : ℕ) → n < length xs → (x : A) × (slice_get xs n ≡ Some x)
 get-some [] n lt = absurd (omega (arith, lt))

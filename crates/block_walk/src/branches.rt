@@ -3,16 +3,17 @@ ghost use Rattle.std.specs.Prelude.{ℕ, [], ◌∷◌, not, Bool, List, IfOk, I
 ghost use Rattle.truth_terms.specs.Truths.{Grew, IsBit};
 ghost use Rattle.block_rule.specs.Deeds.{Branches, Code, Does, Ends, Stops, Tests};
 ghost use Rattle.block_rule.specs.Rule.{certain, exits, flushed, some_bad};
-ghost use Rattle.block_steps.specs.Cursors.{Comes, Meets, SideAt};
+ghost use Rattle.block_steps.specs.Cursors.{AreSides, EndAt, Meets, SideAt};
 ghost use Rattle.block_steps.specs.Tests.{holds};
 ghost use Rattle.block_walk.specs.Known.{plan_of};
 ghost use Rattle.block_walk.specs.Walks.{bads_of, first_of, waits_of};
 
 use crate::known::{Known, is_cut};
 use crate::state::{Failing, Stop, Waiting};
-use block_steps::{Cursor, Test, assumes, ends, find_branch, find_side, is_test};
+use block_steps::{Cursor, Test, are_sides, assumes, ends, find_branch, find_side, is_test};
 use bv_term::{TermId, Terms};
 use c_graph::Graph;
+use std::alloc::Global;
 use truth_terms::{is_added, is_cell_bit, is_not};
 
 /// The place behind the end of an edge at a node.
@@ -40,8 +41,26 @@ fn is_other(new: &Graph, term: TermId, other: TermId) -> bool
     is_not(new.terms(), other, term)
 }
 
+/// Goes on only where the edges of these two places are all that lead from the node.
+fn only_these(alloc: Global, new: &Graph, node: u32, one: Cursor, other: Cursor) -> Result<(), Stop>
+    ensures { IfOk result (λ u. AreSides new.now node one.edge_at other.edge_at) }
+{
+    if are_sides(alloc, new, node, one.edge_at, other.edge_at)? {
+        Ok(())
+    } else {
+        Err(Stop::Differs)
+    }
+}
+
 /// A branch whose first side ends at a node: the place behind the test of its second side.
-fn passed(old: &Graph, new: &Graph, cursor: Cursor, test: Test, to: u32) -> Result<Cursor, Stop>
+fn passed(
+    alloc: Global,
+    old: &Graph,
+    new: &Graph,
+    cursor: Cursor,
+    test: Test,
+    to: u32,
+) -> Result<Cursor, Stop>
     requires { Grew old.now.terms new.now.terms }
     ensures { IfOk result (λ n. (code : Code) → Meets new.now n code → Meets new.now cursor (Branches (holds old.now.terms test) (Ends to) code)) }
 {
@@ -61,6 +80,7 @@ fn passed(old: &Graph, new: &Graph, cursor: Cursor, test: Test, to: u32) -> Resu
     if !is_other(new, one.term, other.term) {
         return Err(Stop::Differs);
     }
+    only_these(alloc, new, fork.node, one.next, other.next)?;
     Ok(other.next)
 }
 
@@ -82,7 +102,13 @@ fn is_some_failing(terms: &Terms, term: TermId, bads: &[Failing]) -> bool
 }
 
 /// Branches on checks in their order, the last without a test.
-fn first_failing(old: &Graph, new: &Graph, bads: &[Failing], cursor: Cursor) -> Result<Cursor, Stop>
+fn first_failing(
+    alloc: Global,
+    old: &Graph,
+    new: &Graph,
+    bads: &[Failing],
+    cursor: Cursor,
+) -> Result<Cursor, Stop>
     requires { Grew old.now.terms new.now.terms }
     ensures { IfOk result (λ n. Meets new.now cursor (first_of (bads_of bads.now))) }
 {
@@ -92,7 +118,7 @@ fn first_failing(old: &Graph, new: &Graph, bads: &[Failing], cursor: Cursor) -> 
             return ended(new, at, bads[number].error);
         }
         let test = Test::On(Some(bads[number].cell));
-        at = passed(old, new, at, test, bads[number].error)?;
+        at = passed(alloc, old, new, at, test, bads[number].error)?;
     }
     Err(Stop::Differs)
 }
@@ -106,7 +132,7 @@ struct Opened {
 }
 
 fn open_branch(new: &Graph, bads: &[Failing], cursor: Cursor) -> Result<Opened, Stop>
-    ensures { IfOk result (λ o. Comes new.now cursor o.node × SideAt new.now o.next o.node o.term × IsBit new.now.terms o.term (some_bad (bads_of bads.now))) }
+    ensures { IfOk result (λ o. EndAt new.now cursor o.node × SideAt new.now o.next o.node o.term × IsBit new.now.terms o.term (some_bad (bads_of bads.now))) }
 {
     let Some(fork) = find_branch(new, cursor) else {
         return Err(Stop::Differs);
@@ -126,6 +152,7 @@ fn open_branch(new: &Graph, bads: &[Failing], cursor: Cursor) -> Result<Opened, 
 
 /// One branch for all checks that may have failed.
 pub(crate) fn flush(
+    alloc: Global,
     old: &Graph,
     new: &Graph,
     bads: &[Failing],
@@ -138,26 +165,35 @@ pub(crate) fn flush(
         return Ok(cursor);
     }
     let opened = open_branch(new, bads, cursor)?;
-    let end = first_failing(old, new, bads, opened.next)?;
+    let end = first_failing(alloc, old, new, bads, opened.next)?;
     let Some(other) = find_side(new, end, opened.node) else {
         return Err(Stop::Differs);
     };
     if !is_other(new, opened.term, other.term) {
         return Err(Stop::Differs);
     }
+    only_these(alloc, new, opened.node, opened.next, other.next)?;
     Ok(other.next)
 }
 
-/// The branch for all checks that may have failed, behind which nothing waits.
-fn flush_last(old: &Graph, new: &Graph, bads: &[Failing], cursor: Cursor) -> Result<Cursor, Stop>
+/// The branch for all checks that may have failed, behind which nothing waits. Where there is no check either, no edge leads on, and so
+/// none is one of the code's.
+fn flush_last(
+    alloc: Global,
+    old: &Graph,
+    new: &Graph,
+    bads: &[Failing],
+    cursor: Cursor,
+) -> Result<Cursor, Stop>
     requires { Grew old.now.terms new.now.terms }
     ensures { IfOk result (λ n. Meets new.now cursor (flushed (bads_of bads.now) Stops)) }
 {
     if bads.is_empty() {
-        return Ok(cursor);
+        return Err(Stop::Differs);
     }
     let opened = open_branch(new, bads, cursor)?;
-    first_failing(old, new, bads, opened.next)
+    only_these(alloc, new, opened.node, opened.next, opened.next)?;
+    first_failing(alloc, old, new, bads, opened.next)
 }
 
 /// Where a run may have been lost, it goes on only where the guard is 1.
@@ -214,6 +250,7 @@ fn last_exit(
 
 /// The places that wait at the end.
 fn leave(
+    alloc: Global,
     old: &Graph,
     new: &Graph,
     known: &Known,
@@ -233,13 +270,14 @@ fn leave(
         if !is_cut(known, exit.node) {
             return Err(Stop::Differs);
         }
-        at = passed(old, new, at, Test::On(exit.guard), exit.node)?;
+        at = passed(alloc, old, new, at, Test::On(exit.guard), exit.node)?;
     }
-    Ok(at)
+    Err(Stop::Differs)
 }
 
 /// The end of a block: the checks that may have failed, and the places that wait.
 pub(crate) fn close(
+    alloc: Global,
     old: &Graph,
     new: &Graph,
     known: &Known,
@@ -252,8 +290,8 @@ pub(crate) fn close(
     ensures { IfOk result (λ n. Meets new.now cursor (flushed (bads_of bads.now) (exits (plan_of known.now) lost (waits_of waiting.now)))) }
 {
     if waiting.is_empty() {
-        return flush_last(old, new, bads, cursor);
+        return flush_last(alloc, old, new, bads, cursor);
     }
-    let next = flush(old, new, bads, cursor)?;
-    leave(old, new, known, lost, waiting, next)
+    let next = flush(alloc, old, new, bads, cursor)?;
+    leave(alloc, old, new, known, lost, waiting, next)
 }

@@ -161,7 +161,7 @@ fn drawn(
     if !no_waits(&walk.waiting) {
         return Err(Stop::Differs);
     }
-    let flushed = flush(old, new, &walk.bads, walk.cursor)?;
+    let flushed = flush(alloc, old, new, &walk.bads, walk.cursor)?;
     let sure = certain(old, new, flushed, walk.lost, guard)?;
     let cursor = moves(old, new, known, &walk.waiting, sure, None, way)?;
     let there = Walk {
@@ -428,7 +428,16 @@ fn all_placed(
     for number in 0..places.len() {
         at = placed(alloc, old, new, known, at, places[number])?;
     }
-    close(old, new, known, at.lost, &at.bads, &at.waiting, at.cursor)
+    close(
+        alloc,
+        old,
+        new,
+        known,
+        at.lost,
+        &at.bads,
+        &at.waiting,
+        at.cursor,
+    )
 }
 
 /// The code of a block from a place in the edges on, the first saved cell having this number.

@@ -3,9 +3,10 @@ use Rattle.std.specs.Prelude.{ℕ, ℤ, List}
 use Rattle.lv_base.specs.declared.fault.ErrorKind.{ErrorKind}
 use Rattle.c_graph.specs.declared.graph.NodeId.{NodeId}
 use Rattle.c_graph.specs.declared.graph.Edge.{Edge}
-use Rattle.c_graph.specs.Shape.{Flow}
+use Rattle.c_graph.specs.Shape.{Flow, IsFlow}
 use Rattle.c_graph.specs.Runs.{RunsTo}
 use Rattle.program_graphs.specs.Standing.{MeetsError}
+use Rattle.program_graphs.specs.Weighing.{ComesBackFor}
 use Rattle.edge_chains.specs.Joining.{IsJoined}
 use Rattle.edge_chain_laws.specs.Keeping.{with_edges}
 
@@ -20,3 +21,11 @@ abbrev pub ChainErrorsComeBack : Type 0
 ChainErrorsComeBack =
     (g : Flow) (new : List Edge) (draws : List ℤ) (kind : ErrorKind) (at : ℕ)
     → IsJoined g.nodes g.entry g.edges new → MeetsError (with_edges g new) draws kind at → MeetsError g draws kind at
+
+-- and along a path that costs no more than all nodes weigh together for each joined edge, whatever they weigh
+abbrev pub ChainPathsComeBack : Type 0
+ChainPathsComeBack = (g : Flow) (new : List Edge) (weight : ℕ → ℕ) → IsFlow g → IsJoined g.nodes g.entry g.edges new → ComesBackFor weight g (with_edges g new)
+
+-- so each path of a graph costs no more itself
+abbrev pub OwnPathsComeBack : Type 0
+OwnPathsComeBack = (g : Flow) (weight : ℕ → ℕ) → IsFlow g → ComesBackFor weight g g

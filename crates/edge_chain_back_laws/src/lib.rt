@@ -4,7 +4,7 @@
 //! these edges, one after the other.
 #![tactic(auto)]
 
-ghost use Rattle.edge_chain_back_laws.specs.Returning.{ChainErrorsComeBack, ChainsComeBack};
+ghost use Rattle.edge_chain_back_laws.specs.Returning.{ChainErrorsComeBack, ChainPathsComeBack, ChainsComeBack, OwnPathsComeBack};
 
 /// A run along joined edges has a run of the graph to the same node, with the same values and the same store.
 pub fn chains_come_back()
@@ -14,4 +14,14 @@ pub fn chains_come_back()
 /// Each error that a run along joined edges meets, a run of the graph meets, with the same values.
 pub fn chain_errors_come_back()
     ensures { ChainErrorsComeBack }
+{}
+
+/// And along a path that goes over each node of a chain once.
+pub fn chain_paths_come_back()
+    ensures { ChainPathsComeBack }
+{}
+
+/// The paths of a graph itself cost no more than all nodes for each edge.
+pub fn own_paths_come_back()
+    ensures { OwnPathsComeBack }
 {}

@@ -51,7 +51,7 @@ fn walks_of<R: Print>(
     let examined = examined(alloc, source, model)?;
     let graph = whole_graph(alloc, &examined)?;
     let whole = compare(alloc, rt, &examined, &graph, Kept::All, rounds)?;
-    let blocks = join_blocks(alloc, &graph)?;
+    let blocks = join_blocks(alloc, graph)?;
     let joined = compare(alloc, rt, &examined, &blocks, Kept::Errors, rounds)?;
     Ok(sum(whole, joined))
 }

@@ -1,40 +1,18 @@
 -- Runs of the graph with the calls inlined that end at an error node are runs over functions, and of the program.
-use Rattle.std.specs.Prelude.{ℕ, ℤ, ◌≤◌, ◌≡◌, List, ◌++◌, length, take, Some, slice_get}
+use Rattle.std.specs.Prelude.{ℕ, ℤ, List, length}
 use Rattle.lv_base.specs.declared.fault.ErrorKind.{ErrorKind}
-use Rattle.c_run.specs.Run.{Error}
 use Rattle.c_typed.specs.Facts.{IsTyped}
 use Rattle.c_typed.specs.Parts.{Parts, tree_of}
-use Rattle.c_typed.specs.Tree.{Program}
-use Rattle.c_typed.specs.Run.{run}
-use Rattle.c_graph.specs.declared.graph.NodeId.{NodeId}
 use Rattle.c_graph.specs.declared.graph.EdgeId.{EdgeId}
-use Rattle.c_graph.specs.declared.graph.Node.TheVariants.{Error as AnError}
-use Rattle.c_graph.specs.Shape.{Flow, widths_of}
-use Rattle.c_graph.specs.Steps.{IsWhole}
+use Rattle.c_graph.specs.Shape.{Flow}
 use Rattle.c_graph.specs.Functions.{Flows, AreFlows}
-use Rattle.c_graph.specs.Runs.{RunsAlong}
 use Rattle.slot_laws.specs.Laws.{IsOrder}
 use Rattle.cfg_build.specs.Graphs.{ProgramFollows}
 use Rattle.call_inline.specs.Inlining.{IsInlining}
 use Rattle.function_runs.specs.Runs.{FunctionsFail}
 use Rattle.program_graphs.specs.Standing.{MeetsError}
+use Rattle.program_graphs.specs.Returning.{ErrorsComeBack, FailsAlong}
 use Rattle.code_back_laws.specs.Back.{FailsIn}
-
--- a run along a path from the entry, in any store, that ends at an error node
-pub record FailsAlong (g : Flow) (path : List EdgeId) (draws : List ℤ) (kind : ErrorKind) (at : ℕ) : Type 0 where
-  pub store : List ℕ
-  pub last : NodeId
-  pub after : List ℕ
-  pub whole : IsWhole (widths_of g.cells) store
-  pub runs : RunsAlong g path g.entry store draws last after
-  pub error : slice_get g.nodes last.0 ≡ Some (AnError kind at)
-
--- Each run of the graph to an error is a run of the program to it: with as many turns as the path has edges, or more, and with each list
--- of inputs that begins with the values drawn, the program ends in this error and draws these values.
-abbrev pub ErrorsComeBack : Program → Flow → Type 0
-ErrorsComeBack p g =
-    (path : List EdgeId) (inputs draws more : List ℤ) (turns : ℕ) (kind : ErrorKind) (at : ℕ) → FailsAlong g path draws kind at → length path ≤ turns → inputs ≡ draws ++ more
-    → (taken : ℕ) × (run turns p inputs ≡ Error kind at taken) × (take taken inputs ≡ draws)
 
 -- ---- The laws
 

@@ -1,17 +1,38 @@
-use Rattle.std.proofs.Common.{refl}
-use Rattle.block_follow.specs.Following.{Grows}
-use Rattle.block_follow.proofs.Growing.{weaken}
+use Rattle.std.proofs.Common.{rules, refl, length, slice_index, ◌≡◌, false}
+use Rattle.block_walk.specs.Known.{plan_of}
+use Rattle.block_rule.specs.Plans.{matters}
+use Rattle.block_follow.specs.Following.{AreOver, Grows}
+use Rattle.block_follow.proofs.Growing.{both, weaken}
+use Rattle.block_follow.proofs.Leaving.{blocks-all}
 use Rattle.block_follow.proofs.blocks.follows_rule.Goals as goal
 
-pub returns : goal.returns
-returns c =
-    let more : Grows c.args.old.now c.args.new.now = c.if-not-grows.ensures refl in
+pub returns-clause-blocked : goal.returns-clause-blocked
+returns-clause-blocked c =
+    let g = c.args.old.now in
+    let h = c.args.new.now in
+    let more : Grows g h = c.if-not-grows.ensures refl in
     weaken c.all_follow.result _ _
     (λ b f t. record {
       planned = c.if-not-is_plan.ensures refl;
       nodes = more.nodes;
       cells = more.cells;
       entry = more.entry;
-      blocks = f t;
+      blocks = blocks-all g h (plan_of c.args.known.now) (slice_index c.deref.result.now) (length g.nodes) c.all_follow.ensures.flow refl (f t);
     })
-    c.all_follow.ensures
+    c.all_follow.ensures.follow
+
+pub returns-clause-exact : goal.returns-clause-exact
+returns-clause-exact c =
+    let over : matters (plan_of c.args.known.now) c.args.old.now.entry.0 ≡ false → AreOver c.args.new.now c.args.new.now.entry.0 =
+    c.in_ok-over.ensures (search rules) in
+    weaken c.all_follow.result _ _
+    (λ b is t. record {
+      more = record {
+        blocks = λ v lt cut m. (is.0 t v lt cut m).0;
+        dead = λ k e off there from. over off k e there from;
+      };
+      weight = slice_index c.deref.result.now;
+      enough = λ v lt cut m. (is.0 t v lt cut m).1;
+      few = is.1 t;
+    })
+    (both c.all_follow.result _ _ c.all_follow.ensures.follow c.all_follow.ensures.few)

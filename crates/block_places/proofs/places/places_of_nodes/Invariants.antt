@@ -1,8 +1,10 @@
 use Rattle.std.proofs.Common.{length}
 use Rattle.block_rule.specs.Plans.{ArePlaces}
+use Rattle.block_edges.specs.Exact.{AllLed}
 use Rattle.block_walk.specs.Known.{plan_of}
 use Rattle.block_walk.specs.Walks.{places_of}
 use Rattle.block_places.proofs.places.places_of_nodes.Given as goal
 
 abbrev pub invariant-loop-node : goal.invariant-loop-node
-invariant-loop-node l = ArePlaces l.graph (plan_of l.known) (length l.graph.cells) (places_of l.graph l.places.items)
+invariant-loop-node l =
+    ArePlaces l.graph (plan_of l.known) (length l.graph.cells) (places_of l.graph l.places.items) × AllLed l.graph (places_of l.graph l.places.items)

@@ -9,5 +9,5 @@ returns c =
     let (comes, side, bit) = c.in_ok-opened.ensures in
     weaken c.first_failing.result _ _
     (λ n m. last-found c.args.new.now c.args.bads.now c.args.cursor c.in_ok-opened.opened.next c.in_ok-opened.opened.node c.in_ok-opened.opened.term some
-    comes side bit m)
+    comes side bit c.in_ok-only_these.ensures m)
     c.first_failing.ensures

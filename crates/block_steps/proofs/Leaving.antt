@@ -1,10 +1,12 @@
 -- Each edge that leads from a node is among those that are listed for it.
-use Rattle.std.proofs.Common.{◌≡◌, ◌∙◌, ℕ, ◌+◌, true, List, [], ◌∷◌, Some, zero, suc, ap, arith, subst, slice_get, nat_eq, inl, inr}
+use Rattle.std.proofs.Common.{◌≡◌, ◌∙◌, ℕ, ◌+◌, true, List, [], ◌∷◌, Some, zero, suc, ap, sym, arith, subst, slice_get, nat_eq, ◌⊎◌, inl, inr}
 use Rattle.std.proofs.lemmas.Bool.{cases_Bool, eq-eqb}
 use Rattle.c_graph.specs.declared.graph.NodeId.{NodeId}
 use Rattle.c_graph.specs.declared.graph.EdgeId.{EdgeId}
 use Rattle.c_graph.specs.declared.graph.Edge.{Edge}
+use Rattle.c_graph.specs.declared.graph.Node.TheVariants.{Plain}
 use Rattle.c_graph.specs.Shape.{Flow, outs, outs_from}
+use Rattle.block_steps.specs.Cursors.{AreSides}
 
 abbrev pub edge_id : ℕ → EdgeId
 edge_id n = record { 0 = n }
@@ -36,3 +38,13 @@ pub leaving : (g : Flow) (v : NodeId) (k : ℕ) (e : Edge) → slice_get g.edges
 leaving g v k e s f =
     let z : 0 + k ≡ k = omega arith in
     subst (λ (m : ℕ). Among (outs g v) (edge_id m)) z (leaving_from 0 g.edges v k e s f)
+
+-- where each number that is listed for a plain node is one of two, no other edges lead from there
+pub sides-all : (h : Flow) (w a b : ℕ) (all : List EdgeId) → slice_get h.nodes w ≡ Some Plain → all ≡ outs h (record { 0 = w })
+    → ((j : ℕ) (id : EdgeId) → slice_get all j ≡ Some id → (id.0 ≡ a) ⊎ (id.0 ≡ b)) → AreSides h w a b
+sides-all h w a b all plain is among = record {
+  plain = plain;
+  only = λ k e there from.
+      let (j, at) = leaving h (record { 0 = w }) k e there from in
+      among j (edge_id k) (subst (λ (xs : List EdgeId). slice_get xs j ≡ Some (edge_id k)) (sym is) at);
+}

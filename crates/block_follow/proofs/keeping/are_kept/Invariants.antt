@@ -1,9 +1,0 @@
-use Rattle.std.proofs.Common.{◌≡◌, ◌<◌, ℕ, Some, slice_get}
-use Rattle.c_graph.specs.declared.graph.EdgeId.{EdgeId}
-use Rattle.block_walk.specs.Known.{plan_of}
-use Rattle.block_follow.specs.Following.{IsKept}
-use Rattle.block_follow.proofs.keeping.are_kept.Given as goal
-
-abbrev pub invariant-loop-number : goal.invariant-loop-number
-invariant-loop-number l =
-    (j : ℕ) (id : EdgeId) → j < l.number → slice_get l.outs j ≡ Some id → IsKept l.old l.new (plan_of l.known) l.fn.node id.0
