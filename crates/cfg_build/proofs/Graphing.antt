@@ -1,5 +1,5 @@
 -- Graphs that follow code, in a table that grew.
-use Rattle.std.proofs.Common.{◌≡◌, ◌⊎◌, inl, inr, ℕ, zero, suc, ◌==◌, Bool, true, false, List, [], ◌∷◌, ◌++◌, length, refl, sym, ap, ◌∙◌, subst, arith, ◌<◌, ◌≤◌, Option, None, Some, slice_get, get_or}
+use Rattle.std.proofs.Common.{◌≡◌, ◌⊎◌, inl, inr, ℕ, zero, suc, ◌+◌, ◌-◌, ◌==◌, Bool, true, false, List, [], ◌∷◌, ◌++◌, length, refl, sym, ap, ◌∙◌, subst, arith, ◌<◌, ◌≤◌, Option, None, Some, slice_get, get_or, take, drop, length-append}
 use Rattle.std.specs.Prelude.{IfSome}
 use Rattle.std.proofs.lemmas.Option.{slice_get_read}
 use Rattle.c_typed.specs.declared.tree.Object.{Object}
@@ -29,22 +29,26 @@ use Rattle.code_layout.specs.Lies.{Lies}
 use Rattle.code_layout.proofs.Lying.{layouts_lie}
 use Rattle.cfg_build.specs.declared.placing.Whole.{Whole}
 use Rattle.cfg_build.specs.declared.placing.Places.{Places}
-use Rattle.cfg_build.specs.Steps.{Built, IsEmpty, node_id}
-use Rattle.cfg_build.specs.Follows.{Plan, plan_of, Joined, Exit, PlacesFollow}
+use Rattle.cfg_build.specs.Steps.{Built, IsEmpty, node_id, next_of}
+use Rattle.cfg_build.specs.Sizes.{nodes_of}
+use Rattle.cfg_build.specs.Placed.{CanFollow, CanStand}
+use Rattle.cfg_build.specs.Follows.{Plan, plan_of, Joined, Exit, FirstFollow, PlacesFollow}
 use Rattle.slot_code.specs.Programs.{Code, code_of}
 use Rattle.cfg_build.specs.Ranges.{AreRanges, ProgramRanges}
 use Rattle.cfg_build.specs.Fitting.{AreFit, CallsEnter}
-use Rattle.cfg_build.specs.Graphs.{Opening, IsGraph, GraphFollows, FirstGraphs, ProgramFollows, program_code, program_setting}
+use Rattle.cfg_build.specs.Graphs.{Opening, AreLoops, IsGraph, GraphFollows, FirstGraphs, ProgramFollows, program_code, program_setting}
+use Rattle.cfg_build.proofs.Adding.{next-more}
+use Rattle.cfg_build.proofs.Counting.{first-count}
 use Rattle.cfg_build.proofs.Following.{joined-by, first-later, built-by, built-twice}
 
 -- the graph of a draft that was empty
-pub graph-of : (d e : Draft) (F : ℕ → List Node → List Edge → Type 0) (graph : FnFlow) (loops : List LoopAt) → IsEmpty d → Built d e F
-    → graph ≡ record { nodes = e.nodes.items; edges = e.edges.items; entry = node_id 0; loops = loops } → IsGraph F graph
-graph-of d e F graph loops h k q =
+pub graph-of : (d e : Draft) (F : ℕ → List Node → List Edge → Type 0) (p : Plan) (graph : FnFlow) (loops : List LoopAt) → IsEmpty d → Built d e F → AreLoops p loops
+    → graph ≡ record { nodes = e.nodes.items; edges = e.edges.items; entry = node_id 0; loops = loops } → IsGraph F p graph
+graph-of d e F p graph loops h k l q =
     let ns : k.nodes ≡ e.nodes.items = sym (k.adds.nodes_are ∙ ap (λ (xs : List Node). xs ++ k.nodes) h.0) in
     let es : k.edges ≡ e.edges.items = sym (k.adds.edges_are ∙ ap (λ (xs : List Edge). xs ++ k.edges) h.1) in
-    subst (λ (r : FnFlow). IsGraph F r) (sym q)
-    (refl, subst (λ (xs : List Edge). F 0 e.nodes.items xs) es (subst (λ (xs : List Node). F 0 xs k.edges) ns (subst (λ (n : ℕ). F n k.nodes k.edges) (ap length h.0) k.form)))
+    subst (λ (r : FnFlow). IsGraph F p r) (sym q)
+    (refl, subst (λ (xs : List Edge). F 0 e.nodes.items xs) es (subst (λ (xs : List Node). F 0 xs k.edges) ns (subst (λ (n : ℕ). F n k.nodes k.edges) (ap length h.0) k.form)), l)
 
 -- ---- In a table that grew
 
@@ -56,8 +60,8 @@ opening-later a b s n ns es g h = record { ops = h.ops; does = deeds-later a b h
 
 graph-later : (a b : Words) (o : Bool) (p : Plan) (s : Setting) (graph : FnFlow) → Grows a b → GraphFollows o p s a.terms graph → GraphFollows o p s b.terms graph
 graph-later a b true p s graph g h =
-    (h.0, joined-by _ _ _ _ 0 graph.nodes graph.edges (λ m xs fs z. opening-later a b s m xs fs g z) (λ m xs fs z. places-later a b p s m xs fs g z) h.1)
-graph-later a b false p s graph g h = (h.0, places-later a b p s 0 graph.nodes graph.edges g h.1)
+    (h.0, joined-by _ _ _ _ 0 graph.nodes graph.edges (λ m xs fs z. opening-later a b s m xs fs g z) (λ m xs fs z. places-later a b p s m xs fs g z) h.1, h.2)
+graph-later a b false p s graph g h = (h.0, places-later a b p s 0 graph.nodes graph.edges g h.1, h.2)
 
 graphs-later : (a b : Words) (code : List Instruction) (numbers : List ℕ) (ranges : List Range) (main : ℕ) (s : Setting) (k : ℕ) (gs : List FnFlow) (xs : List NodeId) → Grows a b
     → FirstGraphs code numbers ranges main s a.terms k gs xs → FirstGraphs code numbers ranges main s b.terms k gs xs
@@ -166,6 +170,23 @@ IsFitting t order code = AreFit t.model (tree_of t).objects code.instructions ×
 pub fit-stand : (t : Parts) (order : List ℕ) (code : Code) → code ≡ code_of (tree_of t) order → IsFitting t order code → IsFitting t order (code_of (tree_of t) order)
 fit-stand t order code e h = subst (λ (c : Code). IsFitting t order c) e h
 
+-- graphs that follow the program's code make function graphs that do
+pub program-made : (t : Parts) (order : List ℕ) (code : List Instruction) (numbers : List ℕ) (ranges : List Range) (s : Setting) (gs : List FnFlow) (xs : List NodeId) (cells : List Cell) (T : Table) (main : ℕ)
+    → Tested t order ranges main → FirstGraphs code numbers ranges main s T (length ranges) gs xs → s ≡ program_setting t order → code ≡ program_code t order → cells ≡ s.lay.cells
+    → ProgramFollows t order (record { graphs = gs; cells = cells; terms = T; exits = xs; main = main })
+program-made t order code numbers ranges s gs xs cells T main h k q r f = record {
+  numbers = numbers;
+  ranges = ranges;
+  main = h.number;
+  stand = h.stand;
+  fit = h.fit;
+  enters = h.enters;
+  short = h.short;
+  follow = subst (λ (z : Setting). FirstGraphs (program_code t order) numbers ranges main z T (length ranges) gs xs) q
+      (subst (λ (z : List Instruction). FirstGraphs z numbers ranges main s T (length ranges) gs xs) r k);
+  cells = f ∙ ap (λ (z : Setting). z.lay.cells) q;
+}
+
 pub program-follows : (t : Parts) (order : List ℕ) (p : Flows) (code : List Instruction) (numbers : List ℕ) (ranges : List Range) (s : Setting) (gs hs : List FnFlow) (xs : List NodeId) (cells : List Cell) (T : Table) (main : ℕ)
     → AreFlows p → (p ≡ record { graphs = hs; cells = cells; terms = T; exits = xs; main = main }) ⊎ (p ≡ error_flows)
     → (Tested t order ranges main × (hs ≡ gs)) ⊎ (hs ≡ [])
@@ -176,18 +197,7 @@ program-follows t order p code numbers ranges s gs hs xs cells T main w (inl e) 
 program-follows t order p code numbers ranges s gs hs xs cells T main w (inl e) (inl h) (inl k) q r f = absurd (no-graphs p w (ap (λ (z : Flows). z.graphs) e ∙ h.1 ∙ k))
 program-follows t order p code numbers ranges s gs hs xs cells T main w (inl e) (inl h) (inr k) q r f =
     inl (subst (λ (z : Flows). ProgramFollows t order z) (sym e)
-    (record {
-      numbers = numbers;
-      ranges = ranges;
-      main = h.0.number;
-      stand = h.0.stand;
-      fit = h.0.fit;
-      enters = h.0.enters;
-      short = h.0.short;
-      follow = subst (λ (z : List FnFlow). FirstGraphs (program_code t order) numbers ranges main (program_setting t order) T (length ranges) z xs) (sym h.1)
-          (subst (λ (z : Setting). FirstGraphs (program_code t order) numbers ranges main z T (length ranges) gs xs) q (subst (λ (z : List Instruction). FirstGraphs z numbers ranges main s T (length ranges) gs xs) r k));
-      cells = f ∙ ap (λ (z : Setting). z.lay.cells) q;
-    }))
+    (program-made t order code numbers ranges s hs xs cells T main h.0 (subst (λ (z : List FnFlow). FirstGraphs code numbers ranges main s T (length ranges) z xs) (sym h.1) k) q r f))
 
 -- what is laid out for objects and code is what is laid out for a program with these objects and this code
 pub setting-is :
@@ -214,3 +224,38 @@ stands-by objects model lay code slots words el ew = record {
 pub either-follows : (gs : List FnFlow) (A B : Type 0) → (gs ≡ []) ⊎ (A × B) → (gs ≡ []) ⊎ B
 either-follows gs A B (inl none) = inl none
 either-follows gs A B (inr both) = inr both.1
+
+-- ---- How many
+
+pub graphs-count : (code : List Instruction) (numbers : List ℕ) (ranges : List Range) (main : ℕ) (s : Setting) (T : Table) (k : ℕ) (gs : List FnFlow) (xs : List NodeId)
+    → FirstGraphs code numbers ranges main s T k gs xs → length gs ≡ k
+graphs-count code numbers ranges main s T zero gs xs h = ap length h.0
+graphs-count code numbers ranges main s T (suc k) gs xs h =
+    let n : length h.graphs_before ≡ k = graphs-count code numbers ranges main s T k h.graphs_before h.exits_before h.before in
+    let m : length gs ≡ length h.graphs_before + 1 = ap length h.graphs_are ∙ length-append h.graphs_before (h.graph ∷ []) in
+    omega (arith, n, m)
+
+-- the number of the next node behind places, and behind the opening
+pub next-follows : (a b : Draft) (p : Plan) (s : Setting) (T : Table) (k : ℕ) → Built a b (FirstFollow p s T k) → next_of b ≡ next_of a + nodes_of (take k (drop p.range.entry p.code))
+next-follows a b p s T k h = next-more a b h.nodes h.edges h.adds ∙ ap (λ m. next_of a + m) (first-count p s T k (next_of a) h.nodes h.edges h.form)
+
+pub next-opens : (a b : Draft) (s : Setting) (T : Table) → IsEmpty a → Built a b (Opening s T) → next_of b ≡ 1
+next-opens a b s T e h =
+    let none : next_of a ≡ 0 = ap length e.0 in
+    let one : length h.nodes ≡ 1 = ap length h.form.nodes_are in
+    let more : next_of b ≡ next_of a + length h.nodes = next-more a b h.nodes h.edges h.adds in
+    omega (arith, none, one, more)
+
+pub next-none : (a : Draft) → IsEmpty a → next_of a ≡ 0
+next-none a e = ap length e.0
+
+-- what an instruction at a place of a function needs
+pub can-stand : (p : Places) (lay : Lay) (n k place m : ℕ) → CanFollow p lay n → k < p.range.end - p.range.entry → place ≡ p.range.entry + k → m ≡ n + nodes_of (take k (drop p.range.entry p.whole.code.now))
+    → (x : Instruction) × CanStand p lay place m x
+can-stand p lay n k place m h lt e f =
+    let x = h.each k lt in
+    (x.0, subst (λ (j : ℕ). CanStand p lay j m x.0) (sym e) (subst (λ (j : ℕ). CanStand p lay (p.range.entry + k) j x.0) (sym f) x.1))
+
+pub exit-stands : (p : Places) (lay : Lay) (n k m : ℕ) → CanFollow p lay n → k ≡ p.range.end - p.range.entry → m ≡ n + nodes_of (take k (drop p.range.entry p.whole.code.now)) → p.exit ≡ node_id m
+exit-stands p lay n k m h e f =
+    h.last ∙ ap (λ (j : ℕ). node_id (n + nodes_of (take j (drop p.range.entry p.whole.code.now)))) (sym e) ∙ ap node_id (sym f)

@@ -1,5 +1,5 @@
 -- The graphs of a program's functions that follow its flat code.
-use Rattle.std.specs.Prelude.{ℕ, zero, suc, ◌+◌, ◌==◌, ◌≡◌, ◌<◌, Bool, true, false, List, [], ◌∷◌, ◌++◌, length, Option, None, Some, ℤ, pos, slice_get}
+use Rattle.std.specs.Prelude.{ℕ, zero, suc, ◌+◌, ◌==◌, ◌≡◌, ◌<◌, Bool, true, false, List, [], ◌∷◌, ◌++◌, length, Option, None, Some, ℤ, pos, slice_get, All}
 use Rattle.lv_base.specs.Integers.{residue, width_of}
 use Rattle.bv_term.specs.WellFormed.{Table}
 use Rattle.c_typed.specs.declared.tree.Object.{Object}
@@ -10,6 +10,7 @@ use Rattle.c_graph.specs.declared.graph.Node.{Node}
 use Rattle.c_graph.specs.declared.graph.Node.TheVariants.{Plain}
 use Rattle.c_graph.specs.declared.graph.Operation.{Operation}
 use Rattle.c_graph.specs.declared.graph.Edge.{Edge}
+use Rattle.c_graph.specs.declared.graph.LoopAt.{LoopAt}
 use Rattle.c_graph.specs.Functions.{FnFlow, Flows}
 use Rattle.slot_code.specs.declared.flat.Instruction.{Instruction}
 use Rattle.slot_code.specs.Programs.{code_of}
@@ -21,7 +22,7 @@ use Rattle.code_moves.specs.Setting.{Setting}
 use Rattle.code_moves.specs.Deeds.{Deed, Sets, AreDeeds}
 use Rattle.cfg_build.specs.declared.placing.Range.{Range}
 use Rattle.cfg_build.specs.Steps.{node_id, edge}
-use Rattle.cfg_build.specs.Follows.{Plan, Joined, PlacesFollow}
+use Rattle.cfg_build.specs.Follows.{Plan, node_of, Joined, PlacesFollow}
 use Rattle.cfg_build.specs.Ranges.{ProgramRanges}
 use Rattle.cfg_build.specs.Fitting.{AreFit, CallsEnter}
 
@@ -63,14 +64,18 @@ pub record Opening (g : Setting) (table : Table) (n : ℕ) (nodes : List Node) (
 
 -- ---- The graph of a function
 
--- nodes and edges of a form from number 0 on
-abbrev pub IsGraph : (ℕ → List Node → List Edge → Type 0) → FnFlow → Type 0
-IsGraph Form graph = (graph.entry ≡ node_id 0) × Form 0 graph.nodes graph.edges
+-- each loop's node is that of some place
+abbrev pub AreLoops : Plan → List LoopAt → Type 0
+AreLoops p loops = All (λ l. (place : ℕ) × (l.node ≡ node_of p place)) loops
+
+-- nodes and edges of a form from number 0 on, and loops
+abbrev pub IsGraph : (ℕ → List Node → List Edge → Type 0) → Plan → FnFlow → Type 0
+IsGraph Form p graph = (graph.entry ≡ node_id 0) × Form 0 graph.nodes graph.edges × AreLoops p graph.loops
 
 -- in the graph of `main` the opening stands first
 abbrev pub GraphFollows : Bool → Plan → Setting → Table → FnFlow → Type 0
-GraphFollows true p g table graph = IsGraph (Joined (Opening g table) (PlacesFollow p g table)) graph
-GraphFollows false p g table graph = IsGraph (PlacesFollow p g table) graph
+GraphFollows true p g table graph = IsGraph (Joined (Opening g table) (PlacesFollow p g table)) p graph
+GraphFollows false p g table graph = IsGraph (PlacesFollow p g table) p graph
 
 -- ---- The graphs of a program's functions
 

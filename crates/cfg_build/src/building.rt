@@ -1,20 +1,24 @@
 //! The graphs of functions, place by place.
 
-ghost use Rattle.std.specs.Prelude.{◌≡◌, ◌==◌, ◌⊎◌, [], length, true, false, slice_get, IfErr, IfOk, IfSome, IsTrue};
+ghost use Rattle.std.specs.Prelude.{◌≡◌, ◌==◌, ◌⊎◌, [], length, true, false, slice_get, IfErr, IfOk, IfSome, IsSome, IsTrue};
 ghost use Rattle.c_graph.specs.Parts.{error_flows};
 ghost use Rattle.c_terms.specs.Shown.{Grows};
 ghost use Rattle.code_moves.specs.Setting.{setting_of, Stands};
 ghost use Rattle.cfg_build.specs.Follows.{plan_of};
 ghost use Rattle.cfg_build.specs.Graphs as of;
+ghost use Rattle.cfg_build.specs.Numbers.{first_number};
+ghost use Rattle.cfg_build.specs.Passing.{IsPassing, FollowingMakesFlows};
+ghost use Rattle.cfg_build.specs.Placed.{AllCanFollow, CanFollow, places_in};
 ghost use Rattle.cfg_build.specs.Sizes.{IsWithin, TooMuch};
 
 use crate::draft::Draft;
 use crate::fitting::is_fitting;
 use crate::looping::loops_in;
+use crate::numbering::{exit_of, first_of, numbers_of, owners_of};
 use crate::opening::add_opening;
 use crate::placing::{Places, Range, Whole, add_places, node_of};
-use crate::ranging::{entries_of, is_placed, main_of, ranges_of};
-use crate::sizes::{few_nodes, nodes_at};
+use crate::ranging::{is_placed, main_of, ranges_of};
+use crate::sizes::few_nodes;
 use bv_term::Terms;
 use c_graph::{FnGraph, FnGraphs, LoopAt, NodeId, function_graphs_from};
 use c_rules::Examined;
@@ -33,6 +37,7 @@ use std::alloc::Global;
 /// nodes of all graphs, where these are more than 65,536; else with `Memory`. It takes time in proportion to the code.
 pub fn build(alloc: Global, examined: &Examined) -> Result<FnGraphs, SourceFail>
     ensures made { IfOk result (λ p. of.ProgramFollows examined.now.typed examined.now.order p ⊎ (p ≡ error_flows)) }
+    ensures whole { FollowingMakesFlows → IsPassing examined.now.typed examined.now.order → IfOk result (λ p. of.ProgramFollows examined.now.typed examined.now.order p) }
     ensures within { IfOk result (λ p. IsWithin examined.now.typed examined.now.order) }
     ensures limits { IfErr result (TooMuch examined.now.typed examined.now.order) }
 {
@@ -44,14 +49,14 @@ pub fn build(alloc: Global, examined: &Examined) -> Result<FnGraphs, SourceFail>
     few_nodes(&code.instructions, typed.functions().len())?;
     let ranges = ranges_of(alloc, typed, &code, slots)?;
     let main = main_of(typed);
-    let numbers = numbers_of(alloc, &code.instructions, &ranges, main)?;
-    let entries = entries_of(alloc, &code)?;
+    let numbers = numbers_of(alloc, &code, main)?;
+    let owners = owners_of(alloc, &code)?;
     let widths = widths_of(alloc, layout.cells())?;
     let mut words = Words::new(Terms::new(alloc, widths));
     let whole = Whole {
         code: &code.instructions,
         numbers: &numbers,
-        entries: &entries,
+        owners: &owners,
         ranges: &ranges,
     };
     let ground = Ground {
@@ -60,51 +65,20 @@ pub fn build(alloc: Global, examined: &Examined) -> Result<FnGraphs, SourceFail>
         layout: &layout,
     };
     let Graphs { graphs, exits } = graphs_of(alloc, typed, &whole, main, &ground, &mut words)?;
-    let graphs = where_sound(alloc, words.is_sound(), graphs);
-    let graphs = where_sound(alloc, is_placed(typed, &code, slots, &ranges, main), graphs);
+    let graphs = graphs_where(alloc, is_placed(typed, &code, slots, &ranges, main), graphs);
     let passed = is_fitting(alloc, objects, &code)?;
-    let graphs = where_sound(alloc, passed, graphs);
+    let graphs = graphs_where(alloc, passed, graphs);
     let cells = layout.into_cells();
     let terms = words.into_terms();
     Ok(function_graphs_from(alloc, graphs, cells, terms, exits, main)?)
 }
 
-// Graphs over terms that are not well formed, of places that are not those of the code, or of code that is not fit count for nothing: without a graph the parts
-// make none.
-fn where_sound(alloc: Global, is_sound: bool, graphs: Vec<FnGraph>) -> Vec<FnGraph>
-    ensures { (IsTrue is_sound × (result.items ≡ graphs.items)) ⊎ (result.items ≡ []) }
+// Graphs of places that are not those of the code, or of code that is not fit count for nothing: without a graph the parts make none.
+fn graphs_where(alloc: Global, passed: bool, graphs: Vec<FnGraph>) -> Vec<FnGraph>
+    ensures made { (IsTrue passed × (result.items ≡ graphs.items)) ⊎ (result.items ≡ []) }
+    ensures whole { IsTrue passed → result.items ≡ graphs.items }
 {
-    if is_sound { graphs } else { Vec::new(alloc) }
-}
-
-// The number of each place's node in its function's graph; of `main` number 0 is the node at which it begins.
-fn numbers_of(
-    alloc: Global,
-    code: &[Instruction],
-    ranges: &[Range],
-    main: u32,
-) -> Result<Vec<u32>, Memory> {
-    let mut numbers = vec![in alloc; 0u32; code.len()]?;
-    for range in ranges {
-        number_all(
-            code,
-            *range,
-            u32::from(range.function == main),
-            &mut numbers,
-        );
-    }
-    Ok(numbers)
-}
-
-// The numbers of the places of one function, from one on.
-fn number_all(code: &[Instruction], range: Range, first: u32, numbers: &mut Vec<u32>) {
-    let mut number = first;
-    for place in range.entry..range.end {
-        if place < numbers.len() && place < code.len() {
-            numbers[place] = number;
-            number = number.saturating_add(nodes_at(code[place]));
-        }
-    }
+    if passed { graphs } else { Vec::new(alloc) }
 }
 
 // The graphs of functions, and the node at which each returns.
@@ -125,7 +99,7 @@ impl Graphs {
     }
 }
 
-// The graph of each function. There is none where nodes have other numbers than their places: in the code of a program they have not.
+// The graph of each function. There is none where some place doesn't get its node.
 fn graphs_of(
     alloc: Global,
     typed: &Typed,
@@ -134,15 +108,17 @@ fn graphs_of(
     ground: &Ground<'_>,
     words: &mut Words,
 ) -> Result<Graphs, Memory>
-    ensures { Stands (setting_of ground.now) words.old → IfOk result (λ r. (r.graphs.items ≡ []) ⊎ (Grows words.old words.new
+    ensures made { Stands (setting_of ground.now) words.old → IfOk result (λ r. (r.graphs.items ≡ []) ⊎ (Grows words.old words.new
         × of.FirstGraphs whole.now.code.now whole.now.numbers.now whole.now.ranges.now main (setting_of ground.now) words.new.terms (length whole.now.ranges.now) r.graphs.items r.exits.items)) }
+    ensures whole { Stands (setting_of ground.now) words.old → AllCanFollow whole.now ground.now.layout.now main
+        → IfOk result (λ r. length r.graphs.items ≡ length whole.now.ranges.now) }
 {
     let mut all = Graphs::new(alloc);
     for number in 0..whole.ranges.len() {
         let Some(range) = range_at(whole.ranges, number) else {
             return Ok(Graphs::new(alloc));
         };
-        let places = places_of(whole, range, NodeId(u32::from(range.function == main)));
+        let places = places_of(whole, range, main)?;
         let Some(graph) = graph_of(alloc, typed, &places, main, ground, words)? else {
             return Ok(Graphs::new(alloc));
         };
@@ -166,8 +142,9 @@ fn graph_of(
     ground: &Ground<'_>,
     words: &mut Words,
 ) -> Result<Option<FnGraph>, Memory>
-    ensures { Stands (setting_of ground.now) words.old → IfOk result (λ o. IfSome o (λ r. Grows words.old words.new
+    ensures made { Stands (setting_of ground.now) words.old → IfOk result (λ o. IfSome o (λ r. Grows words.old words.new
         × of.GraphFollows (places.now.range.function == main) (plan_of places.now) (setting_of ground.now) words.new.terms r)) }
+    ensures whole { Stands (setting_of ground.now) words.old → CanFollow places.now ground.now.layout.now (first_number main places.now.range.function) → IfOk result (λ o. IsSome o) }
 {
     if places.range.function == main {
         main_graph(alloc, typed, places, main, ground, words)
@@ -183,8 +160,9 @@ fn own_graph(
     ground: &Ground<'_>,
     words: &mut Words,
 ) -> Result<Option<FnGraph>, Memory>
-    ensures { Stands (setting_of ground.now) words.old → IfOk result (λ o. IfSome o (λ r. Grows words.old words.new
+    ensures made { Stands (setting_of ground.now) words.old → IfOk result (λ o. IfSome o (λ r. Grows words.old words.new
         × of.GraphFollows false (plan_of places.now) (setting_of ground.now) words.new.terms r)) }
+    ensures whole { Stands (setting_of ground.now) words.old → CanFollow places.now ground.now.layout.now 0 → IfOk result (λ o. IsSome o) }
 {
     let mut draft = Draft::new(alloc);
     if !add_places(alloc, places, ground, words, &mut draft)? {
@@ -201,8 +179,9 @@ fn main_graph(
     ground: &Ground<'_>,
     words: &mut Words,
 ) -> Result<Option<FnGraph>, Memory>
-    ensures { Stands (setting_of ground.now) words.old → IfOk result (λ o. IfSome o (λ r. Grows words.old words.new
+    ensures made { Stands (setting_of ground.now) words.old → IfOk result (λ o. IfSome o (λ r. Grows words.old words.new
         × of.GraphFollows true (plan_of places.now) (setting_of ground.now) words.new.terms r)) }
+    ensures whole { Stands (setting_of ground.now) words.old → CanFollow places.now ground.now.layout.now 1 → IfOk result (λ o. IsSome o) }
 {
     let mut draft = Draft::new(alloc);
     add_opening(alloc, ground, words, &mut draft)?;
@@ -223,43 +202,42 @@ fn main_loops(alloc: Global, typed: &Typed, main: u32) -> Result<Vec<u32>, Memor
     Ok(found)
 }
 
-// The places of a function, the first of which has this node.
-fn places_of<'a>(whole: &Whole<'a>, range: Range, first: NodeId) -> Places<'a>
-    ensures whole { result.whole ≡ whole.now }
-    ensures range { result.range ≡ range }
+// The places of a function, with the node behind them.
+fn places_of<'a>(whole: &Whole<'a>, range: Range, main: u32) -> Result<Places<'a>, Memory>
+    ensures { IfOk result (λ p. p ≡ places_in whole.now main range) }
 {
-    Places {
+    let first = first_of(main, range.function);
+    let exit = exit_of(whole.code, first, range.entry, range.end)?;
+    Ok(Places {
         whole: *whole,
         range,
-        exit: exit_of(whole, range, first),
-    }
+        exit,
+    })
 }
 
-// The node behind those of a function's places, the first of which is this one.
-fn exit_of(whole: &Whole<'_>, range: Range, first: NodeId) -> NodeId {
-    let mut exit = first.0;
-    for place in range.entry..range.end {
-        if place < whole.code.len() {
-            exit = exit.saturating_add(nodes_at(whole.code[place]));
-        }
+// The place to which the turn at a place goes, if there is one, and it is of the loop at this offset.
+fn turn_at(places: &Places<'_>, place: usize, offset: u32) -> Option<usize> {
+    match places.whole.code.get(place).copied() {
+        Some(Instruction::Turn(at, goal)) => { if at == offset { Some(goal) } else { None } }
+        _ => None,
     }
-    NodeId(exit)
 }
 
 // The node at which each visit of each loop stands: the one to which the turns of its keyword go.
-fn loops_at(alloc: Global, places: &Places<'_>, loops: &[u32]) -> Result<Vec<LoopAt>, Memory> {
+fn loops_at(alloc: Global, places: &Places<'_>, loops: &[u32]) -> Result<Vec<LoopAt>, Memory>
+    ensures { IfOk result (λ r. of.AreLoops (plan_of places.now) r.items) }
+{
     let mut found = Vec::new(alloc);
     let mut number = 0;
     for place in places.range.entry..places.range.end {
         if number >= loops.len() {
             return Ok(found);
         }
-        if let Some(Instruction::Turn(at, goal)) = places.whole.code.get(place).copied() {
-            if at == loops[number] {
-                let node = node_of(places, goal);
-                found.push(LoopAt { at, node })?;
-                number += 1;
-            }
+        let at = loops[number];
+        if let Some(goal) = turn_at(places, place, at) {
+            let node = node_of(places, goal);
+            found.push(LoopAt { at, node })?;
+            number += 1;
         }
     }
     Ok(found)

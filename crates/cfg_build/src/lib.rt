@@ -19,12 +19,12 @@
 //! go: there the store of each visit stands.
 //!
 //! **Contracts.** `specs/Steps` and `specs/Follows` say what stands for each instruction at its place, by the meaning of terms in every
-//! store, and `specs/Graphs` what the graph of each function is; numbers of nodes and the functions that are called are guessed, and
-//! tested where they are used. `specs/Ranges` says where the code of each function stands, and `specs/Fitting` that constants, kinds
-//! and numbers of elements fit their objects and that each call goes to the entry of a function; both are tested too. So the graphs of
-//! all functions follow the code, each from its function's entry on, and `main`'s is that of the program's `main`; or there are none. Not
-//! said are the nodes of its loops, nor that `build` answers these graphs. `specs/Sizes` says how many cells and nodes are too many: a
-//! limit is told only of a program that passes it.
+//! store, and `specs/Graphs` what the graph of each function is. `specs/Ranges` says where the code of each function stands, and
+//! `specs/Fitting` that constants, kinds and numbers of elements fit their objects and that each call goes to the entry of a function;
+//! both are tested. So the graphs of all functions follow the code, each from its function's entry on, and `main`'s is that of the
+//! program's `main`; or there are none. `specs/Passing` says of which code graphs are made: there the tests pass and each place has its
+//! number; that the parts make graphs then is a law of function_graph_laws. Not said is which loops of `main` the graph lists.
+//! `specs/Sizes` says how many cells and nodes are too many: a limit is told only of a program that passes it.
 #![tactic(auto)]
 
 mod building;
@@ -32,6 +32,7 @@ mod draft;
 mod fitting;
 mod keeping;
 mod looping;
+mod numbering;
 mod opening;
 mod placing;
 mod ranging;

@@ -1,10 +1,11 @@
 //! The node at which `main` begins.
 
-ghost use Rattle.std.specs.Prelude.{◌≡◌, ◌+◌, ◌++◌, List, IfOk, Some, slice_get, length};
+ghost use Rattle.std.specs.Prelude.{◌≡◌, ◌+◌, ◌++◌, List, IfOk, Some, slice_get, slice_index, length};
+ghost use Rattle.bv_term.specs.WellFormed.{IsArray};
 ghost use Rattle.lv_base.specs.Integers.{width_of};
 ghost use Rattle.c_terms.specs.Shown.{Grows};
 ghost use Rattle.code_layout.specs.Layout as lay;
-ghost use Rattle.code_moves.specs.Setting.{setting_of};
+ghost use Rattle.code_moves.specs.Setting.{setting_of, Stands};
 ghost use Rattle.code_moves.specs.Deeds.{Deed, AreDeeds, Does};
 ghost use Rattle.cfg_build.specs.Steps.{Built};
 ghost use Rattle.cfg_build.specs.Graphs as of;
@@ -25,7 +26,7 @@ pub(crate) fn add_opening(
     words: &mut Words,
     draft: &mut Draft,
 ) -> Result<(), Memory>
-    ensures { IfOk result (λ u. Grows words.old words.new × Built draft.old draft.new (of.Opening (setting_of ground.now) words.new.terms)) }
+    ensures { Stands (setting_of ground.now) words.old → IfOk result (λ u. Grows words.old words.new × Built draft.old draft.new (of.Opening (setting_of ground.now) words.new.terms)) }
 {
     let from = draft.node(Node::Plain)?;
     let ops = opening(alloc, ground, words)?;
@@ -36,7 +37,7 @@ pub(crate) fn add_opening(
 
 // Operations that give each element its first value.
 fn opening(alloc: Global, ground: &Ground<'_>, words: &mut Words) -> Result<Vec<Operation>, Memory>
-    ensures { IfOk result (λ r. Does words.old words.new r.items (of.opens (setting_of ground.now) (length ground.now.objects.now))) }
+    ensures { Stands (setting_of ground.now) words.old → IfOk result (λ r. Does words.old words.new r.items (of.opens (setting_of ground.now) (length ground.now.objects.now))) }
 {
     let mut ops = Vec::new(alloc);
     for number in 0..ground.objects.len() {
@@ -51,7 +52,7 @@ fn open_object(
     words: &mut Words,
     ops: &mut Vec<Operation>,
 ) -> Result<(), Memory>
-    ensures { (deeds : List Deed) → AreDeeds words.old.terms ops.old.items deeds
+    ensures { (deeds : List Deed) → Stands (setting_of ground.now) words.old → AreDeeds words.old.terms ops.old.items deeds
         → IfOk result (λ u. Does words.old words.new ops.new.items (deeds ++ of.object_opens (setting_of ground.now) (slice_get ground.now.layout.now.firsts number) (slice_get ground.now.objects.now number))) }
 {
     let Ok(index) = u32::try_from(number) else {
@@ -71,7 +72,7 @@ fn open_at(
     words: &mut Words,
     ops: &mut Vec<Operation>,
 ) -> Result<(), Memory>
-    ensures { (deeds : List Deed) → AreDeeds words.old.terms ops.old.items deeds
+    ensures { (deeds : List Deed) → Stands (setting_of ground.now) words.old → slice_get ground.now.layout.now.firsts number ≡ Some first → AreDeeds words.old.terms ops.old.items deeds
         → IfOk result (λ u. Does words.old words.new ops.new.items (deeds ++ of.object_opens (setting_of ground.now) (Some first) (slice_get ground.now.objects.now number))) }
 {
     match ground.objects.get(number) {
@@ -88,7 +89,8 @@ fn open_elements(
     words: &mut Words,
     ops: &mut Vec<Operation>,
 ) -> Result<(), Memory>
-    ensures { (deeds : List Deed) → AreDeeds words.old.terms ops.old.items deeds
+    ensures { (deeds : List Deed) → IsArray words.old.terms.cells first (lay.elements_of object.now) → slice_index words.old.terms.cells first ≡ width_of object.now.kind model
+        → AreDeeds words.old.terms ops.old.items deeds
         → IfOk result (λ u. Does words.old words.new ops.new.items (deeds ++ of.first_sets first (width_of object.now.kind model) object.now (lay.elements_of object.now))) }
 {
     let bits = width(object.kind, model);

@@ -1,9 +1,11 @@
 //! The nodes and edges of a function's places.
 
-ghost use Rattle.std.specs.Prelude.{◌≡◌, IfOk, IfSome, IsTrue, Some, slice_get};
+ghost use Rattle.std.specs.Prelude.{◌≡◌, ◌↔◌, ℕ, IfOk, IfSome, IsTrue, Some, slice_get};
 ghost use Rattle.c_terms.specs.Shown.{Grows};
 ghost use Rattle.code_moves.specs.Setting.{setting_of, Stands};
-ghost use Rattle.cfg_build.specs.Steps.{Built};
+ghost use Rattle.slot_code.specs.declared.flat.Instruction.{Instruction};
+ghost use Rattle.cfg_build.specs.Steps.{Built, next_of, node_id};
+ghost use Rattle.cfg_build.specs.Placed.{CanCall, CanFollow, CanStand, IsCalled};
 ghost use Rattle.cfg_build.specs.Follows as of;
 ghost use Rattle.cfg_build.specs.Follows.{plan_of, Begins, LiesBelow, Exit, Follows, PlacesFollow, StandsAt};
 
@@ -35,8 +37,8 @@ pub(crate) struct Whole<'a> {
     pub(crate) code: &'a [Instruction],
     /// The number of each place's node in the graph of its function.
     pub(crate) numbers: &'a [u32],
-    /// The function that begins at a place.
-    pub(crate) entries: &'a [Option<u32>],
+    /// The function whose code has a place.
+    pub(crate) owners: &'a [u32],
     pub(crate) ranges: &'a [Range],
 }
 
@@ -64,19 +66,19 @@ pub(crate) fn node_of(places: &Places<'_>, place: usize) -> NodeId
     }
 }
 
-// The function that seems to begin at a place.
-fn entry_at(places: &Places<'_>, place: usize) -> Option<u32> {
-    match places.whole.entries.get(place) {
-        None => None,
-        Some(entry) => *entry,
-    }
+// The function whose code has a place.
+fn owner_of(places: &Places<'_>, place: usize) -> Option<u32>
+    ensures { result ≡ slice_get places.now.whole.owners.now place }
+{
+    places.whole.owners.get(place).copied()
 }
 
 // The function that begins at a place and returns by a slot, if its code and slots lie below those of the function that is looked at.
 fn called(places: &Places<'_>, place: usize, slot: usize) -> Option<u32>
-    ensures { IfSome result (λ f. Begins places.now.whole.ranges.now places.now.range f place slot) }
+    ensures begins { IfSome result (λ f. Begins places.now.whole.ranges.now places.now.range f place slot) }
+    ensures whole { (f : ℕ) → Begins places.now.whole.ranges.now places.now.range f place slot → slice_get places.now.whole.owners.now place ≡ Some f → result ≡ Some f }
 {
-    let Some(function) = entry_at(places, place) else {
+    let Some(function) = owner_of(places, place) else {
         return None;
     };
     let Some(range) = places.whole.ranges.get(function as usize) else {
@@ -90,14 +92,14 @@ fn called(places: &Places<'_>, place: usize, slot: usize) -> Option<u32>
 }
 
 fn is_called(range: &Range, caller: &Range, place: usize, slot: usize) -> bool
-    ensures { IsTrue result → (range.now.entry ≡ place) × (range.now.slot ≡ slot) × LiesBelow range.now caller.now }
+    ensures { IsTrue result ↔ ((range.now.entry ≡ place) × (range.now.slot ≡ slot) × LiesBelow range.now caller.now) }
 {
     let is_there = range.entry == place && range.slot == slot;
     is_there && lies_below(range, caller)
 }
 
 fn lies_below(range: &Range, other: &Range) -> bool
-    ensures { IsTrue result → LiesBelow range.now other.now }
+    ensures { IsTrue result ↔ LiesBelow range.now other.now }
 {
     let is_code = range.entry < range.end && range.end <= other.entry;
     is_code && range.slot < range.bound && range.bound <= other.slot
@@ -112,7 +114,8 @@ fn add_call(
     ground: &Ground<'_>,
     draft: &mut Draft,
 ) -> Result<bool, Memory>
-    ensures { IfOk result (λ b. IsTrue b → Built draft.old draft.new (of.Calls (plan_of places.now) (setting_of ground.now) goal slot next)) }
+    ensures built { IfOk result (λ b. IsTrue b → Built draft.old draft.new (of.Calls (plan_of places.now) (setting_of ground.now) goal slot next)) }
+    ensures whole { IsCalled places.now.whole ground.now.layout.now places.now.range goal slot → IfOk result (λ b. IsTrue b) }
 {
     let Some(function) = called(places, goal, slot) else {
         return Ok(false);
@@ -126,7 +129,8 @@ fn add_call(
 
 // The node of a place at which a run ends.
 fn add_last(node: Node, draft: &mut Draft) -> Result<bool, Memory>
-    ensures { IfOk result (λ b. Built draft.old draft.new (of.Last node)) }
+    ensures built { IfOk result (λ b. Built draft.old draft.new (of.Last node)) }
+    ensures whole { IfOk result (λ b. IsTrue b) }
 {
     draft.node(node)?;
     Ok(true)
@@ -142,8 +146,9 @@ fn add_place(
     words: &mut Words,
     draft: &mut Draft,
 ) -> Result<bool, Memory>
-    ensures { Stands (setting_of ground.now) words.old
+    ensures built { Stands (setting_of ground.now) words.old
         → IfOk result (λ b. IsTrue b → Grows words.old words.new × Built draft.old draft.new (Follows (plan_of places.now) (setting_of ground.now) words.new.terms place instruction)) }
+    ensures whole { CanCall places.now.whole ground.now.layout.now places.now.range instruction → IfOk result (λ b. IsTrue b) }
 {
     let following = behind(place, 1)?;
     let next = node_of(places, following);
@@ -181,7 +186,7 @@ fn add_place(
 }
 
 fn is_number_of(places: &Places<'_>, place: usize, node: NodeId) -> bool
-    ensures { IsTrue result → slice_get places.now.whole.numbers.now place ≡ Some node.0 }
+    ensures { IsTrue result ↔ (slice_get places.now.whole.numbers.now place ≡ Some node.0) }
 {
     match places.whole.numbers.get(place) {
         None => false,
@@ -198,8 +203,9 @@ fn add_next(
     words: &mut Words,
     draft: &mut Draft,
 ) -> Result<bool, Memory>
-    ensures { Stands (setting_of ground.now) words.old
+    ensures built { Stands (setting_of ground.now) words.old
         → IfOk result (λ b. IsTrue b → Grows words.old words.new × Built draft.old draft.new (StandsAt (plan_of places.now) (setting_of ground.now) words.new.terms place)) }
+    ensures whole { (x : Instruction) → CanStand places.now ground.now.layout.now place (next_of draft.old) x → IfOk result (λ b. IsTrue b) }
 {
     let Some(instruction) = places.whole.code.get(place).copied() else {
         return Ok(false);
@@ -216,7 +222,8 @@ fn add_next(
 
 // The exit, which has its number. It answers false where it has not.
 fn add_exit(places: &Places<'_>, draft: &mut Draft) -> Result<bool, Memory>
-    ensures { IfOk result (λ b. IsTrue b → Built draft.old draft.new (Exit (plan_of places.now))) }
+    ensures built { IfOk result (λ b. IsTrue b → Built draft.old draft.new (Exit (plan_of places.now))) }
+    ensures whole { places.now.exit ≡ node_id (next_of draft.old) → IfOk result (λ b. IsTrue b) }
 {
     let number = draft.next()?;
     if number.0 != places.exit.0 {
@@ -236,8 +243,9 @@ pub(crate) fn add_places(
     words: &mut Words,
     draft: &mut Draft,
 ) -> Result<bool, Memory>
-    ensures { Stands (setting_of ground.now) words.old
+    ensures built { Stands (setting_of ground.now) words.old
         → IfOk result (λ b. IsTrue b → Grows words.old words.new × Built draft.old draft.new (PlacesFollow (plan_of places.now) (setting_of ground.now) words.new.terms)) }
+    ensures whole { Stands (setting_of ground.now) words.old → CanFollow places.now ground.now.layout.now (next_of draft.old) → IfOk result (λ b. IsTrue b) }
 {
     let count = places.range.end.saturating_sub(places.range.entry);
     for number in 0..count {

@@ -1,9 +1,10 @@
 -- Where everything lies, in a table that grew.
-use Rattle.std.proofs.Common.{◌≡◌, ℕ, ◌+◌, Bool, true, false, nat_lt, List, [], refl, sym, ap, ◌∙◌, subst, arith, Option, Some, None, Result, Ok, Err, slice_get, slice_index, if◌then◌else◌}
+use Rattle.std.proofs.Common.{◌≡◌, ℕ, ◌+◌, ◌<◌, Bool, true, false, nat_lt, List, [], refl, sym, ap, ◌∙◌, subst, arith, Option, Some, None, Result, Ok, Err, slice_get, slice_index, if◌then◌else◌}
 use Rattle.std.specs.Prelude.{IfOk}
 use Rattle.lv_base.specs.declared.fail.Memory.{Memory}
 use Rattle.lv_base.specs.declared.kind.Kind.{Kind}
 use Rattle.lv_base.specs.declared.kind.Model.{Model}
+use Rattle.lv_base.specs.Integers.{width_of}
 use Rattle.bv_term.specs.declared.term.TermId.{TermId}
 use Rattle.bv_term.specs.declared.term.Term.TheVariants.{Element}
 use Rattle.bv_term.specs.WellFormed.{Table, IsArray}
@@ -58,6 +59,17 @@ room-stands g w object r h e =
     let k : Found (slice_get g.objects object) (slice_get g.lay.firsts object) r = found (slice_get g.objects object) (slice_get g.lay.firsts object) r (sym e) in
     let l = h.lies.elements object k.first k.object k.there k.begins in
     subst (λ (z : Room). IsRoom g.model z w.terms.cells) k.is (record { elements = l.0; wide = l.1 })
+
+pub room-later : (a b : Words) (model : Model) (r : Room) → Grows a b → IsRoom model r a.terms.cells → IsRoom model r b.terms.cells
+room-later a b model r k h = subst (λ (cells : List ℕ). IsRoom model r cells) (sym k.extends.0) h
+
+-- the cell of an element
+pub room-wide : (cells : List ℕ) (model : Model) (r : Room) (element cell : ℕ) → IsRoom model r cells → element < r.length → cell ≡ r.first + element → IsWide cells cell (width_of r.kind model)
+room-wide cells model r element cell h lt e =
+    subst (λ (n : ℕ). IsWide cells n (width_of r.kind model)) (sym e) (omega (arith, h.elements.1, lt), h.elements.2 element lt ∙ h.wide)
+
+pub room-first : (cells : List ℕ) (model : Model) (r : Room) → IsRoom model r cells → IsWide cells r.first (width_of r.kind model)
+room-first cells model r h = (omega (arith, h.elements.0, h.elements.1), h.wide)
 
 -- ---- Elements
 

@@ -4,6 +4,7 @@ use Rattle.bv_term.specs.declared.term.TermId.{TermId}
 use Rattle.bv_term.specs.WellFormed.{Table}
 use Rattle.c_graph.specs.declared.graph.Operation.{Operation}
 use Rattle.c_graph.specs.declared.graph.Operation.TheVariants.{Set, SetAt, Draw}
+use Rattle.c_graph.specs.Shape.{OperationFits}
 use Rattle.c_terms.specs.declared.words.Words.{Words}
 use Rattle.c_terms.specs.declared.failing.Tests.{Tests}
 use Rattle.c_terms.specs.Operations.{Failure}
@@ -23,10 +24,11 @@ Tells table t bits f = (store : List ℕ) → Shows table store t bits (f store)
 abbrev pub Means : Table → TermId → (List ℕ → ℕ) → Type 0
 Means table t f = (bits : ℕ) × Tells table t bits f
 
+-- the operation does this, and its cells and terms are there and have the widths that it asks for
 abbrev pub IsDeed : Table → Operation → Deed → Type 0
-IsDeed table (Set c t) (Sets d f) = (c ≡ d) × Means table t f
-IsDeed table (SetAt c n i t) (SetsAt d m h f) = (c ≡ d) × (n ≡ m) × Means table i h × Means table t f
-IsDeed table (Draw c signed) (Draws d s) = (c ≡ d) × (signed ≡ s)
+IsDeed table (Set c t) (Sets d f) = (c ≡ d) × Means table t f × OperationFits table (Set c t)
+IsDeed table (SetAt c n i t) (SetsAt d m h f) = (c ≡ d) × (n ≡ m) × Means table i h × Means table t f × OperationFits table (SetAt c n i t)
+IsDeed table (Draw c signed) (Draws d s) = (c ≡ d) × (signed ≡ s) × OperationFits table (Draw c signed)
 IsDeed table _ _ = ⊥
 
 -- one after the other

@@ -1,6 +1,8 @@
 //! What instructions do to cells.
-ghost use Rattle.std.specs.Prelude.{◌≡◌, ◌+◌, ◌++◌, ℕ, List, Some, IfOk, true, false, min};
+ghost use Rattle.std.specs.Prelude.{◌≡◌, ◌+◌, ◌++◌, ◌<◌, ◌≤◌, ℕ, List, Some, IfOk, true, false, min};
 ghost use Rattle.bv_term.specs.WellFormed.{Table};
+ghost use Rattle.lv_base.specs.declared.kind.Model.{Model};
+ghost use Rattle.c_terms.specs.declared.words.Words.{Words};
 ghost use Rattle.c_terms.specs.Shown.{Puts, Shows};
 ghost use Rattle.lv_base.specs.Integers as int;
 ghost use Rattle.lv_base.specs.Integers.{residue};
@@ -48,8 +50,8 @@ fn fill(
     value: TermId,
     ops: &mut Vec<Operation>,
 ) -> Result<(), Memory>
-    ensures { (table : Table) (deeds : List Deed) (bits : ℕ) (f : List ℕ → ℕ) → AreDeeds table ops.old.items deeds → Tells table value bits f
-        → IfOk result (λ u. AreDeeds table ops.new.items (deeds ++ m.fills (setting_of ground.now) slot f)) }
+    ensures { (words : Words) (deeds : List Deed) (f : List ℕ → ℕ) → Stands (setting_of ground.now) words → AreDeeds words.terms ops.old.items deeds → Tells words.terms value 64 f
+        → IfOk result (λ u. AreDeeds words.terms ops.new.items (deeds ++ m.fills (setting_of ground.now) slot f)) }
 {
     match ground.layout.slot(slot) {
         None => Ok(()),
@@ -69,7 +71,8 @@ fn write_in(
     value: TermId,
     ops: &mut Vec<Operation>,
 ) -> Result<(), Memory>
-    ensures { (deeds : List Deed) (h f : List ℕ → ℕ) → AreDeeds words.old.terms ops.old.items deeds → Tells words.old.terms index 64 h → Tells words.old.terms value 64 f
+    ensures { (deeds : List Deed) (h f : List ℕ → ℕ) → IsRoom ground.now.model room words.old.terms.cells → AreDeeds words.old.terms ops.old.items deeds
+        → Tells words.old.terms index 64 h → Tells words.old.terms value 64 f
         → IfOk result (λ u. Does words.old words.new ops.new.items (deeds ++ m.writes_in ground.now.model (Some room) h f)) }
 {
     let bits = narrow(words, room.kind, ground.model, value)?;
@@ -90,7 +93,8 @@ fn write(
     value: TermId,
     ops: &mut Vec<Operation>,
 ) -> Result<(), Memory>
-    ensures { (deeds : List Deed) (h f : List ℕ → ℕ) → AreDeeds words.old.terms ops.old.items deeds → Tells words.old.terms index 64 h → Tells words.old.terms value 64 f
+    ensures { (deeds : List Deed) (h f : List ℕ → ℕ) → Stands (setting_of ground.now) words.old → AreDeeds words.old.terms ops.old.items deeds
+        → Tells words.old.terms index 64 h → Tells words.old.terms value 64 f
         → IfOk result (λ u. Does words.old words.new ops.new.items (deeds ++ m.writes (setting_of ground.now) object h f)) }
 {
     match ground.room(object) {
@@ -108,7 +112,8 @@ fn write_at(
     value: TermId,
     ops: &mut Vec<Operation>,
 ) -> Result<(), Memory>
-    ensures { (deeds : List Deed) (f : List ℕ → ℕ) → AreDeeds words.old.terms ops.old.items deeds → Tells words.old.terms value 64 f
+    ensures { (deeds : List Deed) (f : List ℕ → ℕ) → IsRoom ground.now.model room words.old.terms.cells → element < room.length → AreDeeds words.old.terms ops.old.items deeds
+        → Tells words.old.terms value 64 f
         → IfOk result (λ u. Does words.old words.new ops.new.items (deeds ++ m.writes_at ground.now.model room element f)) }
 {
     let bits = narrow(words, room.kind, ground.model, value)?;
@@ -176,7 +181,7 @@ impl Ground<'_> {
         value: i128,
         ops: &mut Vec<Operation>,
     ) -> Result<(), Memory>
-        ensures { (deeds : List Deed) → AreDeeds words.old.terms ops.old.items deeds
+        ensures { (deeds : List Deed) → Stands (setting_of self.now) words.old → AreDeeds words.old.terms ops.old.items deeds
             → IfOk result (λ u. Does words.old words.new ops.new.items (deeds ++ m.fills (setting_of self.now) slot (λ store. residue 64 value))) }
     {
         let value = words.constant(value)?;
@@ -584,7 +589,7 @@ impl Ground<'_> {
         cell: u32,
         ops: &mut Vec<Operation>,
     ) -> Result<(), Memory>
-        ensures { (deeds : List Deed) → IsWide words.old.terms.cells cell (int.width_of kind self.now.model) → AreDeeds words.old.terms ops.old.items deeds
+        ensures { (deeds : List Deed) → Stands (setting_of self.now) words.old → IsWide words.old.terms.cells cell (int.width_of kind self.now.model) → AreDeeds words.old.terms ops.old.items deeds
             → IfOk result (λ u. Does words.old words.new ops.new.items (deeds ++ m.draws_to (setting_of self.now) slot kind (Some cell))) }
     {
         ops.push(Operation::Draw(cell, is_signed(kind)))?;
@@ -601,7 +606,7 @@ impl Ground<'_> {
         count: usize,
         ops: &mut Vec<Operation>,
     ) -> Result<(), Memory>
-        ensures { (deeds : List Deed) → AreDeeds words.old.terms ops.old.items deeds
+        ensures { (deeds : List Deed) → Stands (setting_of self.now) words.old → AreDeeds words.old.terms ops.old.items deeds
             → IfOk result (λ u. Does words.old words.new ops.new.items (deeds ++ m.draws_in (room_of (setting_of self.now) object) kind count)) }
     {
         match self.room(object) {
@@ -638,7 +643,8 @@ impl Ground<'_> {
         values: usize,
         ops: &mut Vec<Operation>,
     ) -> Result<(), Memory>
-        ensures { (deeds : List Deed) → Stands (setting_of self.now) words.old → AreDeeds words.old.terms ops.old.items deeds
+        ensures { (deeds : List Deed) → Stands (setting_of self.now) words.old → IsRoom self.now.model room words.old.terms.cells → count ≤ room.length
+            → AreDeeds words.old.terms ops.old.items deeds
             → IfOk result (λ u. Does words.old words.new ops.new.items (deeds ++ m.begins_first (setting_of self.now) room slot values count)) }
     {
         for element in 0..count {
@@ -688,7 +694,7 @@ impl Ground<'_> {
 
 // The first so many elements are drawn.
 fn draw_first(room: Room, kind: Kind, count: u32, ops: &mut Vec<Operation>) -> Result<(), Memory>
-    ensures { (table : Table) (deeds : List Deed) → AreDeeds table ops.old.items deeds
+    ensures { (model : Model) (table : Table) (deeds : List Deed) → IsRoom model room table.cells → count ≤ room.length → AreDeeds table ops.old.items deeds
         → IfOk result (λ u. AreDeeds table ops.new.items (deeds ++ m.draws_first room kind count)) }
 {
     for element in 0..count {

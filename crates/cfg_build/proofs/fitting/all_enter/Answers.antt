@@ -15,9 +15,9 @@ loop-place-preserved c =
     let passed : IsTrue c.enters.result = search rules in
     let there : slice_get c.args.code.now n ≡ Some c.in-Some.instruction = search rules in
     let next : suc n ≡ n + 1 = omega arith in
-    below-more (λ (x : Instruction). Enters (links_of c.args.links.now) x) c.args.code.now n (n + 1) c.in-Some.instruction next there (c.enters.ensures passed) c.loop-place.invariant
+    below-more (λ (x : Instruction). Enters (links_of c.args.links.now) x) c.args.code.now n (n + 1) c.in-Some.instruction next there (c.enters.ensures.enters passed) c.loop-place.invariant
 
-pub returns : goal.returns
-returns c = λ t.
+pub returns-clause-enter : goal.returns-clause-enter
+returns-clause-enter c = λ t.
     let past : length c.args.code.now ≤ c.loop-place.place = search rules in
     calls-enter (links_of c.args.links.now) c.args.code.now (below-all (λ (x : Instruction). Enters (links_of c.args.links.now) x) c.args.code.now c.loop-place.place past c.loop-place.invariant)

@@ -5,8 +5,8 @@ use Rattle.cfg_build.proofs.Adding.{adds-twice, edges-equal, next-more}
 use Rattle.cfg_build.proofs.opening.add_opening.Goals as goal
 
 pub returns : goal.returns
-returns c =
-    let m = c.in_ok-ops.ensures in
+returns c = λ h.
+    let m = c.in_ok-ops.ensures h in
     let n = next_of c.args.draft.now in (
       m.grows,
       record {

@@ -1,4 +1,4 @@
-use Rattle.std.proofs.Common.{◌≡◌, suc, ◌+◌, [], ◌∷◌, ◌++◌, refl, ap, ◌∙◌, subst, arith, rules, append_assoc, ℕ, ℤ, List, Ok}
+use Rattle.std.proofs.Common.{◌≡◌, suc, ◌+◌, ◌<◌, sym, [], ◌∷◌, ◌++◌, refl, ap, ◌∙◌, subst, arith, rules, append_assoc, ℕ, ℤ, List, Ok}
 use Rattle.std.specs.Int.{w128}
 use Rattle.std.proofs.lemmas.Int.{to_z-of_z}
 use mir.Val.{SFits}
@@ -8,31 +8,37 @@ use Rattle.c_terms.proofs.Putting.{grows-twice}
 use Rattle.code_moves.specs.Deeds.{Deed, Sets, AreDeeds}
 use Rattle.code_layout.specs.Layout.{elements_of}
 use Rattle.cfg_build.specs.Graphs.{first_sets, first_value}
-use Rattle.code_moves.proofs.Doing.{deeds-later, does-none, does-equal, pushed}
+use Rattle.code_moves.proofs.Doing.{deeds-later, does-none, does-equal, pushed, set-fits}
+use Rattle.code_layout.specs.Lies.{IsWide}
 use Rattle.cfg_build.proofs.opening.open_elements.Goals as goal
 
 pub loop-element-init : goal.loop-element-init
-loop-element-init c = λ ds d. does-none _ _ ds d
+loop-element-init c = λ ds a v d. does-none _ _ ds d
 
 pub loop-element-preserved : goal.loop-element-preserved
-loop-element-preserved c = λ ds d.
+loop-element-preserved c = λ ds a v d.
     let n = c.loop-element.element in
     let o = c.args.object.now in
     let w = c.width-bits.result in
-    let b = c.loop-element.invariant ds d in
+    let b = c.loop-element.invariant ds a v d in
     let f : SFits w128 c.first_value-number.result = search rules in
     let z = λ (s : List ℕ). c.in_ok-value.ensures s w refl (omega (arith, c.width-bits.ensures.some)) c.width-bits.ensures.most in
-    let v = λ (s : List ℕ). subst (λ (x : ℤ). Shows c.constant_of.new.self.terms s c.in_ok-value.value w (residue w x)) (to_z-of_z w128 c.first_value-number.result f ∙ c.first_value-number.ensures) (z s).shows in
+    let shown = λ (s : List ℕ). subst (λ (x : ℤ). Shows c.constant_of.new.self.terms s c.in_ok-value.value w (residue w x)) (to_z-of_z w128 c.first_value-number.result f ∙ c.first_value-number.ensures) (z s).shows in
     let before : List Deed = first_sets c.args.first w o n in
     let at : Deed = Sets (c.args.first + n) (λ store. residue w (first_value o n)) in
     let e : suc n ≡ n + 1 = omega arith in
+    let grown = grows-twice _ _ _ b.grows (z []).grows in
+    let count : n < elements_of o = omega (arith, c.elements_of-count.ensures) in
+    let wide : IsWide c.constant_of.new.self.terms.cells c.in_ok-cell.cell w =
+    subst (λ (cs : List ℕ). IsWide cs c.in_ok-cell.cell w) (sym grown.extends.0)
+    (subst (λ (k : ℕ). IsWide c.args.words.now.terms.cells k w) (sym c.in_ok-cell.ensures) (omega (arith, a.1, count), a.2 n count ∙ v ∙ sym c.width-bits.ensures.width)) in
     record {
-      grows = grows-twice _ _ _ b.grows (z []).grows;
+      grows = grown;
       does = subst (λ (xs : List Deed). AreDeeds c.constant_of.new.self.terms c.push.new.self.items xs) (append_assoc ds before (at ∷ []) ∙ ap (λ (k : ℕ). ds ++ first_sets c.args.first w o k) e)
-          (pushed c.constant_of.new.self.terms _ _ (ds ++ before) _ at c.in_ok-push.ensures.items (deeds-later _ _ _ (ds ++ before) (z []).grows b.does) (c.in_ok-cell.ensures, (w, v)));
+          (pushed c.constant_of.new.self.terms _ _ (ds ++ before) _ at c.in_ok-push.ensures.items (deeds-later _ _ _ (ds ++ before) (z []).grows b.does) (c.in_ok-cell.ensures, (w, shown), set-fits _ _ w _ _ wide shown));
     }
 
 pub returns : goal.returns
-returns c = λ ds d.
+returns c = λ ds a v d.
     let e : c.loop-element.element ≡ c.elements_of-count.result = omega arith in
-    does-equal (Ok tt) _ _ _ _ _ (ap (λ (k : ℕ). ds ++ first_sets c.args.first c.width-bits.result c.args.object.now k) (e ∙ c.elements_of-count.ensures) ∙ ap (λ (w : ℕ). ds ++ first_sets c.args.first w c.args.object.now (elements_of c.args.object.now)) c.width-bits.ensures.width) (c.loop-element.invariant ds d)
+    does-equal (Ok tt) _ _ _ _ _ (ap (λ (k : ℕ). ds ++ first_sets c.args.first c.width-bits.result c.args.object.now k) (e ∙ c.elements_of-count.ensures) ∙ ap (λ (w : ℕ). ds ++ first_sets c.args.first w c.args.object.now (elements_of c.args.object.now)) c.width-bits.ensures.width) (c.loop-element.invariant ds a v d)

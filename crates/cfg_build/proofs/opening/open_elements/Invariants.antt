@@ -1,4 +1,7 @@
-use Rattle.std.proofs.Common.{◌++◌, List}
+use Rattle.std.proofs.Common.{◌≡◌, ◌++◌, List, slice_index}
+use Rattle.lv_base.specs.Integers.{width_of}
+use Rattle.bv_term.specs.WellFormed.{IsArray}
+use Rattle.code_layout.specs.Layout.{elements_of}
 use Rattle.code_moves.specs.Deeds.{Deed, AreDeeds, Does}
 use Rattle.cfg_build.specs.Graphs.{first_sets}
 use Rattle.cfg_build.proofs.opening.open_elements.Given as goal
@@ -6,5 +9,5 @@ use Rattle.cfg_build.proofs.opening.open_elements.Given as goal
 -- the elements so far
 abbrev pub invariant-loop-element : goal.invariant-loop-element
 invariant-loop-element l =
-    (deeds : List Deed) → AreDeeds l.initial.words.terms l.initial.ops.items deeds
+    (deeds : List Deed) → IsArray l.initial.words.terms.cells l.first (elements_of l.object) → slice_index l.initial.words.terms.cells l.first ≡ width_of l.object.kind l.fn.model → AreDeeds l.initial.words.terms l.initial.ops.items deeds
     → Does l.initial.words l.words l.ops.items (deeds ++ first_sets l.first l.bits l.object l.element)

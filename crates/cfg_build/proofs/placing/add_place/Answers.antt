@@ -11,8 +11,8 @@ use Rattle.cfg_build.specs.Follows.{plan_of, node_of}
 use Rattle.cfg_build.proofs.Following.{fork-to}
 use Rattle.cfg_build.proofs.placing.add_place.Goals as goal
 
-pub returns-in_ok-add_skip_zero-in-SkipZero : goal.returns-in_ok-add_skip_zero-in-SkipZero
-returns-in_ok-add_skip_zero-in-SkipZero c = λ h t.
+pub returns-in_ok-add_skip_zero-in-SkipZero-clause-built : goal.returns-in_ok-add_skip_zero-in-SkipZero-clause-built
+returns-in_ok-add_skip_zero-in-SkipZero-clause-built c = λ h t.
     let k = c.in_ok-add_skip_zero-in-SkipZero.ensures h in
     let p = plan_of c.args.places.now in
     rw c.in-SkipZero.is (
@@ -21,8 +21,8 @@ returns-in_ok-add_skip_zero-in-SkipZero c = λ h t.
           (c.node_of-to.ensures ∙ ap (node_of p) (c.in_ok-behind-in-SkipZero.ensures ∙ ap (λ (n : ℕ). n + c.in-SkipZero.skip) c.in_ok-following.ensures)) k.1,
     )
 
-pub returns-in_ok-add_skip_equal-in-SkipEqual : goal.returns-in_ok-add_skip_equal-in-SkipEqual
-returns-in_ok-add_skip_equal-in-SkipEqual c = λ h t.
+pub returns-in_ok-add_skip_equal-in-SkipEqual-clause-built : goal.returns-in_ok-add_skip_equal-in-SkipEqual-clause-built
+returns-in_ok-add_skip_equal-in-SkipEqual-clause-built c = λ h t.
     let k = c.in_ok-add_skip_equal-in-SkipEqual.ensures h in
     let p = plan_of c.args.places.now in
     let f : SFits w128 c.in-SkipEqual.value = search rules in

@@ -2,22 +2,24 @@ use Rattle.std.proofs.Common.{◌≡◌, suc, ◌+◌, [], ◌∷◌, ◌++◌, 
 use Rattle.lv_base.specs.Integers.{is_signed}
 use Rattle.code_moves.specs.Deeds.{Deed, Draws, AreDeeds}
 use Rattle.code_moves.specs.Moves.{draws_first}
-use Rattle.code_moves.proofs.Doing.{kept, pushed}
+use Rattle.code_moves.proofs.Doing.{kept, pushed, draw-fits}
+use Rattle.code_moves.proofs.Standing.{room-wide}
 use Rattle.code_moves.proofs.moves.draw_first.Goals as goal
 
 pub loop-element-init : goal.loop-element-init
-loop-element-init c = λ T ds d. kept T _ ds d
+loop-element-init c = λ model T ds r le d. kept T _ ds d
 
 pub loop-element-preserved : goal.loop-element-preserved
-loop-element-preserved c = λ T ds d.
+loop-element-preserved c = λ model T ds r le d.
     let n = c.loop-element.element in
     let before : List Deed = draws_first c.args.room c.args.kind n in
     let at : Deed = Draws (c.args.room.first + n) (is_signed c.args.kind) in
     let e : suc n ≡ n + 1 = omega arith in
     subst (λ (xs : List Deed). AreDeeds T c.push.new.self.items xs) (append_assoc ds before (at ∷ []) ∙ ap (λ (k : ℕ). ds ++ draws_first c.args.room c.args.kind k) e)
-    (pushed T _ _ (ds ++ before) _ at c.in_ok-push.ensures.items (c.loop-element.invariant T ds d) (c.in_ok-cell.ensures, c.is_signed.ensures))
+    (pushed T _ _ (ds ++ before) _ at c.in_ok-push.ensures.items (c.loop-element.invariant model T ds r le d)
+    (c.in_ok-cell.ensures, c.is_signed.ensures, draw-fits T c.in_ok-cell.cell c.is_signed.result c.args.room.kind model (room-wide T.cells model c.args.room n _ r (omega (arith, le)) c.in_ok-cell.ensures)))
 
 pub returns : goal.returns
-returns c = λ T ds d.
+returns c = λ model T ds r le d.
     let e : c.loop-element.element ≡ c.args.count = omega arith in
-    subst (λ (k : ℕ). AreDeeds T c.loop-element.ops.items (ds ++ draws_first c.args.room c.args.kind k)) e (c.loop-element.invariant T ds d)
+    subst (λ (k : ℕ). AreDeeds T c.loop-element.ops.items (ds ++ draws_first c.args.room c.args.kind k)) e (c.loop-element.invariant model T ds r le d)

@@ -1,27 +1,30 @@
 use Rattle.std.proofs.Common.{refl, sym, subst, ◌∷◌, [], ◌++◌, ℕ, List, Bool, if◌then◌else◌}
 use Rattle.code_moves.specs.Deeds.{Sets, SetsAt, AreDeeds}
 use Rattle.code_moves.specs.Moves.{lows}
-use Rattle.code_moves.proofs.Doing.{deeds-later, tells-later, pushed}
+use Rattle.code_moves.proofs.Doing.{deeds-later, tells-later, pushed, set-fits, set-at-fits}
+use Rattle.code_moves.proofs.Standing.{room-later, room-first}
 use Rattle.code_moves.proofs.moves.write_in.Goals as goal
 
 pub returns-then-room : goal.returns-then-room
-returns-then-room c = λ ds h f d ti tv.
+returns-then-room c = λ ds h f room d ti tv.
     let r = c.args.room in
     let z = λ (s : List ℕ). c.in_ok-bits.ensures s (f s) (tv s) in
     let g = (z []).grows in
     record {
       grows = g;
       does = subst (λ (b : Bool). AreDeeds c.narrow.new.words.terms c.push.new.self.items (ds ++ (if b then SetsAt r.first r.length h (lows c.args.ground.now.model r f) else Sets r.first (lows c.args.ground.now.model r f)) ∷ [])) (sym c.if-room.true)
-          (pushed _ _ _ ds _ (SetsAt r.first r.length h (lows c.args.ground.now.model r f)) c.in_ok-push.ensures.items (deeds-later _ _ _ ds g d) (refl, refl, (64, tells-later _ _ _ 64 h g ti), (_, λ s. (z s).shows)));
+          (pushed _ _ _ ds _ (SetsAt r.first r.length h (lows c.args.ground.now.model r f)) c.in_ok-push.ensures.items (deeds-later _ _ _ ds g d)
+          (refl, refl, (64, tells-later _ _ _ 64 h g ti), (_, λ s. (z s).shows), set-at-fits _ r.first r.length _ 64 _ _ h _ (room-later _ _ _ r g room).elements (room-later _ _ _ r g room).wide (tells-later _ _ _ 64 h g ti) (λ s. (z s).shows)));
     }
 
 pub returns : goal.returns
-returns c = λ ds h f d ti tv.
+returns c = λ ds h f room d ti tv.
     let r = c.args.room in
     let z = λ (s : List ℕ). c.in_ok-bits.ensures s (f s) (tv s) in
     let g = (z []).grows in
     record {
       grows = g;
       does = subst (λ (b : Bool). AreDeeds c.narrow.new.words.terms c.push-2.new.self.items (ds ++ (if b then SetsAt r.first r.length h (lows c.args.ground.now.model r f) else Sets r.first (lows c.args.ground.now.model r f)) ∷ [])) (sym c.if-room.false)
-          (pushed _ _ _ ds _ (Sets r.first (lows c.args.ground.now.model r f)) c.in_ok-push-2.ensures.items (deeds-later _ _ _ ds g d) (refl, (_, λ s. (z s).shows)));
+          (pushed _ _ _ ds _ (Sets r.first (lows c.args.ground.now.model r f)) c.in_ok-push-2.ensures.items (deeds-later _ _ _ ds g d)
+          (refl, (_, λ s. (z s).shows), set-fits _ _ _ _ _ (room-first _ _ r (room-later _ _ _ r g room)) (λ s. (z s).shows)));
     }

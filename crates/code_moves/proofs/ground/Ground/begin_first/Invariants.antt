@@ -1,5 +1,5 @@
-use Rattle.std.proofs.Common.{◌++◌, List}
-use Rattle.code_moves.specs.Setting.{setting_of, Stands}
+use Rattle.std.proofs.Common.{◌++◌, ◌≤◌, List}
+use Rattle.code_moves.specs.Setting.{setting_of, Stands, IsRoom}
 use Rattle.code_moves.specs.Deeds.{Deed, AreDeeds, Does}
 use Rattle.code_moves.specs.Moves.{begins_first}
 use Rattle.code_moves.proofs.ground.Ground.begin_first.Given as goal
@@ -7,5 +7,5 @@ use Rattle.code_moves.proofs.ground.Ground.begin_first.Given as goal
 -- the elements so far
 abbrev pub invariant-loop-element : goal.invariant-loop-element
 invariant-loop-element l =
-    (deeds : List Deed) → Stands (setting_of l.self) l.initial.words → AreDeeds l.initial.words.terms l.initial.ops.items deeds
+    (deeds : List Deed) → Stands (setting_of l.self) l.initial.words → IsRoom l.self.model l.room l.initial.words.terms.cells → l.count ≤ l.room.length → AreDeeds l.initial.words.terms l.initial.ops.items deeds
     → Does l.initial.words l.words l.ops.items (deeds ++ begins_first (setting_of l.self) l.room l.slot l.values l.element)

@@ -10,4 +10,4 @@ returns c = λ ds h d.
     let n = λ (s : List ℕ). c.in_ok-right.ensures s (stand-later _ _ _ (z []).grows h) in
     let m = λ (s : List ℕ). c.in_ok-value.ensures s _ _ (later _ _ s _ _ _ (n []).grows (z s).shows) (n s).shows in
     let g = grows-twice _ _ _ (grows-twice _ _ _ (z []).grows (n []).grows) (m []).grows in
-    filled _ _ _ _ _ g (c.fill.ensures _ ds 64 _ (deeds-later _ _ _ ds g d) (λ s. (m s).shows))
+    filled _ _ _ _ _ g (c.fill.ensures _ ds _ (stand-later _ _ _ g h) (deeds-later _ _ _ ds g d) (λ s. (m s).shows))

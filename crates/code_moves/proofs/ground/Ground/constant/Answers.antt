@@ -4,11 +4,12 @@ use Rattle.std.proofs.lemmas.Int.{to_z-of_z}
 use Rattle.lv_base.specs.Integers.{residue}
 use Rattle.code_moves.specs.Setting.{setting_of}
 use Rattle.code_moves.specs.Moves.{fills}
+use Rattle.code_moves.proofs.Standing.{stand-later}
 use Rattle.code_moves.proofs.Doing.{deeds-later, filled, does-equal}
 use Rattle.code_moves.proofs.ground.Ground.constant.Goals as goal
 
 pub returns : goal.returns
-returns c = λ ds d.
+returns c = λ ds h d.
     let z = λ (s : List ℕ). c.in_ok-value.ensures s in
     does-equal _ _ _ _ _ _ (ap (λ (x : ℤ). ds ++ fills (setting_of c.args.self.now) c.args.slot (λ store. residue 64 x)) (to_z-of_z w128 c.args.value c.ranges.value))
-    (filled _ _ _ _ _ (z []).grows (c.fill.ensures _ ds 64 _ (deeds-later _ _ _ ds (z []).grows d) (λ s. (z s).shows)))
+    (filled _ _ _ _ _ (z []).grows (c.fill.ensures _ ds _ (stand-later _ _ _ (z []).grows h) (deeds-later _ _ _ ds (z []).grows d) (λ s. (z s).shows)))

@@ -15,4 +15,4 @@ pub returns-in-Some : goal.returns-in-Some
 returns-in-Some c = λ ds h d.
     let w = setting_of c.args.self.now in
     let is = c.in-Some.ensures ∙ ap (drawn_cell w.lay) c.width.ensures.width in
-    does-equal _ _ _ _ _ _ (ap (λ (o : Option ℕ). ds ++ draws_to w c.args.slot c.args.kind o) is) (c.draw_in.ensures ds (h.lies.draws _ _ (sym is)) d)
+    does-equal _ _ _ _ _ _ (ap (λ (o : Option ℕ). ds ++ draws_to w c.args.slot c.args.kind o) is) (c.draw_in.ensures ds h (h.lies.draws _ _ (sym is)) d)

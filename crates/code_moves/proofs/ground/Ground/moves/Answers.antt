@@ -12,7 +12,7 @@ pub returns-in-Constant : goal.returns-in-Constant
 returns-in-Constant c = λ ds h d.
     let f : SFits w128 c.in-Constant.value = search rules in
     rw c.in-Constant.is
-    (does-equal _ _ _ _ _ _ (ap (λ (x : ℤ). ds ++ fills (setting_of c.args.self.now) c.in-Constant.slot (λ store. residue 64 x)) (to_z-of_z w128 c.in-Constant.value f)) (c.constant.ensures ds d))
+    (does-equal _ _ _ _ _ _ (ap (λ (x : ℤ). ds ++ fills (setting_of c.args.self.now) c.in-Constant.slot (λ store. residue 64 x)) (to_z-of_z w128 c.in-Constant.value f)) (c.constant.ensures ds h d))
 
 pub returns-in-Read : goal.returns-in-Read
 returns-in-Read c = λ ds h d. rw c.in-Read.is (c.read.ensures ds h d)
@@ -54,7 +54,7 @@ pub returns-in-Draw : goal.returns-in-Draw
 returns-in-Draw c = λ ds h d. rw c.in-Draw.is (c.draw.ensures ds h d)
 
 pub returns-in-Fill : goal.returns-in-Fill
-returns-in-Fill c = λ ds h d. rw c.in-Fill.is (c.draw_all.ensures ds d)
+returns-in-Fill c = λ ds h d. rw c.in-Fill.is (c.draw_all.ensures ds h d)
 
 pub returns-in-Begin : goal.returns-in-Begin
 returns-in-Begin c = λ ds h d. rw c.in-Begin.is (c.begin.ensures ds h d)

@@ -11,4 +11,4 @@ returns c = λ ds h d.
     let m = λ (s : List ℕ). c.in_ok-new.ensures s _ (n s).shows in
     let k = grows-twice _ _ _ (n []).grows (m []).grows in
     let g = grows-twice _ _ _ (z []).grows k in
-    then-does _ _ _ _ _ _ g (c.write.ensures ds _ _ (deeds-later _ _ _ ds g d) (λ s. later _ _ s _ _ _ k (z s).shows) (λ s. (m s).shows))
+    then-does _ _ _ _ _ _ g (c.write.ensures ds _ _ (stand-later _ _ _ g h) (deeds-later _ _ _ ds g d) (λ s. later _ _ s _ _ _ k (z s).shows) (λ s. (m s).shows))

@@ -13,6 +13,6 @@ returns c = λ ds h d.
     let v = λ (s : List ℕ). c.in_ok-value.ensures s (stand-later _ _ _ (z []).grows h) in
     let g = grows-twice _ _ _ (z []).grows (v []).grows in
     let f = index_value w (c.args.slot + 1) in
-    let n = c.in_ok-write.ensures ds (index_value w c.args.slot) f (deeds-later _ _ _ ds g d) (λ s. later _ _ s _ _ _ (v []).grows (z s).shows) (λ s. (v s).shows) in
+    let n = c.in_ok-write.ensures ds (index_value w c.args.slot) f (stand-later _ _ _ g h) (deeds-later _ _ _ ds g d) (λ s. later _ _ s _ _ _ (v []).grows (z s).shows) (λ s. (v s).shows) in
     let before = writes w c.args.object (index_value w c.args.slot) f in
-    regrouped _ _ _ _ ds before (fills w c.args.slot f) (filled _ _ _ _ _ (grows-twice _ _ _ g n.grows) (c.fill.ensures _ (ds ++ before) 64 f n.does (tells-later _ _ _ 64 f n.grows (λ s. (v s).shows))))
+    regrouped _ _ _ _ ds before (fills w c.args.slot f) (filled _ _ _ _ _ (grows-twice _ _ _ g n.grows) (c.fill.ensures _ (ds ++ before) f (stand-later _ _ _ (grows-twice _ _ _ g n.grows) h) n.does (tells-later _ _ _ 64 f n.grows (λ s. (v s).shows))))

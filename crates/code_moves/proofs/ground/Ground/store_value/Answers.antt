@@ -2,6 +2,7 @@ use Rattle.std.proofs.Common.{[], ◌++◌, ℕ, List}
 use Rattle.c_terms.proofs.Putting.{grows-twice}
 use Rattle.code_moves.specs.Setting.{setting_of}
 use Rattle.code_moves.specs.Moves.{writes, fills, index_value}
+use Rattle.code_moves.proofs.Standing.{stand-later}
 use Rattle.code_moves.proofs.Doing.{deeds-later, tells-later, filled, regrouped}
 use Rattle.code_moves.proofs.ground.Ground.store_value.Goals as goal
 
@@ -10,7 +11,7 @@ returns c = λ ds f h d tv.
     let w = setting_of c.args.self.now in
     let z = λ (s : List ℕ). c.in_ok-index.ensures s h in
     let g = (z []).grows in
-    let n = c.in_ok-write.ensures ds (index_value w c.args.slot) f (deeds-later _ _ _ ds g d) (λ s. (z s).shows) (tells-later _ _ _ 64 f g tv) in
+    let n = c.in_ok-write.ensures ds (index_value w c.args.slot) f (stand-later _ _ _ g h) (deeds-later _ _ _ ds g d) (λ s. (z s).shows) (tells-later _ _ _ 64 f g tv) in
     let k = grows-twice _ _ _ g n.grows in
     let before = writes w c.args.object (index_value w c.args.slot) f in
-    regrouped _ _ _ _ ds before (fills w c.args.slot f) (filled _ _ _ _ _ k (c.fill.ensures _ (ds ++ before) 64 f n.does (tells-later _ _ _ 64 f k tv)))
+    regrouped _ _ _ _ ds before (fills w c.args.slot f) (filled _ _ _ _ _ k (c.fill.ensures _ (ds ++ before) f (stand-later _ _ _ k h) n.does (tells-later _ _ _ 64 f k tv)))

@@ -13,4 +13,4 @@ returns c = λ ds h d.
     let k = grows-twice _ _ _ (n []).grows (grows-twice _ _ _ (i []).grows (o []).grows) in
     let m = λ (s : List ℕ). c.in_ok-chosen.ensures s _ _ _ _ (later _ _ s _ _ _ (o []).grows (i s).shows) (o s).shows (later _ _ s _ _ _ k (z s).shows) in
     let g = grows-twice _ _ _ (grows-twice _ _ _ (z []).grows k) (m []).grows in
-    filled _ _ _ _ _ g (c.fill.ensures _ ds 64 _ (deeds-later _ _ _ ds g d) (λ s. (m s).shows))
+    filled _ _ _ _ _ g (c.fill.ensures _ ds _ (stand-later _ _ _ g h) (deeds-later _ _ _ ds g d) (λ s. (m s).shows))

@@ -1,0 +1,11 @@
+pub mod Fitting
+pub mod Calling
+pub mod Marking
+pub mod Staying
+pub mod Keeping
+pub mod Stepping
+pub mod Standing
+pub mod Beginning
+pub mod Numbering
+pub mod Mains
+pub mod Whole
