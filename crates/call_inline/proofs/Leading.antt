@@ -1,5 +1,5 @@
 -- Each edge of all copies is one of a copy: its function's, or one that leads into a copy or back from it.
-use Rattle.std.proofs.Common.{◌≡◌, ◌⊎◌, inl, inr, ℕ, ◌+◌, ◌<◌, ◌≤◌, length, Bool, true, false, List, [], ◌∷◌, ◌++◌, Option, Some, None, map, arith, ap, sym, ◌∙◌, refl, subst, suc, zero, slice_get, if◌then◌else◌}
+use Rattle.std.proofs.Common.{◌≡◌, ◌⊎◌, inl, inr, ℕ, ◌+◌, ◌<◌, ◌≤◌, length, Bool, true, false, List, [], ◌∷◌, Option, Some, None, map, arith, ap, sym, ◌∙◌, refl, subst, suc, zero, slice_get, if◌then◌else◌}
 use Rattle.std.proofs.lemmas.Bool.{eqb-true}
 use Rattle.std.proofs.lemmas.Option.{none-some, same_Some, slice_get_within}
 use Rattle.c_graph.specs.declared.graph.NodeId.{NodeId}
@@ -9,29 +9,10 @@ use Rattle.c_graph.specs.declared.graph.Edge.{Edge}
 use Rattle.c_graph.specs.Functions.{Flows}
 use Rattle.call_inline.specs.declared.numbers.Copied.{Copied}
 use Rattle.call_inline.specs.Inlining.{Among, IsOwn, IsCall, IsReturn, edges_in, entry_in, nodes_in, step}
-use Rattle.call_inline.specs.Copying.{AreFollowed, Offsets, all_edges, called, calls_of, copy_edges, each_from, is_at, leads_of, led, moved, node, number_of}
+use Rattle.call_inline.specs.Copying.{Offsets, all_edges, called, calls_of, copy_edges, each_from, is_at, leads_of, led, moved, node, number_of}
 use Rattle.call_inline.proofs.Gluing.{in-first}
-
-among-either : {X : Type 0} (xs ys : List X) (x : X) → Among (xs ++ ys) x → Among xs x ⊎ Among ys x
-among-either [] ys x a = inr a
-among-either (z ∷ xs) ys x (zero, s) = inl (zero, s)
-among-either (z ∷ xs) ys x (suc k, s) = elim (among-either xs ys x (k, s)) [ inl a ↦ inl (suc a.0, a.1) | inr b ↦ inr b ]
-
-from-map : {X : Type 0} {Y : Type 0} (f : X → Y) (xs : List X) (y : Y) → Among (map f xs) y → (x : X) × Among xs x × (y ≡ f x)
-from-map f [] y (k, s) = absurd (none-some y s)
-from-map f (z ∷ xs) y (zero, s) = (z, (zero, refl), sym (same_Some (f z) y s))
-from-map f (z ∷ xs) y (suc k, s) = let (x, a, e) = from-map f xs y (k, s) in (x, (suc a.0, a.1), e)
-
--- a node that gives it
-from-each : {X : Type 0} (f : ℕ → Node → List X) (n : ℕ) (xs : List Node) (y : X) → Among (each_from f n xs) y → (k : ℕ) × (x : Node) × (slice_get xs k ≡ Some x) × Among (f (n + k) x) y
-from-each f n [] y (k, s) = absurd (none-some y s)
-from-each f n (z ∷ xs) y a = elim (among-either (f n z) (each_from f (n + 1) xs) y a) [
-  | inl b ↦ let o : n ≡ n + 0 = omega arith in (0, z, refl, subst (λ (m : ℕ). Among (f m z) y) o b)
-  | inr b ↦
-      let (k, x, s, g) = from-each f (n + 1) xs y b in
-      let o : (n + 1) + k ≡ n + suc k = omega arith in
-      (suc k, x, s, subst (λ (m : ℕ). Among (f m x) y) o g)
-]
+use Rattle.call_inline.proofs.Lists.{among-either, from-each, from-map}
+use Rattle.call_inline.proofs.Turning.{AreFollowed}
 
 -- a copy that has it
 from-all : (p : Flows) (offsets : Offsets) (copies : List Copied) (e : Edge) → Among (all_edges p offsets copies) e → (c : Copied) × Among copies c × Among (copy_edges p offsets c) e

@@ -2,6 +2,9 @@ pub mod Lists
 pub mod Turning
 pub mod Gluing
 pub mod Sizing
+pub mod Weighing
+pub mod Unfolding
+pub mod Standing
 pub mod Leading
-pub mod Marking
 pub mod Making
+pub mod Fitting

@@ -1,14 +1,17 @@
 -- Which copies there are, how their nodes are numbered, and which edges they have.
-use Rattle.std.specs.Prelude.{ℕ, ◌+◌, ◌<◌, ◌≡◌, ◌==◌, Bool, true, false, List, [], ◌∷◌, ◌++◌, map, min, replicate, Option, None, Some, slice_get, slice_set, slice_index_or, if◌then◌else◌, Vec}
-use Rattle.lv_base.specs.declared.fault.ErrorKind.{ErrorKind}
+use Rattle.std.specs.Prelude.{ℕ, zero, suc, ◌+◌, ◌==◌, Bool, false, List, [], ◌∷◌, ◌++◌, map, min, replicate, Option, None, Some, slice_get, slice_set, if◌then◌else◌, Vec}
 use Rattle.std.proofs.Common.{Global}
 use Rattle.c_graph.specs.declared.graph.NodeId.{NodeId}
 use Rattle.c_graph.specs.declared.graph.Node.{Node}
 use Rattle.c_graph.specs.declared.graph.Node.TheVariants.{Plain, Error, End, Call}
 use Rattle.c_graph.specs.declared.graph.Edge.{Edge}
-use Rattle.c_graph.specs.Functions.{Flows}
+use Rattle.c_graph.specs.declared.graph.LoopAt.{LoopAt}
+use Rattle.c_graph.specs.Shape.{Flow}
+use Rattle.c_graph.specs.Functions.{FnFlow, Flows}
+use Rattle.c_graph.specs.Parts.{flow_of}
 use Rattle.call_inline.specs.declared.numbers.Copied.{Copied}
-use Rattle.call_inline.specs.Inlining.{nodes_in, edges_in, entry_in, Among, step}
+use Rattle.call_inline.specs.Inlining.{nodes_in, edges_in, entry_in, loops_of, or_zero, step}
+use Rattle.call_inline.specs.Sizes.{nodes_at}
 
 -- for each function, how far each of its nodes stands behind the first of a copy
 abbrev pub Offsets : Type 0
@@ -17,13 +20,26 @@ Offsets = List (Vec ℕ Global)
 abbrev pub node : ℕ → NodeId
 node n = record { 0 = n }
 
-abbrev pub or_zero : Option ℕ → ℕ
-or_zero None = 0
-or_zero (Some n) = n
+abbrev pub items_in : Option (Vec ℕ Global) → List ℕ
+items_in None = []
+items_in (Some offsets) = offsets.items
 
 abbrev pub offset_in : Option (Vec ℕ Global) → ℕ → ℕ
-offset_in None n = 0
-offset_in (Some offsets) n = or_zero (slice_get offsets.items n)
+offset_in offsets n = or_zero (slice_get (items_in offsets) n)
+
+-- how far each of these nodes stands behind the first, where copies of functions have so many; the first of these stands at a distance
+abbrev pub offsets_among : (ℕ → ℕ) → ℕ → List Node → List ℕ
+offsets_among size at [] = []
+offsets_among size at (v ∷ vs) = min at 4294967295 ∷ offsets_among size (at + nodes_at size v) vs
+
+-- those of each function
+abbrev pub all_offsets : (ℕ → ℕ) → List FnFlow → List (List ℕ)
+all_offsets size [] = []
+all_offsets size (f ∷ fs) = offsets_among size 0 f.nodes ∷ all_offsets size fs
+
+abbrev pub lists_of : Offsets → List (List ℕ)
+lists_of [] = []
+lists_of (o ∷ os) = o.items ∷ lists_of os
 
 -- the number of a node in a copy
 abbrev pub number_of : Offsets → Copied → NodeId → NodeId
@@ -59,10 +75,10 @@ abbrev pub calls_in_any : Flows → Offsets → Option Copied → List Copied
 calls_in_any p offsets None = []
 calls_in_any p offsets (Some c) = calls_in p offsets c
 
--- each call in one of the first n copies has its copy
-abbrev pub AreFollowed : Flows → Offsets → ℕ → List Copied → Type 0
-AreFollowed p offsets n copies =
-    (k : ℕ) (c d : Copied) → k < n → slice_get copies k ≡ Some c → Among (calls_in p offsets c) d → Among copies d
+-- the copies when those for the calls of the first n were added
+abbrev pub copies_after : Flows → Offsets → ℕ → List Copied
+copies_after p offsets zero = main_copy p ∷ []
+copies_after p offsets (suc n) = copies_after p offsets n ++ calls_in_any p offsets (slice_get (copies_after p offsets n) n)
 
 abbrev pub is_at : Option NodeId → ℕ → Bool
 is_at None n = false
@@ -94,50 +110,49 @@ abbrev pub all_edges : Flows → Offsets → List Copied → List Edge
 all_edges p offsets [] = []
 all_edges p offsets (c ∷ cs) = copy_edges p offsets c ++ all_edges p offsets cs
 
--- no error node stands there
-abbrev pub NoError : List Node → NodeId → Type 0
-NoError nodes v = (kind : ErrorKind) (at : ℕ) → slice_get nodes v.0 ≡ Some (Error kind at) → ⊥
+-- ---- Nodes
 
--- an error node stands at its number, and none at that of another node
-abbrev pub StandsAt : List Node → NodeId → Node → Type 0
-StandsAt nodes v Plain = NoError nodes v
-StandsAt nodes v (Error kind at) = slice_get nodes v.0 ≡ Some (Error kind at)
-StandsAt nodes v End = NoError nodes v
-StandsAt nodes v (Call callee next) = NoError nodes v
+-- a node that leads on without doing anything is plain
+abbrev pub plain_if : Option NodeId → Node → Node
+plain_if None x = x
+plain_if (Some to) x = Plain
 
--- the error nodes of a copy stand at their numbers, and no others
-abbrev pub ErrorsStand : Flows → Offsets → List Node → Copied → Type 0
-ErrorsStand p offsets nodes c =
-    (n : ℕ) (x : Node) → slice_get (nodes_in p c.function) n ≡ Some x → StandsAt nodes (number_of offsets c (node n)) x
+-- a node of a copy, with its number
+abbrev pub laid : Flows → Offsets → Copied → ℕ → Node → ℕ × Node
+laid p offsets c n x = ((number_of offsets c (node n)).0, plain_if (goal_of p offsets c n x) x)
 
--- those of all copies do
-abbrev pub AllErrorsStand : Flows → Offsets → List Node → List Copied → Type 0
-AllErrorsStand p offsets nodes copies = (c : Copied) → Among copies c → ErrorsStand p offsets nodes c
+abbrev pub lays_of : Flows → Offsets → Copied → ℕ → Node → List (ℕ × Node)
+lays_of p offsets c n x = laid p offsets c n x ∷ []
 
--- ---- Numbers
+-- those of a copy
+abbrev pub copy_lays : Flows → Offsets → Copied → List (ℕ × Node)
+copy_lays p offsets c = each_from (lays_of p offsets c) 0 (nodes_in p c.function)
 
--- the numbers of a copy's nodes, the first being node n
-abbrev pub numbers_from : Offsets → Copied → ℕ → List Node → List ℕ
-numbers_from offsets c n [] = []
-numbers_from offsets c n (x ∷ xs) = (number_of offsets c (node n)).0 ∷ numbers_from offsets c (n + 1) xs
+abbrev pub all_lays : Flows → Offsets → List Copied → List (ℕ × Node)
+all_lays p offsets [] = []
+all_lays p offsets (c ∷ cs) = copy_lays p offsets c ++ all_lays p offsets cs
 
-abbrev pub numbers_of : Flows → Offsets → Copied → List ℕ
-numbers_of p offsets c = numbers_from offsets c 0 (nodes_in p c.function)
+-- nodes, when these were written at their numbers
+abbrev pub written : List Node → List (ℕ × Node) → List Node
+written nodes [] = nodes
+written nodes (l ∷ ls) = written (slice_set nodes l.0 l.1) ls
 
--- those of all copies
-abbrev pub all_numbers : Flows → Offsets → List Copied → List ℕ
-all_numbers p offsets [] = []
-all_numbers p offsets (c ∷ cs) = numbers_of p offsets c ++ all_numbers p offsets cs
+abbrev pub copied_nodes : Flows → Offsets → List Copied → ℕ → List Node
+copied_nodes p offsets copies size = written (replicate size End) (all_lays p offsets copies)
 
--- with a mark for a number that had none
-abbrev pub mark_in : List Bool → ℕ → Option (List Bool)
-mark_in marks n = if slice_index_or marks n true then None else Some (slice_set marks n true)
+-- ---- Loops
 
-abbrev pub marked_all : Option (List Bool) → List ℕ → Option (List Bool)
-marked_all None ns = None
-marked_all (Some marks) [] = Some marks
-marked_all (Some marks) (n ∷ ns) = marked_all (mark_in marks n) ns
+abbrev pub loop_in : Offsets → Copied → LoopAt → LoopAt
+loop_in offsets c l = record { at = l.at; node = number_of offsets c l.node }
 
--- each number gets its mark, and none had one
-abbrev pub AreApart : ℕ → List ℕ → Type 0
-AreApart size ns = (marks : List Bool) × (marked_all (Some (replicate size false)) ns ≡ Some marks)
+-- those of main
+abbrev pub main_loops : Flows → Offsets → List LoopAt
+main_loops p offsets = map (loop_in offsets (main_copy p)) (loops_of (slice_get p.graphs p.main))
+
+-- ---- The whole
+
+-- the graph of these copies
+abbrev pub graph_of : Flows → Offsets → List Copied → ℕ → Flow
+graph_of p offsets copies size =
+    flow_of (copied_nodes p offsets copies size) (all_edges p offsets copies) p.cells p.terms (number_of offsets (main_copy p) (entry_in p p.main))
+    (main_loops p offsets)

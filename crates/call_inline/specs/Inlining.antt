@@ -5,10 +5,15 @@ use Rattle.c_graph.specs.declared.graph.NodeId.{NodeId}
 use Rattle.c_graph.specs.declared.graph.Node.{Node}
 use Rattle.c_graph.specs.declared.graph.Node.TheVariants.{Error, Call}
 use Rattle.c_graph.specs.declared.graph.Edge.{Edge}
+use Rattle.c_graph.specs.declared.graph.LoopAt.{LoopAt}
 use Rattle.c_graph.specs.Shape.{Flow, IsNodeOf}
 use Rattle.c_graph.specs.Functions.{FnFlow, Flows}
 use Rattle.c_graph.specs.Parts.{error_flow}
 use Rattle.call_inline.specs.declared.numbers.Copied.{Copied}
+
+abbrev pub or_zero : Option ℕ → ℕ
+or_zero None = 0
+or_zero (Some n) = n
 
 abbrev pub nodes_of : Option FnFlow → List Node
 nodes_of None = []
@@ -21,6 +26,10 @@ edges_of (Some f) = f.edges
 abbrev pub entry_of : Option FnFlow → NodeId
 entry_of None = record { 0 = 0 }
 entry_of (Some f) = f.entry
+
+abbrev pub loops_of : Option FnFlow → List LoopAt
+loops_of None = []
+loops_of (Some f) = f.loops
 
 -- the nodes, the edges and the entry of the function of a number
 abbrev pub nodes_in : Flows → ℕ → List Node

@@ -1,3 +1,4 @@
 pub mod Inlining
-pub mod Copying
 pub mod Sizes
+pub mod Copying
+pub mod Layout

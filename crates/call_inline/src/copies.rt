@@ -1,6 +1,6 @@
 //! The list of all copies: each call in one of them has its own.
-ghost use Rattle.std.specs.Prelude.{◌≡◌, ◌++◌, IfOk, OnOk, Some, slice_get};
-ghost use Rattle.call_inline.specs.Copying.{AreFollowed, called, calls_in, calls_in_any, calls_of, main_copy};
+ghost use Rattle.std.specs.Prelude.{◌≡◌, ◌++◌, IfOk, OnOk, slice_get};
+ghost use Rattle.call_inline.specs.Copying.{called, calls_in, calls_in_any, calls_of, copies_after};
 
 use crate::numbers::{Copied, main_of, nodes_of, number};
 use c_graph::{FnGraphs, Node, NodeId};
@@ -14,8 +14,7 @@ pub(crate) fn copies_of(
     offsets: &[Vec<u32>],
     most: usize,
 ) -> Result<Vec<Copied>, Memory>
-    ensures first { IfOk result (λ r. slice_get r.items 0 ≡ Some (main_copy graphs.now)) }
-    ensures followed { IfOk result (λ r. AreFollowed graphs.now offsets.now most r.items) }
+    ensures { IfOk result (λ r. r.items ≡ copies_after graphs.now offsets.now most) }
 {
     let mut copies = Vec::new(alloc);
     copies.push(main_of(graphs))?;

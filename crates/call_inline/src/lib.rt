@@ -14,18 +14,22 @@
 //! What is proved is that the answer is an inlining (`specs/Inlining.antt`) of the functions' graphs: each edge stands in each copy, a
 //! call leads into a copy that goes on where the call does, each error node is there in each copy, and there is nothing else: no other
 //! edge, no other error among the copies' nodes, and no two nodes with one number. So runs of the answer are runs over the functions'
-//! graphs, both ways. That no number is given twice and that errors stand where the functions have them is tested when all copies are
-//! made; copies that fail a test, as copies that make no graph, give the graph that is an error at its entry. Which numbers nodes have
-//! no contract says; of the limit on nodes, that it is told only where the copies have more.
+//! graphs, both ways. A graph has a limit on edges: where some function's graph has more than 30,000 for each node, copies that pass the
+//! limit give the graph that is an error at its entry. Which numbers nodes have no contract says; of the limit on nodes, that it is told
+//! only where the copies have more.
+//!
+//! **Numbers** are apart because of sizes. A copy of so many nodes, those of the copies in it among them, has a stretch of as many numbers:
+//! each of its nodes has one, and behind a call lies the stretch of its copy. So the nodes of all copies share the stretch of `main`, and
+//! none is left over or given twice.
 #![tactic(auto)]
 
-mod apart;
 mod copies;
 mod edges;
 mod inlining;
+mod nodes;
 mod numbers;
+mod offsets;
 mod sizes;
 
 pub use inlining::inline;
 pub use numbers::Copied;
-pub use sizes::Size;

@@ -1,9 +1,9 @@
 //! How the nodes of copies are numbered, and what a copy's function has.
 ghost use Rattle.std.specs.Prelude.{◌≡◌, ◌≤◌, length, slice_get};
-ghost use Rattle.call_inline.specs.Inlining.{edges_in, entry_in, nodes_in};
-ghost use Rattle.call_inline.specs.Copying.{main_copy, number_of, or_zero};
+ghost use Rattle.call_inline.specs.Inlining.{edges_in, entry_in, loops_of, nodes_in, or_zero};
+ghost use Rattle.call_inline.specs.Copying.{main_copy, number_of};
 
-use c_graph::{Edge, FnGraphs, Node, NodeId};
+use c_graph::{Edge, FnGraphs, LoopAt, Node, NodeId};
 
 /// A copy of a function's graph. What is said of inlining speaks of these.
 #[derive(Clone, Copy)]
@@ -55,6 +55,16 @@ pub(crate) fn entry_of(graphs: &FnGraphs, function: u32) -> NodeId
     match graphs.graphs().get(function as usize) {
         None => NodeId(0),
         Some(graph) => graph.entry(),
+    }
+}
+
+/// The loops of a function.
+pub(crate) fn loops_of(graphs: &FnGraphs, function: u32) -> &[LoopAt]
+    ensures { result.now ≡ loops_of (slice_get graphs.now.graphs function) }
+{
+    match graphs.graphs().get(function as usize) {
+        None => &[],
+        Some(graph) => graph.loops(),
     }
 }
 

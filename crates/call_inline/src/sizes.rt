@@ -1,23 +1,18 @@
 //! How many nodes the copies of functions have, with those of all that they call.
+//!
+//! A search over calls finds the sizes, each after those of the called functions. Whether they are right is looked at afterwards, and
+//! sizes that are too small are raised: where functions call one another in a ring, up to the limit on nodes and no further.
 
-ghost use Rattle.std.specs.Prelude.{◌≡◌, ◌≤◌, ℕ, slice_get, IfOk};
+ghost use Rattle.std.specs.Prelude.{◌≡◌, ◌≤◌, ◌<◌, ℕ, false, min, length, slice_get, slice_set, IfOk, IsTrue};
 ghost use Rattle.call_inline.specs.Inlining.{nodes_of};
-ghost use Rattle.call_inline.specs.Sizes.{AreBelow, AreSizes, nodes_among, nodes_at};
+ghost use Rattle.call_inline.specs.Sizes.{AreSettled, AreSizes, IsSettled, nodes_among, nodes_at, nodes_with, room, size_in};
 
 use c_graph::{FnGraph, Node};
 use lv_base::Memory;
 use std::alloc::Global;
 
-/// What is known of a function's size. What is said of sizes speaks of these.
-#[derive(Clone, Copy)]
-pub enum Size {
-    /// It was not looked at.
-    Unknown,
-    /// Its calls are being looked at.
-    Open,
-    /// A copy has so many nodes, with those of all that it calls.
-    Known(u64),
-}
+/// Sizes from this on are as good as any other: they pass the limit on nodes.
+const MANY: u64 = 65_537;
 
 /// A function whose calls are looked at, and the next of its nodes.
 #[derive(Clone, Copy)]
@@ -28,25 +23,35 @@ struct Visit {
 
 /// How many nodes a copy of each function has, with those of all that it calls. It goes over calls and not into them, so no depth
 /// of calls matters.
-pub(crate) fn sizes_of(alloc: Global, graphs: &[FnGraph]) -> Result<Vec<Size>, Memory>
-    ensures { IfOk result (λ s. AreSizes graphs.now s.items) }
+pub(crate) fn sizes_of(alloc: Global, graphs: &[FnGraph]) -> Result<Vec<u64>, Memory>
+    ensures sizes { IfOk result (λ s. AreSizes graphs.now s.items) }
+    ensures settled { IfOk result (λ s. AreSettled graphs.now s.items) }
 {
-    let mut sizes = vec![in alloc; Size::Unknown; graphs.len()]?;
-    for function in 0..graphs.len() {
-        find_size(alloc, graphs, function, &mut sizes)?;
-    }
+    let mut sizes = guesses(alloc, graphs)?;
+    settle(graphs, &mut sizes);
     Ok(sizes)
 }
 
-/// How many nodes a copy of a function has, with those of all that it calls. The search finds the size of each function, unless it calls
-/// itself, by others or not: its copies would have no end, and count for nothing.
-pub(crate) fn known(sizes: &[Size], function: u32) -> u64
-    ensures { (size : ℕ → ℕ) → AreBelow size sizes.now → result ≤ size function }
+/// How many nodes a copy of a function has, with those of all that it calls.
+pub(crate) fn known(sizes: &[u64], function: u32) -> u64
+    ensures { result ≡ size_in sizes.now function }
 {
     match sizes.get(function as usize) {
-        Some(Size::Known(nodes)) => *nodes,
-        _ => 0,
+        None => 0,
+        Some(nodes) => *nodes,
     }
+}
+
+// Sizes that a search finds.
+fn guesses(alloc: Global, graphs: &[FnGraph]) -> Result<Vec<u64>, Memory>
+    ensures { IfOk result (λ s. AreSizes graphs.now s.items) }
+{
+    let mut seen = vec![in alloc; false; graphs.len()]?;
+    let mut sizes = vec![in alloc; 0u64; graphs.len()]?;
+    for function in 0..graphs.len() {
+        find_size(alloc, graphs, function, &mut seen, &mut sizes)?;
+    }
+    Ok(sizes)
 }
 
 // How many steps a search over these functions can have.
@@ -64,37 +69,37 @@ fn find_size(
     alloc: Global,
     graphs: &[FnGraph],
     function: usize,
-    sizes: &mut Vec<Size>,
+    seen: &mut Vec<bool>,
+    sizes: &mut Vec<u64>,
 ) -> Result<(), Memory>
     ensures { AreSizes graphs.now sizes.old.items → AreSizes graphs.now sizes.new.items }
 {
     let mut open = Vec::new(alloc);
-    enter(function, sizes, &mut open)?;
+    enter(function, seen, &mut open)?;
     for _ in 0..most_steps(graphs) {
         let Some(visit) = open.pop() else {
             return Ok(());
         };
-        go_on(graphs, visit, sizes, &mut open)?;
+        go_on(graphs, visit, seen, sizes, &mut open)?;
     }
     Ok(())
 }
 
 // A function that was not looked at is.
-fn enter(function: usize, sizes: &mut Vec<Size>, open: &mut Vec<Visit>) -> Result<(), Memory>
-    ensures { (size : ℕ → ℕ) → AreBelow size sizes.old.items → AreBelow size sizes.new.items }
-{
-    if function < sizes.len() && matches!(sizes[function], Size::Unknown) {
-        sizes[function] = Size::Open;
+fn enter(function: usize, seen: &mut Vec<bool>, open: &mut Vec<Visit>) -> Result<(), Memory> {
+    if function < seen.len() && !seen[function] {
+        seen[function] = true;
         open.push(Visit { function, node: 0 })?;
     }
     Ok(())
 }
 
-// Goes over one function's nodes up to the first call of a function whose size is not known; behind the last one its own is.
+// Goes over one function's nodes up to the first call of a function that was not looked at; behind the last one its own size is found.
 fn go_on(
     graphs: &[FnGraph],
     visit: Visit,
-    sizes: &mut Vec<Size>,
+    seen: &mut Vec<bool>,
+    sizes: &mut Vec<u64>,
     open: &mut Vec<Visit>,
 ) -> Result<(), Memory>
     ensures { AreSizes graphs.now sizes.old.items → AreSizes graphs.now sizes.new.items }
@@ -103,17 +108,17 @@ fn go_on(
     for node in visit.node..own.len() {
         if let Node::Call(callee, _) = own[node] {
             let callee = callee as usize;
-            if callee < sizes.len() && matches!(sizes[callee], Size::Unknown) {
+            if callee < seen.len() && !seen[callee] {
                 open.push(Visit {
                     function: visit.function,
                     node,
                 })?;
-                return enter(callee, sizes, open);
+                return enter(callee, seen, open);
             }
         }
     }
     let nodes = sum(own, sizes);
-    set_size(sizes, visit.function, nodes);
+    set_size(visit.function, nodes, sizes);
     Ok(())
 }
 
@@ -127,32 +132,73 @@ fn own_nodes(graphs: &[FnGraph], function: usize) -> &[Node]
     }
 }
 
-// The size of a function is known from now on.
-fn set_size(sizes: &mut Vec<Size>, function: usize, nodes: u64)
-    ensures { (size : ℕ → ℕ) → AreBelow size sizes.old.items → nodes ≤ size function → AreBelow size sizes.new.items }
+/// Raises the size of a function, if it is smaller.
+fn set_size(function: usize, nodes: u64, sizes: &mut Vec<u64>) -> bool
+    ensures raised { IsTrue result → (function < length sizes.old.items) × (size_in sizes.old.items function < nodes) × (sizes.new.items ≡ slice_set sizes.old.items function nodes) }
+    ensures same { result ≡ false → sizes.new.items ≡ sizes.old.items }
+    ensures enough { result ≡ false → function < length sizes.old.items → nodes ≤ size_in sizes.old.items function }
 {
-    if function < sizes.len() {
-        sizes[function] = Size::Known(nodes);
+    if function >= sizes.len() || nodes <= sizes[function] {
+        return false;
     }
+    sizes[function] = nodes;
+    true
 }
 
-// The nodes of a function's own graph and of the copies in it.
-fn sum(own: &[Node], sizes: &[Size]) -> u64
-    ensures { (size : ℕ → ℕ) → AreBelow size sizes.now → result ≤ nodes_among size own.now }
+/// The nodes of a function's own graph and of the copies in it.
+fn sum(own: &[Node], sizes: &[u64]) -> u64
+    ensures { result ≡ min (nodes_among (size_in sizes.now) own.now) 18446744073709551615 }
 {
     let mut nodes = 0u64;
     for node in own {
-        nodes = nodes.saturating_add(nodes_with(*node, sizes));
+        nodes = nodes.saturating_add(with_copy(*node, sizes));
     }
     nodes
 }
 
-// A node, and the copy behind it if it is a call.
-fn nodes_with(node: Node, sizes: &[Size]) -> u64
-    ensures { (size : ℕ → ℕ) → AreBelow size sizes.now → result ≤ nodes_at size node }
+/// A node, and the copy behind it if it is a call.
+pub(crate) fn with_copy(node: Node, sizes: &[u64]) -> u64
+    ensures { result ≡ min (nodes_at (size_in sizes.now) node) 18446744073709551615 }
 {
     match node {
         Node::Call(callee, _) => known(sizes, callee).saturating_add(1),
         Node::Plain | Node::Error(_, _) | Node::End => 1,
     }
+}
+
+/// Raises sizes until none is too small.
+fn settle(graphs: &[FnGraph], sizes: &mut Vec<u64>)
+    requires { AreSizes graphs.now sizes.old.items }
+    ensures sizes { AreSizes graphs.now sizes.new.items }
+    ensures settled { AreSettled graphs.now sizes.new.items }
+{
+    while raise_all(graphs, sizes) {}
+}
+
+/// Raises each size that is too small, and says whether there was one.
+fn raise_all(graphs: &[FnGraph], sizes: &mut Vec<u64>) -> bool
+    requires { AreSizes graphs.now sizes.old.items }
+    ensures sizes { AreSizes graphs.now sizes.new.items }
+    ensures raised { IsTrue result → room sizes.new.items < room sizes.old.items }
+    ensures settled { result ≡ false → AreSettled graphs.now sizes.new.items }
+{
+    let mut raised = false;
+    for function in 0..graphs.len() {
+        raised |= raise(graphs, function, sizes);
+    }
+    raised
+}
+
+/// Raises the size of a function if it is too small, but not beyond what is many, and says whether it was.
+fn raise(graphs: &[FnGraph], function: usize, sizes: &mut Vec<u64>) -> bool
+    requires sizes { AreSizes graphs.now sizes.old.items }
+    requires there { function < length graphs.now }
+    ensures sizes { AreSizes graphs.now sizes.new.items }
+    ensures raised { IsTrue result → room sizes.new.items < room sizes.old.items }
+    ensures same { result ≡ false → sizes.new.items ≡ sizes.old.items }
+    ensures settled { result ≡ false → IsSettled graphs.now sizes.new.items function }
+{
+    let nodes = sum(own_nodes(graphs, function), sizes);
+    let few = nodes.min(MANY);
+    set_size(function, few, sizes)
 }
