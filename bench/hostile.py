@@ -28,7 +28,7 @@ ROOT = pathlib.Path(__file__).resolve().parent.parent
 FORMS = [
     (0, r"ENDED|SAFE|ACCEPTED"),
     (1, r"UNSAFE (reach|overflow|zero|shift|index|missing) at \d+:\d+"),
-    (2, r"UNKNOWN (turns|units|learn) \d+|UNKNOWN replay"),
+    (2, r"UNKNOWN (turns|units|learn) \d+"),
     (3, r"REJECTED \d \w+( [\w-]+)*"),
     (4, r"NEEDS MORE"),
     (5, r"BAD VALUE \d+"),

@@ -1,11 +1,7 @@
 -- Errors that are met, by the laws of blocks and chains.
-use Rattle.std.proofs.Common.{[], refl, arith}
-use Rattle.lv_base.specs.declared.fault.ErrorKind.TheVariants.{Reach}
-use Rattle.c_graph.specs.Steps.{IsWhole}
-use Rattle.c_graph.specs.Parts.{error_flow}
 use Rattle.block_laws.proofs.Runs.{blocks_keep_errors}
 use Rattle.edge_chain_laws.proofs.Along.{chains_keep_errors}
-use Rattle.join_laws.specs.Keeping.{BlocksKeep, ChainsKeep, ErrorFlowFails}
+use Rattle.join_laws.specs.Keeping.{BlocksKeep, ChainsKeep}
 
 pub blocks_keep : BlocksKeep
 blocks_keep g h plan flow joined is draws kind at (v, (after, run, error)) =
@@ -14,9 +10,3 @@ blocks_keep g h plan flow joined is draws kind at (v, (after, run, error)) =
 
 pub chains_keep : ChainsKeep
 chains_keep g edges is draws kind at (v, (after, run, error)) = (v, (after, chains_keep_errors g edges draws v after kind at is run error, error))
-
-nothing_whole : IsWhole [] []
-nothing_whole = record { length = refl; fits = λ k lt. absurd (omega (arith, lt)) }
-
-pub error_flow_fails : ErrorFlowFails
-error_flow_fails = ([], Reach, 0, (error_flow.entry, ([], ([], [], nothing_whole, (refl, refl, refl)), refl)))

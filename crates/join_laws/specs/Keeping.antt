@@ -3,8 +3,7 @@ use Rattle.std.specs.Prelude.{ℕ, ℤ, List}
 use Rattle.lv_base.specs.declared.fault.ErrorKind.{ErrorKind}
 use Rattle.c_graph.specs.declared.graph.Edge.{Edge}
 use Rattle.c_graph.specs.Shape.{Flow, IsFlow}
-use Rattle.c_graph.specs.Parts.{error_flow}
-use Rattle.program_graphs.specs.Standing.{MeetsError, MeetsSome}
+use Rattle.program_graphs.specs.Standing.{MeetsError}
 use Rattle.block_rule.specs.Plans.{Plan}
 use Rattle.block_rule.specs.Blocked.{IsBlocked}
 use Rattle.edge_chains.specs.Joining.{IsJoined}
@@ -19,6 +18,3 @@ BlocksKeep = (g h : Flow) (plan : Plan) → IsFlow g → IsFlow h → IsBlocked 
 
 abbrev pub ChainsKeep : Type 0
 ChainsKeep = (g : Flow) (edges : List Edge) → IsJoined g.nodes g.entry g.edges edges → KeepsErrors g (with_edges g edges)
-
-abbrev pub ErrorFlowFails : Type 0
-ErrorFlowFails = MeetsSome error_flow

@@ -4,7 +4,7 @@
 //! run meets.
 #![tactic(auto)]
 
-ghost use Rattle.join_laws.specs.Keeping.{BlocksKeep, ChainsKeep, ErrorFlowFails};
+ghost use Rattle.join_laws.specs.Keeping.{BlocksKeep, ChainsKeep};
 
 /// Each error that a run of a graph meets, a run of the graph of its blocks meets, with the same values.
 pub fn blocks_keep()
@@ -14,9 +14,4 @@ pub fn blocks_keep()
 /// Each error that a run of a graph meets, a run of the graph with joined chains meets, with the same values.
 pub fn chains_keep()
     ensures { ChainsKeep }
-{}
-
-/// The graph that stands where parts make none has an error.
-pub fn error_flow_fails()
-    ensures { ErrorFlowFails }
 {}

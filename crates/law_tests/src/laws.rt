@@ -134,7 +134,9 @@ fn instructions_and_cells() {
     code_flow_laws::typed_errors_follow();
     code_start_laws::program_opens();
     code_start_laws::program_errors_follow();
+    function_graph_laws::following_makes_flows();
     source_graph_laws::inlined_graphs_stand();
+    source_graph_laws::joined_graphs_stand();
 }
 
 #[test]
@@ -149,6 +151,18 @@ fn runs_over_graphs_that_come_back() {
     inline_back_laws::inlined_runs_come_back();
     inline_back_laws::met_errors_come_back();
     inline_back_laws::inlined_errors_come_back();
+    edge_count_laws::built_is_sparse();
+}
+
+#[test]
+fn code_that_graphs_are_made_of() {
+    code_fit_laws::code_is_fit();
+    code_fit_laws::calls_are_entries();
+    code_fit_laws::code_keeps();
+    code_fit_laws::calls_begin();
+    code_fit_laws::ranges_are_there();
+    code_fit_laws::ranges_are_of();
+    code_fit_laws::typed_code_passes();
 }
 
 #[test]
@@ -295,15 +309,19 @@ fn chains_of_edges() {
     edge_chain_laws::chains_keep_errors();
     join_laws::blocks_keep();
     join_laws::chains_keep();
-    join_laws::error_flow_fails();
 }
 
 #[test]
 fn runs_that_come_back() {
+    drawn_value_laws::drawn_are_words();
+    drawn_value_laws::errors_meet();
     edge_chain_back_laws::chains_come_back();
     edge_chain_back_laws::chain_errors_come_back();
+    edge_chain_back_laws::chain_paths_come_back();
+    edge_chain_back_laws::own_paths_come_back();
     block_back_laws::blocks_come_back();
     block_back_laws::block_errors_come_back();
+    block_back_laws::block_paths_come_back();
     block_edges::complements_cover();
 }
 

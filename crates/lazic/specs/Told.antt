@@ -21,7 +21,6 @@ kept_in (verdict.Unsafe kind place values text) = Unsafe values
 kept_in (verdict.Over number count) = Limited number count
 kept_in (verdict.OutOfUnits units) = Nothing
 kept_in (verdict.OutOfLearn learn) = Nothing
-kept_in verdict.Unreplayed = Nothing
 kept_in verdict.Accepted = Nothing
 kept_in (verdict.Rejected rejection) = Nothing
 kept_in (verdict.Faulty fault place) = Nothing

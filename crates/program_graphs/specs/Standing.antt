@@ -1,5 +1,5 @@
--- When a graph stands for a program: errors that the program's runs end in are met by runs of the graph.
-use Rattle.std.specs.Prelude.{ℕ, ℤ, ◌≡◌, ◌⊎◌, List, take, Some, slice_get}
+-- When a graph stands for a program: errors that the program's runs end in are met by runs of the graph, and the other way.
+use Rattle.std.specs.Prelude.{ℕ, ℤ, ◌≡◌, List, take, Some, slice_get}
 use Rattle.lv_base.specs.declared.fault.ErrorKind.{ErrorKind}
 use Rattle.c_run.specs.Run.{Error}
 use Rattle.c_typed.specs.Tree.{Program}
@@ -8,6 +8,7 @@ use Rattle.c_graph.specs.declared.graph.NodeId.{NodeId}
 use Rattle.c_graph.specs.declared.graph.Node.TheVariants.{Error as AnError}
 use Rattle.c_graph.specs.Shape.{Flow}
 use Rattle.c_graph.specs.Runs.{RunsTo}
+use Rattle.program_graphs.specs.Returning.{ErrorsReturn}
 
 -- a run of the graph draws these values and ends at an error node of this kind and offset
 abbrev pub MeetsError : Flow → List ℤ → ErrorKind → ℕ → Type 0
@@ -17,11 +18,7 @@ MeetsError g draws kind at = (v : NodeId) × ((after : List ℕ) × RunsTo g dra
 abbrev pub ErrorsFollow : Program → Flow → Type 0
 ErrorsFollow p g = (turns : ℕ) (inputs : List ℤ) (kind : ErrorKind) (at taken : ℕ) → run turns p inputs ≡ Error kind at taken → MeetsError g (take taken inputs) kind at
 
--- some run of the graph meets an error
-abbrev pub MeetsSome : Flow → Type 0
-MeetsSome g = (draws : List ℤ) × (kind : ErrorKind) × (at : ℕ) × MeetsError g draws kind at
-
--- The graph has the program's errors. Where a test failed while it was made, it has an error in any case, so that nothing is called safe
--- by mistake.
-abbrev pub StandsFor : Flow → Program → Type 0
-StandsFor g p = ErrorsFollow p g ⊎ MeetsSome g
+-- The graph has the program's errors, and no others.
+pub record StandsFor (g : Flow) (p : Program) : Type 0 where
+  pub follow : ErrorsFollow p g
+  pub back : ErrorsReturn p g

@@ -4,7 +4,7 @@ use Rattle.std.specs.Prelude.{Option, Some, None, Result, Ok, Err, OnOk}
 use Rattle.std.proofs.lemmas.Slice.Eq.{bytes_eq-Decides}
 use Rattle.request_words.specs.Asked.{Verify, Verifying, IsApart, is_named_in}
 use Rattle.verdicts.specs.declared.verdict.Verdict.{Verdict}
-use Rattle.verdicts.specs.declared.verdict.Verdict.TheVariants.{Safe, Unsafe, OutOfUnits, OutOfLearn, Unreplayed, Accepted, Rejected, Faulty, Over, ReadFault, NoMemory}
+use Rattle.verdicts.specs.declared.verdict.Verdict.TheVariants.{Safe, Unsafe, OutOfUnits, OutOfLearn, Accepted, Rejected, Faulty, Over, ReadFault, NoMemory}
 use Rattle.request_answers.specs.Stored.{File, IsOther, IsStored, IsUntouched, both_named, file_for, in_file, witness_file}
 
 pub on_any : {A E : Type 0} (r : Result A E) (P : Type 0) → P → OnOk r P
@@ -31,7 +31,6 @@ files_differ w (Safe text) t apart = options_differ w.cert w.witness text t apar
 files_differ w (Unsafe kind place values text) t apart = options_differ w.run w.witness text t apart.1
 files_differ w (OutOfUnits n) t apart = tt
 files_differ w (OutOfLearn n) t apart = tt
-files_differ w Unreplayed t apart = tt
 files_differ w Accepted t apart = tt
 files_differ w (Rejected rejection) t apart = tt
 files_differ w (Faulty fault place) t apart = tt

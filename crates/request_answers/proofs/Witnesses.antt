@@ -14,7 +14,7 @@ use Rattle.source_verdicts.specs.Verified.{IsFound, IsVerified}
 use Rattle.source_witnesses.specs.declared.stamp.Stamp.{Stamp}
 use Rattle.source_witnesses.specs.Witnesses.{safe_text, unsafe_text}
 use Rattle.verdicts.specs.declared.verdict.Verdict.{Verdict}
-use Rattle.verdicts.specs.declared.verdict.Verdict.TheVariants.{Safe, Unsafe, OutOfUnits, OutOfLearn, Unreplayed, Accepted, Rejected, Faulty, Over, ReadFault, NoMemory}
+use Rattle.verdicts.specs.declared.verdict.Verdict.TheVariants.{Safe, Unsafe, OutOfUnits, OutOfLearn, Accepted, Rejected, Faulty, Over, ReadFault, NoMemory}
 use Rattle.request_answers.specs.Answers.{IsRefused, IsVerifyAnswer}
 use Rattle.request_answers.specs.Answers.IsVerifyAnswer.{too_long, refused, verified, read_failed, no_memory}
 use Rattle.request_answers.specs.Witnessed.{has_witness, is_reach, safe_witness_of, offset_witness_of, unsafe_witness_of, witness_of, IsTextOf, IsReachWitness, IsWitnessOf, IsWitnessBy}
@@ -36,7 +36,6 @@ module _ (model : Model) (source : List ℕ) (stamp : Stamp) where
   no_witness name (Unsafe kind place values text) h = no_reach name place values kind h
   no_witness name (OutOfUnits n) h = refl
   no_witness name (OutOfLearn n) h = refl
-  no_witness name Unreplayed h = refl
   no_witness name Accepted h = refl
   no_witness name (Rejected rejection) h = refl
   no_witness name (Faulty fault place) h = refl
@@ -53,7 +52,6 @@ module _ (model : Model) (source : List ℕ) (stamp : Stamp) where
   refusal_silent (Unsafe kind place values text) h = absurd h
   refusal_silent (OutOfUnits n) h = absurd h
   refusal_silent (OutOfLearn n) h = absurd h
-  refusal_silent Unreplayed h = absurd h
   refusal_silent Accepted h = absurd h
   refusal_silent (Rejected rejection) h = absurd h
   refusal_silent (Faulty fault place) h = refl
@@ -114,7 +112,6 @@ module _ (p : Program) (g : Flow) (model : Model) (source : List ℕ) (stamp : S
   found_witness name (Unsafe kind place values text) f found = unsafe_case name place values text f kind found
   found_witness name (OutOfUnits n) f found = refl
   found_witness name (OutOfLearn n) f found = refl
-  found_witness name Unreplayed f found = refl
   found_witness name Accepted f found = refl
   found_witness name (Rejected rejection) f found = refl
   found_witness name (Faulty fault place) f found = refl

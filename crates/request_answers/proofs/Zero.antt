@@ -6,7 +6,7 @@ use Rattle.task_gen.specs.Generated.{generated}
 use Rattle.request_words.specs.Asked.{Check, Verify, Generate, plain_learn, plain_model, plain_units}
 use Rattle.verdicts.specs.Lines.{status_of}
 use Rattle.verdicts.specs.declared.verdict.Verdict.{Verdict}
-use Rattle.verdicts.specs.declared.verdict.Verdict.TheVariants.{Safe, Unsafe, OutOfUnits, OutOfLearn, Unreplayed, Accepted, Rejected, Faulty, Over, ReadFault, NoMemory}
+use Rattle.verdicts.specs.declared.verdict.Verdict.TheVariants.{Safe, Unsafe, OutOfUnits, OutOfLearn, Accepted, Rejected, Faulty, Over, ReadFault, NoMemory}
 use Rattle.request_answers.specs.Answers.{IsCheckAnswer, IsVerifyAnswer}
 use Rattle.request_answers.specs.Laws.{IsCertified, ZeroIsCertified}
 use Rattle.request_answers.proofs.Checks.{check_certified, check_not_safe}
@@ -19,7 +19,6 @@ zero_verdict Accepted e = inr refl
 zero_verdict (Unsafe kind place values text) e = absurd (cc)
 zero_verdict (OutOfUnits n) e = absurd (cc)
 zero_verdict (OutOfLearn n) e = absurd (cc)
-zero_verdict Unreplayed e = absurd (cc)
 zero_verdict (Rejected rejection) e = absurd (cc)
 zero_verdict (Faulty fault place) e = absurd (cc)
 zero_verdict (Over number count) e = absurd (cc)

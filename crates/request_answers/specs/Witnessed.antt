@@ -19,7 +19,7 @@ use Rattle.source_witnesses.specs.declared.stamp.Stamp.{Stamp}
 use Rattle.source_witnesses.specs.Witnesses.{safe_text, unsafe_text}
 use Rattle.request_words.specs.Asked.{Asked, Check, Verify, Generate}
 use Rattle.verdicts.specs.declared.verdict.Verdict.{Verdict}
-use Rattle.verdicts.specs.declared.verdict.Verdict.TheVariants.{Safe, Unsafe, OutOfUnits, OutOfLearn, Unreplayed, Accepted, Rejected, Faulty, Over, ReadFault, NoMemory}
+use Rattle.verdicts.specs.declared.verdict.Verdict.TheVariants.{Safe, Unsafe, OutOfUnits, OutOfLearn, Accepted, Rejected, Faulty, Over, ReadFault, NoMemory}
 
 -- ---- Which text it is
 
@@ -48,7 +48,6 @@ witness_of name source tree model g stamp (Safe text) f = safe_witness_of name s
 witness_of name source tree model g stamp (Unsafe kind place values text) f = unsafe_witness_of name source tree model stamp kind f
 witness_of name source tree model g stamp (OutOfUnits n) f = None
 witness_of name source tree model g stamp (OutOfLearn n) f = None
-witness_of name source tree model g stamp Unreplayed f = None
 witness_of name source tree model g stamp Accepted f = None
 witness_of name source tree model g stamp (Rejected rejection) f = None
 witness_of name source tree model g stamp (Faulty fault place) f = None
@@ -83,7 +82,6 @@ has_witness (Safe text) = true
 has_witness (Unsafe kind place values text) = is_reach kind
 has_witness (OutOfUnits n) = false
 has_witness (OutOfLearn n) = false
-has_witness Unreplayed = false
 has_witness Accepted = false
 has_witness (Rejected rejection) = false
 has_witness (Faulty fault place) = false
@@ -129,7 +127,6 @@ IsWitnessOf name model source stamp (Safe text) t = (witness : List ℕ) × (t �
 IsWitnessOf name model source stamp (Unsafe kind place values text) t = IsReachWitness name model source stamp place values kind t
 IsWitnessOf name model source stamp (OutOfUnits n) t = t ≡ None
 IsWitnessOf name model source stamp (OutOfLearn n) t = t ≡ None
-IsWitnessOf name model source stamp Unreplayed t = t ≡ None
 IsWitnessOf name model source stamp Accepted t = t ≡ None
 IsWitnessOf name model source stamp (Rejected rejection) t = t ≡ None
 IsWitnessOf name model source stamp (Faulty fault place) t = t ≡ None

@@ -124,7 +124,6 @@ fn of_verdict(
         }
         Verdict::OutOfUnits(_) => Ok(None),
         Verdict::OutOfLearn(_) => Ok(None),
-        Verdict::Unreplayed => Ok(None),
         Verdict::Accepted => Ok(None),
         Verdict::Rejected(_) => Ok(None),
         Verdict::Faulty(_, _) => Ok(None),

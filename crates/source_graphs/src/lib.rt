@@ -3,7 +3,8 @@
 
 ghost use Rattle.std.specs.Prelude.{IfErr, IfOk};
 ghost use Rattle.c_typed.specs.Parts.{tree_of};
-ghost use Rattle.program_graphs.specs.Standing.{StandsFor};
+ghost use Rattle.program_graphs.specs.Standing.{ErrorsFollow, StandsFor};
+ghost use Rattle.program_graphs.specs.Returning.{ErrorsComeBack};
 ghost use Rattle.source_graphs.specs.Refusals.{IsTooBig};
 
 use block_join::join_blocks;
@@ -11,10 +12,14 @@ use c_graph::Graph;
 use c_rules::Examined;
 use call_inline::inline;
 use cfg_build::build;
+use code_fit_laws::typed_code_passes;
+use edge_count_laws::built_is_sparse;
 use elaboration_laws::sources_read;
+use function_graph_laws::following_makes_flows;
 use lv_base::{Memory, Model, SourceFail};
 use lv_outside::{FileFail, Folder, Got, HostFolder};
 use run_replay::orders_agree;
+use source_graph_laws::joined_graphs_stand;
 use std::alloc::{AllocError, Global};
 use std::rt::Files;
 
@@ -59,12 +64,16 @@ pub fn examined(alloc: Global, source: &[u8], model: Model) -> Result<Examined, 
 }
 
 /// The graph of a program with each call a copy, a node for each instruction: each run of the program that ends in an error has a run
-/// of the graph to that error. Fails with `Over` for limit 4 or 5.
+/// of the graph to that error, and each run of the graph to an error is one of the program. Fails with `Over` for limit 4 or 5.
 pub fn whole_graph(alloc: Global, examined: &Examined) -> Result<Graph, SourceFail>
-    ensures stands { IfOk result (λ g. StandsFor g (tree_of examined.now.typed)) }
+    ensures follow { IfOk result (ErrorsFollow (tree_of examined.now.typed)) }
+    ensures back { IfOk result (ErrorsComeBack (tree_of examined.now.typed)) }
     ensures limits { IfErr result (IsTooBig examined.now.typed examined.now.order) }
 {
     orders_agree();
+    typed_code_passes();
+    following_makes_flows();
+    built_is_sparse();
     let typed = examined.typed();
     let _model = typed.model();
     let _order = examined.order();
@@ -73,14 +82,16 @@ pub fn whole_graph(alloc: Global, examined: &Examined) -> Result<Graph, SourceFa
     inline(alloc, &graphs)
 }
 
-/// The graph of a program's blocks: each run of the program that ends in an error has a run of the graph to that error. Fails with
-/// `Over` for limit 4 or 5, which the graph of its instructions passes.
+/// The graph of a program's blocks: each run of the program that ends in an error has a run of the graph to that error, and each run of the
+/// graph to an error is one of the program. Fails with `Over` for limit 4 or 5, which the graph of its instructions passes.
 pub fn blocks_of(alloc: Global, examined: &Examined) -> Result<Graph, SourceFail>
     ensures stands { IfOk result (λ g. StandsFor g (tree_of examined.now.typed)) }
     ensures limits { IfErr result (IsTooBig examined.now.typed examined.now.order) }
 {
+    joined_graphs_stand();
     let graph = whole_graph(alloc, examined)?;
-    match join_blocks(alloc, &graph) {
+    let _entry = graph.entry();
+    match join_blocks(alloc, graph) {
         Ok(blocks) => Ok(blocks),
         Err(Memory) => Err(SourceFail::Memory),
     }

@@ -7,7 +7,7 @@ use Rattle.c_graph.specs.Runs.{Formulas}
 use Rattle.stored_text.specs.declared.StoredFail.{StoredFail}
 use Rattle.stored_text.specs.declared.StoredFail.TheVariants as stored
 use Rattle.verdicts.specs.declared.verdict.Verdict.{Verdict}
-use Rattle.verdicts.specs.declared.verdict.Verdict.TheVariants.{Safe, Unsafe, OutOfUnits, OutOfLearn, Unreplayed, Accepted, Rejected, Faulty, Over, ReadFault, NoMemory}
+use Rattle.verdicts.specs.declared.verdict.Verdict.TheVariants.{Safe, Unsafe, OutOfUnits, OutOfLearn, Accepted, Rejected, Faulty, Over, ReadFault, NoMemory}
 use Rattle.source_verdicts.specs.declared.found.Found.TheVariants.{OfMap, Nothing}
 use Rattle.source_verdicts.specs.Verified.{IsByMap, IsFound, unwritten_for}
 
@@ -16,7 +16,6 @@ found_map p g source model m (Safe text) h = (m, refl, h)
 found_map p g source model m (Unsafe kind place values text) h = absurd h
 found_map p g source model m (OutOfUnits n) h = tt
 found_map p g source model m (OutOfLearn n) h = tt
-found_map p g source model m Unreplayed h = tt
 found_map p g source model m (Over number count) h = tt
 found_map p g source model m NoMemory h = tt
 found_map p g source model m Accepted h = tt

@@ -1,57 +1,105 @@
 -- Values that were replayed.
-use Rattle.std.proofs.Common.{◌≡◌, ◌∙◌, sym, ap, refl, ℕ, ℤ, List, [], ◌∷◌, Bool, true, false, ◌<◌, ◌^◌, arith}
-use Rattle.std.specs.Prelude.{Some, None, ◌==◌, ◌&&◌, nat_lt, if◌then◌else◌, unsigned_abs}
-use Rattle.std.specs.List.{list_all}
-use Rattle.std.proofs.lemmas.Bool.Decides.{nat_tests}
+use Rattle.std.proofs.Common.{◌≡◌, ◌∙◌, sym, ap, ℕ, ℤ, List, [], ◌∷◌, ◌<◌, ◌*◌, ◌+◌, ◌≤◌, ◌^◌, suc, zero, length, length-append, Option, None, Some, arith, reverse, subst}
+use Rattle.std.specs.Prelude.{unsigned_abs}
+use Rattle.std.proofs.lemmas.List.{length-reverse}
 use Rattle.lv_base.specs.declared.fault.ErrorKind.{ErrorKind}
 use Rattle.c_run.specs.Run as run
+use Rattle.c_typed.specs.Tree.{Program}
+use Rattle.c_typed.specs.Run as typed
+use Rattle.c_graph.specs.declared.graph.EdgeId.{EdgeId}
+use Rattle.c_graph.specs.Shape.{Flow, IsFlow}
+use Rattle.reach_tree.specs.declared.vertex.VertexId.{VertexId}
+use Rattle.reach_tree.specs.declared.vertex.Vertex.{Vertex}
+use Rattle.reach_tree.specs.Trees.{vertex_at}
+use Rattle.cover_engine.specs.Unwindings.{Unwound, path_of, path_up}
+use Rattle.cover_engine.specs.Units.{edge_in, edges_to}
+use Rattle.refine.specs.Refinements.{IsDriven, IsErrorLeaf, edges_of}
+use Rattle.explore.specs.Ends.{IsFeasible}
 use Rattle.slot_code.specs.declared.reply.Ending.{Ending}
+use Rattle.slot_code.specs.declared.reply.Ending.TheVariants as ending
 use Rattle.slot_code.specs.Machine.{ending_of}
 use Rattle.stored_text.specs.RunText.{AreShort}
-use Rattle.source_verdicts.specs.declared.replaying.Met.{Met}
-use Rattle.source_verdicts.specs.Verified.{is_short_value, met_in, met_at}
+use Rattle.program_graphs.specs.Returning.{ErrorsReturn, FailsAlong}
+use Rattle.drawn_value_laws.specs.Drawn.{AreWords, DrawnAreWords, ErrorsMeet}
+use Rattle.source_verdicts.specs.Verified.{EndsSo}
 
-both_true : (a b : Bool) → a && b ≡ true → (a ≡ true) × (b ≡ true)
-both_true true true h = (refl, refl)
-both_true true false h = cc
-both_true false b h = cc
+pub words_short : (values : List ℤ) → AreWords values → AreShort values
+words_short [] h = tt
+words_short (v ∷ values) h = let one : unsigned_abs v < 2 ^ 64 = h.0 in (omega (arith, one), words_short values h.1)
 
-short_one : (n : ℕ) → nat_lt n 100000000000000000000 ≡ true → n < 10 ^ 20
-short_one n h = grind (arith, nat_tests)
+-- ---- A path of an unwinding is no longer than the unwinding
 
-pub all_short : (values : List ℤ) → list_all is_short_value values ≡ true → AreShort values
-all_short [] h = tt
-all_short (v ∷ values) h =
-    let parts = both_true (is_short_value v) (list_all is_short_value values) h in
-    (short_one (unsigned_abs v) parts.0, all_short values parts.1)
+up-count : (vs : List Vertex) (n v : ℕ) → length (path_up vs n v) ≤ n
+up-count vs zero v = omega arith
+up-count vs (suc n) v =
+    elim (vertex_at vs v).parent as (λ (o : Option VertexId). length (v ∷ elim o [ None ↦ [] | Some p ↦ path_up vs n p.0 ]) ≤ suc n) [
+      | None ↦ omega arith
+      | Some p ↦ (let h : length (path_up vs n p.0) ≤ n = up-count vs n p.0 in omega (arith, h))
+    ]
 
-pub same_met : (n : ℕ) (e : run.End) → met_at n (ending_of e) ≡ met_in n e
-same_met n (run.Error kind at drawn) = refl
-same_met n run.Ended = refl
-same_met n run.NoInput = refl
-same_met n (run.BadInput i) = refl
-same_met n (run.Spent at store) = refl
+edges-count : (vs : List Vertex) (xs : List ℕ) → length (edges_to vs xs) ≤ length xs
+edges-count vs [] = omega arith
+edges-count vs (x ∷ xs) =
+    let one : length (edge_in (vertex_at vs x).by) ≤ 1 = elim (vertex_at vs x).by as (λ o. length (edge_in o) ≤ 1) [ None ↦ omega arith | Some e ↦ omega arith ] in
+    let rest : length (edges_to vs xs) ≤ length xs = edges-count vs xs in
+    let both : length (edges_to vs (x ∷ xs)) ≡ length (edge_in (vertex_at vs x).by) + length (edges_to vs xs) = length-append (edge_in (vertex_at vs x).by) (edges_to vs xs) in
+    omega (arith, one, rest, both)
 
-abbrev met_of : ErrorKind → ℕ → Met
-met_of kind at = record { kind = kind; at = at }
+pub path-count : (u : Unwound) (v : VertexId) → length (edges_of u v) ≤ length u.vertices
+path-count u v =
+    let edges : length (edges_of u v) ≤ length (reverse (path_of u.vertices v)) = edges-count u.vertices (reverse (path_of u.vertices v)) in
+    let turned : length (reverse (path_of u.vertices v)) ≡ length (path_of u.vertices v) = length-reverse (path_of u.vertices v) in
+    let up : length (path_of u.vertices v) ≤ length u.vertices = up-count u.vertices (length u.vertices) v.0 in
+    omega (arith, edges, turned, up)
 
-by_count : (drawn n : ℕ) (k : ErrorKind) (a : ℕ) (m : Met) (b : Bool) → (drawn == n) ≡ b → (if b then Some (met_of k a) else None) ≡ Some m → run.Error k a drawn ≡ run.Error m.kind m.at n
-by_count drawn n k a m true e h =
-    let same : drawn ≡ n = grind (arith, nat_tests) in
-    let is : met_of k a ≡ m = cc in
-    ap (λ (x : ℕ). run.Error k a x) same ∙ ap (λ (x : Met). run.Error x.kind x.at n) is
-by_count drawn n k a m false e h = absurd (cc)
+-- ---- A found path
 
-error_in : (n : ℕ) (e : run.End) (m : Met) → met_in n e ≡ Some m → e ≡ run.Error m.kind m.at n
-error_in n (run.Error k a drawn) m h = by_count drawn n k a m (drawn == n) refl h
-error_in n run.Ended m h = absurd (cc)
-error_in n run.NoInput m h = absurd (cc)
-error_in n (run.BadInput i) m h = absurd (cc)
-error_in n (run.Spent a store) m h = absurd (cc)
+-- it is a run to an error, along no more edges than there are vertices
+pub record Found (g : Flow) (u : Unwound) (values : List ℤ) : Type 0 where
+  pub path : List EdgeId
+  pub kind : ErrorKind
+  pub at : ℕ
+  pub fails : FailsAlong g path values kind at
+  pub short : length path ≤ length u.vertices
 
--- an error that was met once all values were drawn is the run's
-pub error_met : (n : ℕ) (ending : Ending) (e : run.End) (m : Met) → ending ≡ ending_of e → Some m ≡ met_at n ending → e ≡ run.Error m.kind m.at n
-error_met n ending e m is met = error_in n e m (sym (same_met n e) ∙ sym (ap (met_at n) is) ∙ sym met)
+pub found_fails : (g : Flow) (u : Unwound) (values : List ℤ) → IsFeasible g u values → Found g u values
+found_fails g u values f =
+    let driven = f.driven in
+    let node = f.error.node in record {
+      path = edges_of u f.leaf;
+      kind = node.0;
+      at = node.1.0;
+      fails = record { store = driven.0; last = (vertex_at u.vertices f.leaf.0).node; after = driven.1; whole = driven.2; runs = driven.3; error = node.1.1 };
+      short = path-count u f.leaf;
+    }
 
-pub none_met : (n : ℕ) (ending : Ending) (e : run.End) → ending ≡ ending_of e → None ≡ met_at n ending → met_in n e ≡ None
-none_met n ending e is met = sym (same_met n e) ∙ sym (ap (met_at n) is) ∙ sym met
+-- the values of such a path fit into 64 bits
+pub found_words : (g : Flow) (u : Unwound) (values : List ℤ) → DrawnAreWords → IsFlow g → IsFeasible g u values → AreWords values
+found_words g u values words flow f =
+    let along = (found_fails g u values f).fails in words g (found_fails g u values f).path g.entry along.last along.store along.after values flow along.runs
+
+-- they lead the program to the error, with so many turns for each vertex
+pub found_ends : (p : Program) (g : Flow) (u : Unwound) (values : List ℤ) (turns : ℕ) → ErrorsMeet → ErrorsReturn p g → IsFeasible g u values → 2147483647 * length u.vertices ≤ turns
+    → EndsSo p turns values
+found_ends p g u values turns meet back f enough =
+    let found = found_fails g u values f in
+    (found.kind, found.at, meet p g found.path values turns found.kind found.at back found.fails (omega (arith, found.short, enough)))
+
+-- ---- How the replay ends
+
+abbrev kind-in : ErrorKind → Ending → ErrorKind
+kind-in d (ending.Error kind at drawn) = kind
+kind-in d e = d
+
+abbrev at-in : Ending → ℕ
+at-in (ending.Error kind at drawn) = at
+at-in e = 0
+
+-- where the run ends in an error, so does its replay
+pub error_read : (r : run.End) (kind read : ErrorKind) (at offset count drawn : ℕ) → r ≡ run.Error kind at count → ending.Error read offset drawn ≡ ending_of r
+    → r ≡ run.Error read offset count
+error_read r kind read at offset count drawn is told =
+    let both : ending.Error read offset drawn ≡ ending.Error kind at count = told ∙ ap ending_of is in
+    let kinds : read ≡ kind = ap (kind-in read) both in
+    let places : offset ≡ at = ap at-in both in
+    is ∙ sym (ap (λ (k : ErrorKind). run.Error k at count) kinds) ∙ sym (ap (λ (a : ℕ). run.Error read a count) places)

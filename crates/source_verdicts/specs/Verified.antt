@@ -31,12 +31,11 @@ use Rattle.cert_text.specs.Reading.{read_cert_of}
 use Rattle.cert_text.specs.Writing.{write_cert_of}
 use Rattle.cert_build.specs.Proofs.{IsLowest}
 use Rattle.cert_verdicts.specs.Judged.{IsCertificate}
-use Rattle.source_verdicts.specs.declared.replaying.Met.{Met}
 use Rattle.cert_check.specs.Answers.{numbered}
 use Rattle.source_verdicts.specs.declared.found.Found.{Found}
 use Rattle.source_verdicts.specs.declared.found.Found.TheVariants as found
 use Rattle.verdicts.specs.declared.verdict.Verdict.{Verdict}
-use Rattle.verdicts.specs.declared.verdict.Verdict.TheVariants.{Safe, Unsafe, OutOfUnits, OutOfLearn, Unreplayed, Accepted, Rejected, Faulty, Over, ReadFault, NoMemory}
+use Rattle.verdicts.specs.declared.verdict.Verdict.TheVariants.{Safe, Unsafe, OutOfUnits, OutOfLearn, Accepted, Rejected, Faulty, Over, ReadFault, NoMemory}
 
 -- the text is that of a certificate of this source, which is accepted on this graph, and is read back to it
 pub record IsProved (g : Flow) (source : List ℕ) (model : Model) (text : List ℕ) : Type 0 where
@@ -52,23 +51,9 @@ pub record Meets (p : Program) (source : List ℕ) (kind : ErrorKind) (place : P
   pub turns : ℕ
   pub ends : run turns p values ≡ Error kind at (length values)
 
--- a value has at most twenty digits
-abbrev pub is_short_value : ℤ → Bool
-is_short_value v = nat_lt (unsigned_abs v) 100000000000000000000
-
--- the error that a run meets once it has drawn so many values
-abbrev pub met_in : ℕ → End → Option Met
-met_in n (Error kind at drawn) = if drawn == n then Some (record { kind = kind; at = at }) else None
-met_in n _ = None
-
--- the same of an ending without its store
-abbrev pub met_at : ℕ → Ending → Option Met
-met_at n (ending.Error kind at drawn) = if drawn == n then Some (record { kind = kind; at = at }) else None
-met_at n _ = None
-
--- values of a path that are none of a run file, or that meet no error with some number of turns, all of them being drawn
-abbrev pub IsAstray : Program → List ℤ → Type 0
-IsAstray p values = (list_all is_short_value values ≡ false) ⊎ ((turns : ℕ) × (met_in (length values) (run turns p values) ≡ None))
+-- with so many turns these values, all of them being drawn, lead the program to an error
+abbrev pub EndsSo : Program → ℕ → List ℤ → Type 0
+EndsSo p turns values = (kind : ErrorKind) × (at : ℕ) × (run turns p values ≡ Error kind at (length values))
 
 -- Something is so of the clauses of a question that a legal and steered unwinding of the graph has, which is not complete and has fewer units
 -- than are allowed; or of those of an obligation of a map, the ones before it being refuted with so many learned clauses each.
@@ -111,7 +96,6 @@ IsVerified p g source model units learn (Safe text) = IsProved g source model te
 IsVerified p g source model units learn (Unsafe kind place values text) = Meets p source kind place values × (write_run_of values ≡ Ok text)
 IsVerified p g source model units learn (OutOfUnits n) = (n ≡ units) × ((units ≡ 0) ⊎ IsOutOfUnits g units)
 IsVerified p g source model units learn (OutOfLearn n) = (n ≡ learn) × ((learn ≡ 0) ⊎ IsOutOfLearn g units learn)
-IsVerified p g source model units learn Unreplayed = (values : List ℤ) × IsAstray p values
 IsVerified p g source model units learn (Over number count) = IsLimit p g source model units learn number count
 IsVerified p g source model units learn NoMemory = Unit {0}
 IsVerified p g source model units learn Accepted = ⊥
@@ -145,7 +129,6 @@ IsFound p g source model (Safe text) f = (m : Formulas) × (f ≡ found.OfMap m)
 IsFound p g source model (Unsafe kind place values text) f = (at : ℕ) × (f ≡ found.AtOffset at) × MeetsAt p source kind place values at
 IsFound p g source model (OutOfUnits n) f = Unit {0}
 IsFound p g source model (OutOfLearn n) f = Unit {0}
-IsFound p g source model Unreplayed f = Unit {0}
 IsFound p g source model (Over number count) f = Unit {0}
 IsFound p g source model NoMemory f = Unit {0}
 IsFound p g source model Accepted f = Unit {0}
@@ -163,7 +146,6 @@ IsByMap g source model m (Safe text) = HoldsMap g source model text m
 IsByMap g source model m (Unsafe kind place values text) = ⊥
 IsByMap g source model m (OutOfUnits n) = Unit {0}
 IsByMap g source model m (OutOfLearn n) = Unit {0}
-IsByMap g source model m Unreplayed = Unit {0}
 IsByMap g source model m (Over number count) = Unit {0}
 IsByMap g source model m NoMemory = Unit {0}
 IsByMap g source model m Accepted = Unit {0}

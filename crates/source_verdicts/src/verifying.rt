@@ -1,5 +1,6 @@
-ghost use Rattle.std.specs.Prelude.{◌<◌, ◌≤◌, ◌^◌, length};
+ghost use Rattle.std.specs.Prelude.{◌≡◌, ◌<◌, ◌≤◌, ◌*◌, ◌^◌, length};
 ghost use Rattle.c_typed.specs.Parts.{tree_of};
+ghost use Rattle.program_graphs.specs.Returning.{ErrorsReturn};
 ghost use Rattle.source_verdicts.specs.Verified.{IsVerifiedAs};
 
 use crate::certifying::certified;
@@ -8,6 +9,7 @@ use crate::replaying::replayed;
 use c_graph::Graph;
 use c_rules::Examined;
 use clause_learning::MOST_PAIRS;
+use drawn_value_laws::{drawn_are_words, errors_meet};
 use explore::{Explored, explore};
 use lv_base::Model;
 use lv_outside::Gate;
@@ -36,6 +38,7 @@ pub fn verify<R: Threads + Sync, G: Gate>(
 ) -> (Verdict, Found)
     requires small { length source.now ≤ 2 ^ 20 }
     requires workers { (1 ≤ budget.workers) × (budget.workers ≤ 64) }
+    requires back { ErrorsReturn (tree_of examined.now.typed) graph.now }
     ensures { IsVerifiedAs (tree_of examined.now.typed) graph.now source.now model budget.units budget.learn result }
 {
     if budget.units == 0 {
@@ -61,15 +64,19 @@ fn explored<R: Threads + Sync, G: Gate>(
     requires workers { (1 ≤ budget.workers) × (budget.workers ≤ 64) }
     requires units { 0 < budget.units }
     requires learn { 0 < budget.learn }
+    requires back { ErrorsReturn (tree_of examined.now.typed) graph.now }
     ensures { IsVerifiedAs (tree_of examined.now.typed) graph.now source.now model budget.units budget.learn result }
 {
+    drawn_are_words();
+    errors_meet();
+    let _entry = graph.entry();
     match explore(alloc, graph, budget.units, budget.learn) {
         Ok(Explored::Complete(unwinding)) => {
             certified(rt, alloc, graph, source, model, &unwinding, budget, gate)
         }
         Ok(Explored::Feasible(unwinding, values)) => {
-            let steps = steps_in(graph, unwinding.vertices().len());
-            replayed(alloc, examined, source, values.as_slice(), steps)
+            let turns = turns_for(unwinding.count());
+            replayed(alloc, examined, source, values.as_slice(), turns)
         }
         Ok(Explored::Units(_)) => (Verdict::OutOfUnits(budget.units), Found::Nothing),
         Ok(Explored::Learned(_unwinding, _log)) => (
@@ -82,9 +89,10 @@ fn explored<R: Threads + Sync, G: Gate>(
     }
 }
 
-// A path has no more edges than there are vertices, and an edge goes over each node at most once: so many steps a walk along a path
-// has at most, and a run takes no more turns than its walk has steps.
-fn steps_in(graph: &Graph, vertices: usize) -> u64 {
-    let nodes = (graph.nodes().len() as u64).saturating_add(1);
-    nodes.saturating_mul((vertices as u64).saturating_add(1))
+// A path has no more edges than there are vertices, an edge is a walk that goes over each node at most once, and a run takes no more turns
+// than its walk has steps. So many turns are always enough, and no run of a path's values takes them all.
+fn turns_for(vertices: u32) -> u64
+    ensures { result ≡ 2147483647 * vertices }
+{
+    2_147_483_647 * u64::from(vertices)
 }

@@ -9,14 +9,13 @@ use Rattle.lv_base.specs.declared.place.Place.{Place}
 use Rattle.verdicts.specs.declared.rejection.Rejection.{Rejection}
 use Rattle.verdicts.specs.declared.rejection.Rejection.TheVariants.{Format, OtherSource, OtherModel, Layout, Nodes, Term, Formula, Count, BadStep, NoEmpty}
 use Rattle.verdicts.specs.declared.verdict.Verdict.{Verdict}
-use Rattle.verdicts.specs.declared.verdict.Verdict.TheVariants.{Safe, Unsafe, OutOfUnits, OutOfLearn, Unreplayed, Accepted, Rejected, Faulty, Over, ReadFault, NoMemory}
+use Rattle.verdicts.specs.declared.verdict.Verdict.TheVariants.{Safe, Unsafe, OutOfUnits, OutOfLearn, Accepted, Rejected, Faulty, Over, ReadFault, NoMemory}
 
 abbrev pub status_of : Verdict → ℕ
 status_of (Safe text) = 0
 status_of (Unsafe kind place values text) = 1
 status_of (OutOfUnits units) = 2
 status_of (OutOfLearn learn) = 2
-status_of Unreplayed = 2
 status_of Accepted = 0
 status_of (Rejected rejection) = 3
 status_of (Faulty fault place) = 11
@@ -53,7 +52,6 @@ text_of (Safe text) = codes "SAFE" ++ 10 ∷ []
 text_of (Unsafe kind place values text) = codes "UNSAFE " ++ (error_name kind ++ (codes " at " ++ place_text place))
 text_of (OutOfUnits units) = codes "UNKNOWN units " ++ (decimal units ++ 10 ∷ [])
 text_of (OutOfLearn learn) = codes "UNKNOWN learn " ++ (decimal learn ++ 10 ∷ [])
-text_of Unreplayed = codes "UNKNOWN replay" ++ 10 ∷ []
 text_of Accepted = codes "ACCEPTED" ++ 10 ∷ []
 text_of (Rejected rejection) = rejection_text rejection
 text_of (Faulty fault place) = codes "SOURCE FAULT " ++ (decimal (fault_number fault) ++ (codes " " ++ (fault_name fault ++ (codes " at " ++ place_text place))))
@@ -69,7 +67,6 @@ tells_seed (Safe text) = true
 tells_seed (Unsafe kind place values text) = true
 tells_seed (OutOfUnits units) = true
 tells_seed (OutOfLearn learn) = true
-tells_seed Unreplayed = true
 tells_seed Accepted = false
 tells_seed (Rejected rejection) = false
 tells_seed (Faulty fault place) = false

@@ -16,8 +16,6 @@ pub enum Verdict {
     OutOfUnits(u64),
     /// So many clauses were learned of one question, and it has no answer.
     OutOfLearn(u64),
-    /// A path of the graph leads to an error, and no replay of its values met one.
-    Unreplayed,
     /// The certificate is accepted.
     Accepted,
     /// The certificate is rejected.
@@ -40,7 +38,6 @@ pub fn status(verdict: &Verdict) -> u8
         Verdict::Unsafe(_, _, _, _) => 1,
         Verdict::OutOfUnits(_) => 2,
         Verdict::OutOfLearn(_) => 2,
-        Verdict::Unreplayed => 2,
         Verdict::Accepted => 0,
         Verdict::Rejected(_) => 3,
         Verdict::Faulty(_, _) => 11,

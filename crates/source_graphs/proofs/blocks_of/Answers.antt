@@ -1,6 +1,8 @@
-use Rattle.c_typed.specs.Parts.{tree_of}
-use Rattle.source_graphs.proofs.Standing.{blocks_stand}
+use Rattle.std.proofs.Common.{◌≤◌, length, arith}
 use Rattle.source_graphs.proofs.blocks_of.Goals as goal
 
 pub returns-in-Ok-clause-stands : goal.returns-in-Ok-clause-stands
-returns-in-Ok-clause-stands c = blocks_stand (tree_of c.args.examined.now.typed) c.in_ok-graph.graph c.in-Ok.blocks c.in_ok-graph.ensures.stands c.in-Ok.ensures
+returns-in-Ok-clause-stands c =
+    let flow = c.entry-entry.ensures.flow in
+    let few : length c.in_ok-graph.graph.nodes ≤ 2147483647 = omega (arith, flow.few) in
+    c.joined_graphs_stand.ensures c.args.examined.now.typed c.in_ok-graph.graph c.in-Ok.blocks few c.in_ok-graph.ensures.follow c.in_ok-graph.ensures.back c.in-Ok.ensures.keeps c.in-Ok.ensures.back

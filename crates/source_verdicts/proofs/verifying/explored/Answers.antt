@@ -1,10 +1,20 @@
-use Rattle.std.proofs.Common.{subst}
+use Rattle.std.proofs.Common.{ℤ, List, arith, subst, sym}
 use Rattle.cover_engine.specs.Units.{Legal}
 use Rattle.cover_engine.specs.Steering.{Steered}
 use Rattle.explore.specs.Ends.{IsExplored, unwinding_of}
 use Rattle.c_typed.specs.Parts.{tree_of}
 use Rattle.source_verdicts.proofs.Spending.{question_spent, question_long, question_heavy}
+use Rattle.source_verdicts.specs.Verified.{EndsSo}
+use Rattle.source_verdicts.proofs.Replays.{found_ends}
 use Rattle.source_verdicts.proofs.verifying.explored.Goals as goal
+
+pub replayed-requires-clause-ends : goal.replayed-requires-clause-ends
+replayed-requires-clause-ends g c =
+    let p = tree_of c.args.examined.now.typed in
+    let turns = c.turns_for-turns.result in
+    let feasible = subst (λ e. IsExplored c.args.graph.now c.args.budget.units c.args.budget.learn e) c.in-Ok-Feasible.field-0-is c.in-Ok-Feasible.ensures.explored in
+    subst (λ (values : List ℤ). EndsSo p turns values) (sym c.as_slice.ensures)
+    (found_ends p c.args.graph.now c.in-Ok-Feasible.unwinding c.in-Ok-Feasible.values turns c.errors_meet.ensures c.requires.back feasible (omega (arith, c.turns_for-turns.ensures, c.count.ensures)))
 
 pub returns-in-Ok-Complete : goal.returns-in-Ok-Complete
 returns-in-Ok-Complete g c = c.certified.ensures (tree_of c.args.examined.now.typed) c.args.budget.units
