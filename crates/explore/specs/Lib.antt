@@ -1,3 +1,4 @@
 pub mod Standing
 pub mod Settling
 pub mod Ends
+pub mod Open

@@ -7,6 +7,7 @@
 #![tactic(auto)]
 
 mod beside;
+mod progress;
 mod strategy;
 
-pub use strategy::{Explored, explore};
+pub use strategy::{Explored, explore, explore_watched};

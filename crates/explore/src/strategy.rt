@@ -11,10 +11,12 @@ ghost use Rattle.explore.specs.Settling.{HasTurn, IsTried, NoneBelow};
 ghost use Rattle.explore.specs.Ends.{Follows, IsEnd, IsExplored, IsOverCells, IsReady, is_plain, is_plain_at, unwinding_of};
 
 use crate::beside::Beside;
+use crate::progress::Heard;
 use c_graph::{Graph, Node};
 use cdcl_solver::QueryFail;
 use cover_engine::Unwinding;
 use lv_base::Memory;
+use lv_outside::{FreeGate, Gate};
 use reach_tree::VertexId;
 use refine::{Refined, Settled, Values, Witnesses, refine_leaf, settle_with};
 use resolution_log::Log;
@@ -146,13 +148,15 @@ fn below_of(
 }
 
 // Settles the pair where it may be settled. It answers whether it covers.
-fn try_pair(
+fn try_pair<G: Gate>(
     alloc: Global,
     graph: &Graph,
     work: &mut Work,
     v: VertexId,
     w: VertexId,
     budget: Budget,
+    gate: &G,
+    heard: &mut Heard,
 ) -> Result<bool, End>
     requires learn { 0 < budget.learn }
     requires ready { IsReady graph.now budget.units work.old.unwinding work.old.witnesses }
@@ -173,6 +177,7 @@ fn try_pair(
         return Ok(false);
     }
     let _ = next_leaf(graph, &mut work.unwinding, budget)?;
+    heard.tell(graph, &work.unwinding, gate);
     match settle_with(
         alloc,
         graph,
@@ -190,12 +195,14 @@ fn try_pair(
 
 // Settles the pairs of a vertex with those of its node that are numbered lower, rising, until one covers it. It answers
 // whether one does.
-fn settle_all(
+fn settle_all<G: Gate>(
     alloc: Global,
     graph: &Graph,
     work: &mut Work,
     v: VertexId,
     budget: Budget,
+    gate: &G,
+    heard: &mut Heard,
 ) -> Result<bool, End>
     requires learn { 0 < budget.learn }
     requires ready { IsReady graph.now budget.units work.old.unwinding work.old.witnesses }
@@ -216,7 +223,7 @@ fn settle_all(
 {
     let mut below = below_of(alloc, graph, work, v)?;
     while let Some(w) = below.pop() {
-        if try_pair(alloc, graph, work, v, w, budget)? {
+        if try_pair(alloc, graph, work, v, w, budget, gate, heard)? {
             return Ok(true);
         }
     }
@@ -224,12 +231,14 @@ fn settle_all(
 }
 
 // Refines a leaf at an error, and then settles the pairs of the vertices of its path, from the root down.
-fn refine_at(
+fn refine_at<G: Gate>(
     alloc: Global,
     graph: &Graph,
     work: &mut Work,
     leaf: VertexId,
     budget: Budget,
+    gate: &G,
+    heard: &mut Heard,
 ) -> Result<(), End>
     requires leaf { leaf.0 < length work.old.unwinding.vertices }
     requires highest { IsHighestOpen graph.now work.old.unwinding leaf }
@@ -246,13 +255,13 @@ fn refine_at(
     ensures grows { OnOk result (length work.old.unwinding.journal < length work.new.unwinding.journal) }
 {
     match refine_leaf(alloc, graph, &mut work.unwinding, leaf, budget.learn)? {
-        Refined::Strengthened(_) => {}
+        Refined::Strengthened(log) => heard.learn(&log),
         Refined::Feasible(values) => return Err(End::Feasible(values)),
         Refined::Spent(log) => return Err(End::Learned(log)),
     }
     let path = work.unwinding.path_to(alloc, leaf)?;
     for vertex in path.vertices.as_slice() {
-        let _ = settle_all(alloc, graph, work, *vertex, budget)?;
+        let _ = settle_all(alloc, graph, work, *vertex, budget, gate, heard)?;
     }
     Ok(())
 }
@@ -284,7 +293,14 @@ fn expand(
 }
 
 // One turn: the highest open leaf is refined at an error, and else covered or expanded.
-fn turn(alloc: Global, graph: &Graph, work: &mut Work, budget: Budget) -> Result<(), End>
+fn turn<G: Gate>(
+    alloc: Global,
+    graph: &Graph,
+    work: &mut Work,
+    budget: Budget,
+    gate: &G,
+    heard: &mut Heard,
+) -> Result<(), End>
     requires ready { IsReady graph.now budget.units work.old.unwinding work.old.witnesses }
     requires steered { Steered graph.now work.old.unwinding }
     requires follows { Follows graph.now work.old.unwinding.vertices work.old.beside }
@@ -297,17 +313,18 @@ fn turn(alloc: Global, graph: &Graph, work: &mut Work, budget: Budget) -> Result
 {
     let _entry = graph.entry();
     let leaf = next_leaf(graph, &mut work.unwinding, budget)?;
+    heard.tell(graph, &work.unwinding, gate);
     if !is_plain(graph, &work.unwinding, leaf) {
-        return refine_at(alloc, graph, work, leaf, budget);
+        return refine_at(alloc, graph, work, leaf, budget, gate, heard);
     }
-    if settle_all(alloc, graph, work, leaf, budget)? {
+    if settle_all(alloc, graph, work, leaf, budget, gate, heard)? {
         return Ok(());
     }
     expand(alloc, graph, work, leaf, budget)
 }
 
 // Makes turns until there is an end. Each makes a unit, so there are no more turns than units.
-fn run(alloc: Global, graph: &Graph, work: &mut Work, budget: Budget) -> End
+fn run<G: Gate>(alloc: Global, graph: &Graph, work: &mut Work, budget: Budget, gate: &G) -> End
     requires ready { IsReady graph.now budget.units work.old.unwinding work.old.witnesses }
     requires steered { Steered graph.now work.old.unwinding }
     requires follows { Follows graph.now work.old.unwinding.vertices work.old.beside }
@@ -316,8 +333,9 @@ fn run(alloc: Global, graph: &Graph, work: &mut Work, budget: Budget) -> End
     ensures steered { Steered graph.now work.new.unwinding }
     ensures ended { IsEnd graph.now budget.units budget.learn work.new.unwinding result }
 {
+    let mut heard = Heard::new();
     for _made in 0..budget.units {
-        if let Err(end) = turn(alloc, graph, work, budget) {
+        if let Err(end) = turn(alloc, graph, work, budget, gate, &mut heard) {
             return end;
         }
     }
@@ -340,12 +358,31 @@ pub fn explore(alloc: Global, graph: &Graph, units: u64, learn: u64) -> Result<E
     ensures steered { IfOk result (λ e. Steered graph.now (unwinding_of e)) }
     ensures explored { IfOk result (IsExplored graph.now units learn) }
 {
+    explore_watched(alloc, graph, units, learn, &FreeGate)
+}
+
+/// Explores as `explore` does, and tells the gate between units how far it has come, where the gate's seconds have gone on since they
+/// were looked at last. No answer depends on the gate.
+pub fn explore_watched<G: Gate>(
+    alloc: Global,
+    graph: &Graph,
+    units: u64,
+    learn: u64,
+    gate: &G,
+) -> Result<Explored, Memory>
+    requires units { 0 < units }
+    requires learn { 0 < learn }
+    ensures cells { IfOk result (IsOverCells graph.now) }
+    ensures legal { IfOk result (λ e. Legal graph.now (unwinding_of e)) }
+    ensures steered { IfOk result (λ e. Steered graph.now (unwinding_of e)) }
+    ensures explored { IfOk result (IsExplored graph.now units learn) }
+{
     let mut work = Work {
         unwinding: Unwinding::new(alloc, graph)?,
         witnesses: Witnesses::new(alloc),
         beside: Beside::new(alloc, graph.nodes().len())?,
     };
-    let end = run(alloc, graph, &mut work, Budget { units, learn });
+    let end = run(alloc, graph, &mut work, Budget { units, learn }, gate);
     let Work { unwinding, .. } = work;
     match end {
         End::Complete => Ok(Explored::Complete(unwinding)),

@@ -4,7 +4,7 @@
 ghost use Rattle.std.specs.Prelude.{pos, ◌≤ℤ◌};
 
 use lazic::run_words;
-use lv_outside::{FreeGate, HostFolder, HostSink, Sink};
+use lv_outside::{HostFolder, HostGate, HostSink, Sink};
 use std::alloc::AllocError;
 use std::process::ExitCode;
 use std::random::RandomSource;
@@ -16,13 +16,24 @@ use std::{env, io};
 const LAST_MOMENT: u64 = 253370764799;
 
 fn main(rt: HostRuntime) -> ExitCode {
-    ExitCode::from(run_host(&rt))
+    let shows = rt.stderr().is_terminal();
+    ExitCode::from(run_host(&rt, shows))
 }
 
-// The status that the program ends with.
-fn run_host<R>(rt: &R) -> u8
+// The status that the program ends with. Where it shows it, it says on standard error how far a verification has come.
+fn run_host<R>(rt: &R, shows: bool) -> u8
 where
-    R: AllocGlobal + Env + Clock + Files + Print + RandomSource + Threads + Sync + Clone + Drop,
+    R: AllocGlobal
+        + Env
+        + Clock
+        + Files
+        + Print
+        + Eprint
+        + RandomSource
+        + Threads
+        + Sync
+        + Clone
+        + Drop,
 {
     let alloc = rt.alloc();
     let args = match env::args(rt) {
@@ -50,6 +61,11 @@ where
     let Ok(prints) = prints else {
         return no_memory(rt);
     };
+    let hears: Result<R, AllocError> = rt.clone();
+    let Ok(hears) = hears else {
+        return no_memory(rt);
+    };
+    let gate = HostGate::new(hears, shows);
     let mut folder = HostFolder::new(files);
     let mut out = HostSink::new(prints);
     run_words(
@@ -60,7 +76,7 @@ where
         &mut out,
         moment(rt),
         random_bytes(rt),
-        &FreeGate,
+        &gate,
     )
     .status
 }

@@ -2,10 +2,11 @@ ghost use Rattle.std.specs.Prelude.{◌≡◌, ◌≢◌, ◌≤◌, ℕ, List, 
 ghost use Rattle.lv_outside.specs.Counts.{Rose, counted, raised};
 ghost use Rattle.lv_outside.specs.Got.{IsAtMost, is_failed};
 
-use crate::{Failed, FileFail, Folder, Got, Sink};
+use crate::{Failed, FileFail, Folder, Gate, Got, Sink};
 use std::alloc::Global;
 use std::io::{Read, Write};
-use std::rt::Files;
+use std::rt::{Clock, Files};
+use std::time::Instant;
 use std::{fs, io};
 
 /// The host's files. It tells nothing of what they hold.
@@ -100,7 +101,7 @@ fn write_file<R: Files>(rt: &R, name: &str, bytes: &[u8]) -> Result<(), Failed> 
 }
 
 // A write that takes no byte is a failure; one that takes some is followed by one of the rest.
-pub(crate) fn write_whole<W: Write>(to: &mut W, bytes: &[u8]) -> Result<(), Failed> {
+fn write_whole<W: Write>(to: &mut W, bytes: &[u8]) -> Result<(), Failed> {
     let mut done = 0;
     while done < bytes.len() {
         match to.write(&bytes[done..]) {
@@ -148,5 +149,39 @@ impl<R: Print + Drop> Sink for HostSink<R> {
                 Err(Failed)
             }
         }
+    }
+}
+
+/// The host's gate. Each worker goes through it at once. Where it was made to show it, it prints how far a verification has come to the
+/// host's standard error; what becomes of that text is not looked at.
+#[derive(Drop)]
+pub struct HostGate<R: Clock + Eprint + Sync + Drop> {
+    rt: R,
+    shown_from: Option<Instant>,
+}
+
+impl<R: Clock + Eprint + Sync + Drop> HostGate<R> {
+    /// A gate of this runtime. It shows nothing where it is not asked to, or where there is no clock to be read.
+    pub fn new(rt: R, shows: bool) -> HostGate<R> {
+        let shown_from = if shows { Instant::now(&rt).ok() } else { None };
+        HostGate { rt, shown_from }
+    }
+}
+
+impl<R: Clock + Eprint + Sync + Drop> Gate for HostGate<R> {
+    fn enter(&self, _part: u32) {}
+
+    fn seconds(&self) -> u64 {
+        match self.shown_from {
+            Some(start) => start.elapsed(&self.rt).map_or(0, |since| since.as_secs()),
+            None => 0,
+        }
+    }
+
+    fn working(&self, units: u64, open: u32, learned: u64) {
+        let seconds = self.seconds();
+        let _ = eprintln!(self.rt;
+            "{seconds} s: {units} units, {open} open leaves, {learned} learned clauses"
+        );
     }
 }

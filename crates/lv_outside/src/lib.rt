@@ -15,12 +15,9 @@ mod sink;
 pub use files::names_differ;
 pub use folder::{FileFail, Folder, Got};
 pub use gate::{FreeGate, Gate};
-pub use host::{HostFolder, HostSink};
+pub use host::{HostFolder, HostGate, HostSink};
 pub use mem_folder::MemFolder;
 pub use mem_sink::MemSink;
 pub use no_fault_folder::NoFaultFolder;
 pub use no_fault_sink::NoFaultSink;
 pub use sink::{Failed, Sink};
-
-#[cfg(test)]
-mod tests;

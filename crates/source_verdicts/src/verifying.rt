@@ -10,7 +10,7 @@ use c_graph::Graph;
 use c_rules::Examined;
 use clause_learning::MOST_PAIRS;
 use drawn_value_laws::{drawn_are_words, errors_meet};
-use explore::{Explored, explore};
+use explore::{Explored, explore_watched};
 use lv_base::Model;
 use lv_outside::Gate;
 use std::alloc::Global;
@@ -70,7 +70,7 @@ fn explored<R: Threads + Sync, G: Gate>(
     drawn_are_words();
     errors_meet();
     let _entry = graph.entry();
-    match explore(alloc, graph, budget.units, budget.learn) {
+    match explore_watched(alloc, graph, budget.units, budget.learn, gate) {
         Ok(Explored::Complete(unwinding)) => {
             certified(rt, alloc, graph, source, model, &unwinding, budget, gate)
         }

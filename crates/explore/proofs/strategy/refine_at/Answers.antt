@@ -14,14 +14,14 @@ use Rattle.explore.proofs.Trying.{follows-stays, path-there, path-turn, refined-
 use Rattle.explore.proofs.strategy.refine_at.Goals as goal
 
 pub returns-in_err-values-clause-ready : goal.returns-in_err-values-clause-ready
-returns-in_err-values-clause-ready c =
+returns-in_err-values-clause-ready g c =
     let same = same_units c.args.work.now.unwinding c.refine_leaf.new.unwinding c.in_err-values.ensures.only in
     let few = c.requires.ready.few in
     ready_grows c.args.graph.now c.args.budget.units c.args.work.now.unwinding c.refine_leaf.new.unwinding c.args.work.now.witnesses c.refine_leaf.ensures.extends
     (c.refine_leaf.ensures.legal c.requires.ready.legal c.requires.error) (omega (arith, same, few)) c.requires.ready
 
 pub returns-in_err-path-clause-ready : goal.returns-in_err-path-clause-ready
-returns-in_err-path-clause-ready c =
+returns-in_err-path-clause-ready g c =
     let made = subst (IsRefined c.args.graph.now c.args.work.now.unwinding c.refine_leaf.new.unwinding c.args.leaf c.args.budget.learn) c.in-Strengthened.is
     c.in_ok-values.ensures.refined in
     let more = one_unit c.args.graph.now c.args.work.now.unwinding c.refine_leaf.new.unwinding c.args.leaf made.0 in
@@ -30,7 +30,7 @@ returns-in_err-path-clause-ready c =
     (c.refine_leaf.ensures.legal c.requires.ready.legal c.requires.error) (omega (arith, more, few)) c.requires.ready
 
 pub loop-vertex-init : goal.loop-vertex-init
-loop-vertex-init c =
+loop-vertex-init g c =
     let made = subst (IsRefined c.args.graph.now c.args.work.now.unwinding c.refine_leaf.new.unwinding c.args.leaf c.args.budget.learn) c.in-Strengthened.is
     c.in_ok-values.ensures.refined in
     let more = one_unit c.args.graph.now c.args.work.now.unwinding c.refine_leaf.new.unwinding c.args.leaf made.0 in
@@ -53,18 +53,17 @@ loop-vertex-init c =
     }
 
 pub settle_all-requires-clause-there : goal.settle_all-requires-clause-there
-settle_all-requires-clause-there c =
+settle_all-requires-clause-there g c =
     path-there c.args.graph.now c.loop-vertex.work.unwinding c.args.leaf c.as_slice-vertex-items.result.now c.loop-vertex.vertex-index (record { 0 = 0 })
     c.loop-vertex.invariant.ready.legal c.loop-vertex.invariant.there c.loop-vertex.invariant.path c.loop-vertex-test.true
 
 pub settle_all-requires-clause-turn : goal.settle_all-requires-clause-turn
-settle_all-requires-clause-turn c =
+settle_all-requires-clause-turn g c =
     path-turn c.args.graph.now c.loop-vertex.work.unwinding c.args.leaf c.as_slice-vertex-items.result.now c.loop-vertex.vertex-index (record { 0 = 0 })
     c.loop-vertex.invariant.refined c.loop-vertex.invariant.path c.loop-vertex-test.true
 
 pub loop-vertex-preserved : goal.loop-vertex-preserved
-loop-vertex-preserved c =
-    let g = c.args.graph.now in
+loop-vertex-preserved g c =
     let old = c.loop-vertex.work.unwinding in
     let new = c.settle_all.new.work.unwinding in
     let same : new.vertices ≡ old.vertices = c.in_ok-settle_all.ensures.vertices in
@@ -83,35 +82,35 @@ loop-vertex-preserved c =
     }
 
 pub returns-in_err-values-clause-ended : goal.returns-in_err-values-clause-ended
-returns-in_err-values-clause-ended c =
+returns-in_err-values-clause-ended g c =
     let p = err_from_is_err_and c.from_residual.result c.from_residual.ensures.1 in
     rw (p.1, p.2)
     (leaf_ends c.args.graph.now c.args.budget.units c.args.budget.learn c.args.work.now.unwinding c.refine_leaf.new.unwinding c.args.leaf c.in_err-values.field-0.0
     c.requires.leaf c.requires.highest c.requires.error c.requires.more c.in_err-values.ensures.refused)
 
 pub returns-in-Spent-clause-ended : goal.returns-in-Spent-clause-ended
-returns-in-Spent-clause-ended c =
+returns-in-Spent-clause-ended g c =
     let made = subst (IsRefined c.args.graph.now c.args.work.now.unwinding c.refine_leaf.new.unwinding c.args.leaf c.args.budget.learn) c.in-Spent.is
     c.in_ok-values.ensures.refined in
     subst (λ (u : Unwound). IsAsked c.args.graph.now c.args.budget.units u (λ (clauses : List (List Lit)). IsSpent clauses c.args.budget.learn c.in-Spent.log)) (sym made.0)
     (path_asked c.args.graph.now c.args.budget.units c.args.work.now.unwinding c.args.leaf _ c.requires.leaf c.requires.highest c.requires.error c.requires.more made.1)
 
 pub returns-in_err-values-clause-steered : goal.returns-in_err-values-clause-steered
-returns-in_err-values-clause-steered c =
+returns-in_err-values-clause-steered g c =
     grown-steered c.args.graph.now c.args.work.now.unwinding c.refine_leaf.new.unwinding c.in_err-values.ensures.only.extends c.in_err-values.ensures.only.others
     c.requires.ready.legal c.requires.steered
 
 pub returns-in_err-path-clause-steered : goal.returns-in_err-path-clause-steered
-returns-in_err-path-clause-steered c =
+returns-in_err-path-clause-steered g c =
     refined-steered c.args.graph.now c.args.work.now.unwinding c.refine_leaf.new.unwinding c.args.leaf c.args.budget.learn c.in_ok-values.field-0
     c.requires.ready.legal c.requires.steered c.requires.highest c.in_ok-values.ensures.refined
 
 pub returns-in-Feasible-clause-steered : goal.returns-in-Feasible-clause-steered
-returns-in-Feasible-clause-steered c =
+returns-in-Feasible-clause-steered g c =
     refined-steered c.args.graph.now c.args.work.now.unwinding c.refine_leaf.new.unwinding c.args.leaf c.args.budget.learn c.in_ok-values.field-0
     c.requires.ready.legal c.requires.steered c.requires.highest c.in_ok-values.ensures.refined
 
 pub returns-in-Spent-clause-steered : goal.returns-in-Spent-clause-steered
-returns-in-Spent-clause-steered c =
+returns-in-Spent-clause-steered g c =
     refined-steered c.args.graph.now c.args.work.now.unwinding c.refine_leaf.new.unwinding c.args.leaf c.args.budget.learn c.in_ok-values.field-0
     c.requires.ready.legal c.requires.steered c.requires.highest c.in_ok-values.ensures.refined

@@ -6,7 +6,7 @@ use Rattle.explore.specs.Ends.{Follows, IsReady}
 use Rattle.explore.proofs.strategy.refine_at.Given as goal
 
 abbrev pub invariant-loop-vertex : goal.invariant-loop-vertex
-invariant-loop-vertex l = record {
+invariant-loop-vertex g l = record {
   ready : IsReady l.graph l.budget.units l.work.unwinding l.work.witnesses;
   steered : Steered l.graph l.work.unwinding;
   follows : Follows l.graph l.work.unwinding.vertices l.work.beside;

@@ -6,7 +6,7 @@ use Rattle.explore.specs.Ends.{Follows, IsReady}
 use Rattle.explore.proofs.strategy.settle_all.Given as goal
 
 abbrev pub invariant-loop-w : goal.invariant-loop-w
-invariant-loop-w l = record {
+invariant-loop-w g l = record {
   ready : IsReady l.graph l.budget.units l.work.unwinding l.work.witnesses;
   steered : Steered l.graph l.work.unwinding;
   follows : Follows l.graph l.work.unwinding.vertices l.work.beside;
@@ -19,4 +19,4 @@ invariant-loop-w l = record {
 }
 
 abbrev pub decreases-loop-w : goal.decreases-loop-w
-decreases-loop-w l = vec_len l.below
+decreases-loop-w g l = vec_len l.below

@@ -13,7 +13,7 @@ use Rattle.explore.proofs.Trying.{settled-steered}
 use Rattle.explore.proofs.strategy.try_pair.Goals as goal
 
 pub returns-in_err-settle_with-clause-ended : goal.returns-in_err-settle_with-clause-ended
-returns-in_err-settle_with-clause-ended c =
+returns-in_err-settle_with-clause-ended g c =
     let same : c.next_leaf.new.unwinding ≡ c.args.work.now.unwinding = c.next_leaf.ensures.unchanged in
     let sized = ap (λ (x : Unwound). length x.vertices) same in
     let left : c.args.v.0 < length c.next_leaf.new.unwinding.vertices = omega (arith, c.requires.there, sized) in
@@ -31,7 +31,7 @@ returns-in_err-settle_with-clause-ended c =
     incomplete left right rule c.in_ok-next_leaf.ensures.more c.in_err-settle_with.ensures.unchanged c.in_err-settle_with.ensures.refused)
 
 pub returns-in-Spent-clause-ended : goal.returns-in-Spent-clause-ended
-returns-in-Spent-clause-ended c =
+returns-in-Spent-clause-ended g c =
     let same : c.next_leaf.new.unwinding ≡ c.args.work.now.unwinding = c.next_leaf.ensures.unchanged in
     let sized = ap (λ (x : Unwound). length x.vertices) same in
     let left : c.args.v.0 < length c.next_leaf.new.unwinding.vertices = omega (arith, c.requires.there, sized) in
@@ -49,21 +49,21 @@ returns-in-Spent-clause-ended c =
     (pair_asked c.args.graph.now c.args.budget.units c.next_leaf.new.unwinding c.args.v c.args.w _ incomplete left right rule c.in_ok-next_leaf.ensures.more made.1)
 
 pub returns-in-Covered-clause-steered : goal.returns-in-Covered-clause-steered
-returns-in-Covered-clause-steered c =
-    let g = c.args.graph.now in
+returns-in-Covered-clause-steered g c =
+    let graph = c.args.graph.now in
     let old = c.args.work.now.unwinding in
     let may : may_settle old c.args.v c.args.w ≡ true = sym c.may_settle.ensures ∙ c.if-not-may_settle.false in
-    let rule : MayCover g old c.args.v c.args.w = may-cover g old c.args.v c.args.w c.requires.turn c.requires.below c.requires.lowest may in
-    settled-steered g old c.settle_with.new.unwinding c.args.v c.args.w c.args.budget.learn c.in_ok-settle_with.field-0 c.requires.ready.legal c.requires.steered rule
+    let rule : MayCover graph old c.args.v c.args.w = may-cover graph old c.args.v c.args.w c.requires.turn c.requires.below c.requires.lowest may in
+    settled-steered graph old c.settle_with.new.unwinding c.args.v c.args.w c.args.budget.learn c.in_ok-settle_with.field-0 c.requires.ready.legal c.requires.steered rule
     (subst (λ (u : Unwound). IsPairSettled u c.settle_with.new.unwinding c.args.v c.args.w c.args.budget.learn c.in_ok-settle_with.field-0)
     c.next_leaf.ensures.unchanged c.in_ok-settle_with.ensures.settled)
 
 pub returns-in-Apart-clause-steered : goal.returns-in-Apart-clause-steered
-returns-in-Apart-clause-steered c =
-    let g = c.args.graph.now in
+returns-in-Apart-clause-steered g c =
+    let graph = c.args.graph.now in
     let old = c.args.work.now.unwinding in
     let may : may_settle old c.args.v c.args.w ≡ true = sym c.may_settle.ensures ∙ c.if-not-may_settle.false in
-    let rule : MayCover g old c.args.v c.args.w = may-cover g old c.args.v c.args.w c.requires.turn c.requires.below c.requires.lowest may in
-    settled-steered g old c.settle_with.new.unwinding c.args.v c.args.w c.args.budget.learn c.in_ok-settle_with.field-0 c.requires.ready.legal c.requires.steered rule
+    let rule : MayCover graph old c.args.v c.args.w = may-cover graph old c.args.v c.args.w c.requires.turn c.requires.below c.requires.lowest may in
+    settled-steered graph old c.settle_with.new.unwinding c.args.v c.args.w c.args.budget.learn c.in_ok-settle_with.field-0 c.requires.ready.legal c.requires.steered rule
     (subst (λ (u : Unwound). IsPairSettled u c.settle_with.new.unwinding c.args.v c.args.w c.args.budget.learn c.in_ok-settle_with.field-0)
     c.next_leaf.ensures.unchanged c.in_ok-settle_with.ensures.settled)

@@ -1,11 +1,11 @@
-use crate::host::write_whole;
-use crate::{
-    Failed, FileFail, Folder, FreeGate, Gate, Got, HostFolder, HostSink, MemFolder, MemSink,
-    NoFaultFolder, NoFaultSink, Sink, names_differ,
-};
+//! Folders and sinks in memory.
+
 use lv_base::Text;
+use lv_outside::{
+    Failed, FileFail, Folder, Got, MemFolder, MemSink, NoFaultFolder, NoFaultSink, Sink,
+    names_differ,
+};
 use std::alloc::{AllocError, Global};
-use std::io;
 use std::process::Abort;
 use std::test::Fail;
 
@@ -26,8 +26,8 @@ fn two_files(alloc: Global, fails: &[u32]) -> Result<MemFolder, Fail> {
     }
 }
 
-// A read's answer as a test compares it: its bytes, `longer` or the failure.
-fn read(
+/// A read's answer as a test compares it: its bytes, `longer` or the failure.
+pub fn read(
     rt: &(impl Abort + AllocGlobal),
     folder: &mut impl Folder,
     name: &str,
@@ -98,57 +98,5 @@ fn a_sink_without_faults_drops_what_passes_its_room(rt: HostRuntime) -> Result<(
     assert_eq!(rt; sink.text(), b"abc".as_slice());
     assert_eq!(rt; sink.put(b"def"), Ok(()));
     assert_eq!(rt; sink.text(), b"abcd".as_slice());
-    Ok(())
-}
-
-// Takes two bytes a write, so many times, and then none.
-#[derive(Drop)]
-struct Short {
-    text: Vec<u8>,
-    left: u8,
-}
-
-impl io::Write for Short {
-    fn write(&mut self, bytes: &[u8]) -> io::Result<usize> {
-        if self.left == 0 {
-            return Ok(0);
-        }
-        self.left -= 1;
-        let taken = bytes.len().min(2);
-        self.text.extend_from_slice(&bytes[..taken])?;
-        Ok(taken)
-    }
-
-    fn flush(&mut self) -> io::Result<()> {
-        Ok(())
-    }
-}
-
-#[test]
-fn short_writes_are_gone_on_with(rt: HostRuntime) {
-    let mut whole = Short {
-        text: Vec::new(rt.alloc()),
-        left: 3,
-    };
-    assert_eq!(rt; write_whole(&mut whole, b"abcde"), Ok(()));
-    assert_eq!(rt; whole.text.as_slice(), b"abcde".as_slice());
-    let mut full = Short {
-        text: Vec::new(rt.alloc()),
-        left: 2,
-    };
-    assert_eq!(rt; write_whole(&mut full, b"abcde"), Err(Failed));
-    assert_eq!(rt; full.text.as_slice(), b"abcd".as_slice());
-}
-
-#[test]
-fn the_host_reads_what_it_wrote(rt: HostRuntime) -> Result<(), Fail> {
-    let mut folder = HostFolder::new(rt.clone()?);
-    assert_eq!(rt; folder.write(rt.alloc(), "written.tmp", b"text"), Ok(()));
-    read(&rt, &mut folder, "written.tmp", 4, Ok("text"));
-    read(&rt, &mut folder, "written.tmp", 3, Ok("longer"));
-    read(&rt, &mut folder, "no such file", 3, Err(FileFail::Failed));
-    let mut sink = HostSink::new(rt.clone()?);
-    assert_eq!(rt; sink.put(b"a line\n"), Ok(()));
-    FreeGate.enter(0);
     Ok(())
 }
