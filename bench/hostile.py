@@ -56,6 +56,8 @@ SAFE = HEAD + """int main() {
   if (locked && opened) reach_error();
 }
 """
+# The same over cells of eight bits, since each byte of its certificate is tried.
+NARROW = SAFE.replace("  int ", "  unsigned char ")
 UNSAFE = HEAD + """int main() {
   int x = __VERIFIER_nondet_int();
   int y = __VERIFIER_nondet_int();
@@ -123,7 +125,7 @@ def damaged(content):
 
 
 def damage(program, args):
-    for name, source in (("safe", SAFE), ("unsafe", UNSAFE), ("calls", CALLS)):
+    for name, source in (("safe", NARROW), ("unsafe", UNSAFE), ("calls", CALLS)):
         with tempfile.TemporaryDirectory() as room:
             file, cert, values = (f"{room}/{it}" for it in ("a.c", "cert", "run"))
             pathlib.Path(file).write_text(source)
