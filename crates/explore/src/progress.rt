@@ -1,6 +1,6 @@
 //! What a gate hears of an exploration on its way.
 
-ghost use Rattle.std.specs.Prelude.{◌≡◌, length};
+ghost use Rattle.std.specs.Prelude.{◌≡◌, ◌≤◌, length};
 ghost use Rattle.explore.specs.Open.{open_below};
 
 use c_graph::Graph;
@@ -18,7 +18,9 @@ pub struct Heard {
 
 impl Heard {
     /// Nothing was told or learned.
-    pub fn new() -> Heard {
+    pub fn new() -> Heard
+        ensures { result ≡ record { seconds = 0; learned = 0 } }
+    {
         Heard {
             seconds: 0,
             learned: 0,
@@ -26,12 +28,16 @@ impl Heard {
     }
 
     /// A refinement learned the clauses of this log.
-    pub fn learn(&mut self, log: &Log) {
+    pub fn learn(&mut self, log: &Log)
+        ensures { (self.new.seconds ≡ self.old.seconds) × (self.old.learned ≤ self.new.learned) }
+    {
         self.learned = self.learned.saturating_add(log.chains().len() as u64);
     }
 
     /// Tells the gate how far the unwinding has come, where its seconds have gone on.
-    pub fn tell<G: Gate>(&mut self, graph: &Graph, unwinding: &Unwinding, gate: &G) {
+    pub fn tell<G: Gate>(&mut self, graph: &Graph, unwinding: &Unwinding, gate: &G)
+        ensures { (self.new.learned ≡ self.old.learned) × (self.old.seconds ≤ self.new.seconds) }
+    {
         let seconds = gate.seconds();
         if seconds > self.seconds {
             self.seconds = seconds;

@@ -61,11 +61,9 @@ where
     let Ok(prints) = prints else {
         return no_memory(rt);
     };
-    let hears: Result<R, AllocError> = rt.clone();
-    let Ok(hears) = hears else {
+    let Ok(gate) = gate_of(rt, shows) else {
         return no_memory(rt);
     };
-    let gate = HostGate::new(hears, shows);
     let mut folder = HostFolder::new(files);
     let mut out = HostSink::new(prints);
     run_words(
@@ -79,6 +77,15 @@ where
         &gate,
     )
     .status
+}
+
+// The gate of this runtime, which shows how far a verification has come where it is asked to.
+fn gate_of<R: Clock + Eprint + Sync + Clone + Drop>(
+    rt: &R,
+    shows: bool,
+) -> Result<HostGate<R>, AllocError> {
+    let hears: R = rt.clone()?;
+    Ok(HostGate::new(hears, shows))
 }
 
 fn no_memory<R: Print + Clone + Drop>(rt: &R) -> u8 {

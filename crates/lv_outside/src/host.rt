@@ -1,4 +1,4 @@
-ghost use Rattle.std.specs.Prelude.{◌≡◌, ◌≢◌, ◌≤◌, ℕ, List, [], IfOk, IsErrOf, OnOk, OnErr};
+ghost use Rattle.std.specs.Prelude.{◌≡◌, ◌≢◌, ◌≤◌, ℕ, List, [], IfOk, IsErrOf, OnOk, OnErr, false, None};
 ghost use Rattle.lv_outside.specs.Counts.{Rose, counted, raised};
 ghost use Rattle.lv_outside.specs.Got.{IsAtMost, is_failed};
 
@@ -162,7 +162,9 @@ pub struct HostGate<R: Clock + Eprint + Sync + Drop> {
 
 impl<R: Clock + Eprint + Sync + Drop> HostGate<R> {
     /// A gate of this runtime. It shows nothing where it is not asked to, or where there is no clock to be read.
-    pub fn new(rt: R, shows: bool) -> HostGate<R> {
+    pub fn new(rt: R, shows: bool) -> HostGate<R>
+        ensures { shows ≡ false → result.shown_from ≡ None }
+    {
         let shown_from = if shows { Instant::now(&rt).ok() } else { None };
         HostGate { rt, shown_from }
     }
