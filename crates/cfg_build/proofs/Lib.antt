@@ -7,3 +7,5 @@ pub mod Graphing
 pub mod Linking
 pub mod Numbers
 pub mod Passing
+pub mod Turning
+pub mod Looping

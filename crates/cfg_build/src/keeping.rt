@@ -9,8 +9,8 @@ use code_layout::behind;
 use lv_base::Memory;
 use slot_code::Instruction;
 
-// Whether the place is one of the function's code.
-fn is_inside(range: &Range, place: usize) -> bool
+/// Whether the place is one of the function's code.
+pub(crate) fn is_inside(range: &Range, place: usize) -> bool
     ensures { result ≡ of.is_inside range.now place }
 {
     range.entry <= place && place < range.end

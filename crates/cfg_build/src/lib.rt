@@ -38,5 +38,6 @@ mod placing;
 mod ranging;
 mod sizes;
 mod steps;
+mod turns;
 
 pub use building::build;
