@@ -6,11 +6,12 @@ use Rattle.slot_code.specs.declared.flat.Instruction.{Instruction}
 use Rattle.slot_code.specs.Values as c
 use Rattle.slot_values.specs.Linked.{links_of}
 use Rattle.slot_values.specs.declared.scene.Link.{Link}
-use Rattle.cfg_build.specs.declared.placing.Range.{Range}
-use Rattle.cfg_build.specs.Ranges.{AreRanges, range_of, entry_or}
+use Rattle.code_tests.specs.declared.ranging.Range.{Range}
+use Rattle.code_tests.specs.Ranges.{AreRanges, range_of, entry_or}
 use Rattle.cfg_build.specs.Sizes.{nodes_at, nodes_of, one_if}
-use Rattle.cfg_build.specs.Numbers.{numbers_from, code_between, first_number, last_number, numbers_to, owners_to, HasLink}
-use Rattle.cfg_build.proofs.Linking.{links-more, none-behind, all-taken}
+use Rattle.cfg_build.specs.Numbers.{numbers_from, code_between, first_number, last_number, numbers_to, owners_to}
+use Rattle.code_tests.specs.Ranges.{HasLink}
+use Rattle.code_tests.proofs.Linking.{links-more, none-behind, all-taken}
 
 -- ---- Lists
 
@@ -113,16 +114,24 @@ dropped-nodes zero xs = omega arith
 dropped-nodes (suc n) [] = omega arith
 dropped-nodes (suc n) (x ∷ xs) = let h = dropped-nodes n xs in omega (arith, h)
 
-first-few : (b : Bool) → one_if b ≤ 1
-first-few true = omega arith
-first-few false = omega arith
+few-if : (b : Bool) → one_if b ≤ 1
+few-if true = omega arith
+few-if false = omega arith
+
+pub first-few : (main function : ℕ) → first_number main function ≤ 1
+first-few main function = few-if (function == main)
+
+pub between-few : (code : List Instruction) (entry end : ℕ) → nodes_of (code_between code entry end) ≤ nodes_of code
+between-few code entry end =
+    let a = taken-nodes (end - entry) (drop entry code) in
+    let b = dropped-nodes entry code in
+    omega (arith, a, b)
 
 pub last-fits : (code : List Instruction) (main function entry end : ℕ) → nodes_of code ≤ 65536 → last_number code (first_number main function) entry end < 4294967296
 last-fits code main function entry end few =
-    let a = taken-nodes (end - entry) (drop entry code) in
-    let b = dropped-nodes entry code in
-    let c = first-few (function == main) in
-    omega (arith, a, b, c, few)
+    let a = between-few code entry end in
+    let b = first-few main function in
+    omega (arith, a, b, few)
 
 -- ---- Loops over links
 

@@ -7,9 +7,9 @@ use Rattle.std.proofs.lemmas.List.Elements.{All-nil, All-cons, All-append}
 use Rattle.c_graph.specs.declared.graph.LoopAt.{LoopAt}
 use Rattle.slot_code.specs.declared.flat.Instruction.{Instruction}
 use Rattle.slot_code.specs.declared.flat.Instruction.TheVariants as i
-use Rattle.cfg_build.specs.declared.placing.Range.{Range}
+use Rattle.code_tests.specs.declared.ranging.Range.{Range}
 use Rattle.cfg_build.specs.declared.turns.Turning.{Turning}
-use Rattle.cfg_build.specs.Keeping.{is_inside}
+use Rattle.code_tests.specs.Keeping.{is_inside}
 use Rattle.cfg_build.specs.Follows.{Plan, node_of}
 use Rattle.cfg_build.specs.Graphs.{AllTurnTo, AreLoops, IsLoop}
 use Rattle.cfg_build.specs.Turns.{first_turns, listed, loop_of, loops_of, turned, turned_by, turns_at, with_turn}

@@ -21,11 +21,11 @@ use Rattle.c_typed.specs.Run.{main_number}
 use Rattle.code_layout.specs.Layout.{elements_of, layout_of}
 use Rattle.code_moves.specs.Setting.{Setting}
 use Rattle.code_moves.specs.Deeds.{Deed, Sets, AreDeeds}
-use Rattle.cfg_build.specs.declared.placing.Range.{Range}
+use Rattle.code_tests.specs.declared.ranging.Range.{Range}
 use Rattle.cfg_build.specs.Steps.{node_id, edge}
 use Rattle.cfg_build.specs.Follows.{Plan, node_of, Joined, PlacesFollow}
-use Rattle.cfg_build.specs.Ranges.{ProgramRanges}
-use Rattle.cfg_build.specs.Fitting.{AreFit, CallsEnter}
+use Rattle.code_tests.specs.Ranges.{ProgramRanges}
+use Rattle.code_tests.specs.Fitting.{AreFit, CallsEnter}
 
 -- ---- The first values of objects
 

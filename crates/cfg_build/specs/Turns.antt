@@ -4,7 +4,7 @@ use Rattle.c_graph.specs.declared.graph.LoopAt.{LoopAt}
 use Rattle.slot_code.specs.declared.flat.Instruction.{Instruction}
 use Rattle.slot_code.specs.declared.flat.Instruction.TheVariants as i
 use Rattle.cfg_build.specs.declared.turns.Turning.{Turning}
-use Rattle.cfg_build.specs.Keeping.{is_inside}
+use Rattle.code_tests.specs.Keeping.{is_inside}
 use Rattle.cfg_build.specs.Follows.{Plan, node_of}
 
 -- turns at one offset, and one more, which stands at a place and goes to a goal

@@ -4,6 +4,7 @@ ghost use Rattle.std.specs.Prelude.{◌≡◌, ◌≤◌, ◌==◌, ◌⊎◌, [
 ghost use Rattle.c_graph.specs.Parts.{error_flows};
 ghost use Rattle.c_terms.specs.Shown.{Grows};
 ghost use Rattle.code_moves.specs.Setting.{setting_of, Stands};
+ghost use Rattle.cfg_build.specs.Few.{AreFew, OpensFew};
 ghost use Rattle.cfg_build.specs.Follows.{plan_of};
 ghost use Rattle.c_typed.specs.Parts.{tree_of};
 ghost use Rattle.cfg_build.specs.Graphs as of;
@@ -15,12 +16,10 @@ ghost use Rattle.cfg_build.specs.Sizes.{IsWithin, TooMuch, nodes_of};
 ghost use Rattle.cfg_build.specs.Turns as turns;
 
 use crate::draft::Draft;
-use crate::fitting::is_fitting;
 use crate::looping::main_loops;
 use crate::numbering::{exit_of, first_of, numbers_of, owners_of};
 use crate::opening::add_opening;
-use crate::placing::{Places, Range, Whole, add_places};
-use crate::ranging::{is_placed, main_of, ranges_of};
+use crate::placing::{Places, Whole, add_places};
 use crate::sizes::few_nodes;
 use crate::turns::loops_at;
 use bv_term::Terms;
@@ -30,6 +29,7 @@ use c_terms::Words;
 use c_typed::Typed;
 use code_layout::{Layout, widths_of};
 use code_moves::Ground;
+use code_tests::{Range, is_fitting, is_placed, main_of, ranges_of};
 use lv_base::{Memory, SourceFail};
 use slot_compiler::{compiled, slots_in};
 use std::alloc::Global;
@@ -112,6 +112,8 @@ fn graphs_of(
     words: &mut Words,
 ) -> Result<Graphs, Memory>
     requires few { nodes_of whole.now.code.now ≤ 65536 }
+    requires numbers { AreFew whole.now.numbers.now }
+    requires opens { OpensFew (setting_of ground.now) }
     ensures made { Stands (setting_of ground.now) words.old → IfOk result (λ r. (r.graphs.items ≡ []) ⊎ (Grows words.old words.new
         × of.FirstGraphs whole.now.code.now whole.now.numbers.now whole.now.ranges.now main (setting_of ground.now) words.new.terms (length whole.now.ranges.now) r.graphs.items r.exits.items)) }
     ensures whole { Stands (setting_of ground.now) words.old → AllCanFollow whole.now ground.now.layout.now main
@@ -146,6 +148,8 @@ fn graph_of(
     ground: &Ground<'_>,
     words: &mut Words,
 ) -> Result<Option<FnGraph>, Memory>
+    requires numbers { AreFew places.now.whole.numbers.now }
+    requires opens { OpensFew (setting_of ground.now) }
     ensures made { Stands (setting_of ground.now) words.old → IfOk result (λ o. IfSome o (λ r. Grows words.old words.new
         × of.GraphFollows (places.now.range.function == main) (plan_of places.now) (setting_of ground.now) words.new.terms r)) }
     ensures whole { Stands (setting_of ground.now) words.old → CanFollow places.now ground.now.layout.now (first_number main places.now.range.function) → IfOk result (λ o. IsSome o) }
@@ -164,6 +168,7 @@ fn own_graph(
     ground: &Ground<'_>,
     words: &mut Words,
 ) -> Result<Option<FnGraph>, Memory>
+    requires numbers { AreFew places.now.whole.numbers.now }
     ensures made { Stands (setting_of ground.now) words.old → IfOk result (λ o. IfSome o (λ r. Grows words.old words.new
         × of.GraphFollows false (plan_of places.now) (setting_of ground.now) words.new.terms r)) }
     ensures whole { Stands (setting_of ground.now) words.old → CanFollow places.now ground.now.layout.now 0 → IfOk result (λ o. IsSome o) }
@@ -183,6 +188,8 @@ fn main_graph(
     ground: &Ground<'_>,
     words: &mut Words,
 ) -> Result<Option<FnGraph>, Memory>
+    requires numbers { AreFew places.now.whole.numbers.now }
+    requires opens { OpensFew (setting_of ground.now) }
     ensures made { Stands (setting_of ground.now) words.old → IfOk result (λ o. IfSome o (λ r. Grows words.old words.new
         × of.GraphFollows true (plan_of places.now) (setting_of ground.now) words.new.terms r)) }
     ensures whole { Stands (setting_of ground.now) words.old → CanFollow places.now ground.now.layout.now 1 → IfOk result (λ o. IsSome o) }

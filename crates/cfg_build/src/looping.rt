@@ -55,7 +55,7 @@ fn put_loops(found: &mut Vec<u32>, step: &Step) -> Result<(), Memory>
 }
 
 #[cycle(loop_walk)]
-#[tactic(auto, using(crate::proofs::Looping::steps_more, std::proofs::lemmas::List::take_all))]
+#[tactic(auto, using(crate::proofs::BodyLoops::steps_more, std::proofs::lemmas::List::take_all))]
 fn put_all(found: &mut Vec<u32>, steps: &[Step]) -> Result<(), Memory>
     ensures { OnOk result (found.new.items ≡ of.all_behind found.old.items (v.steps_of steps.now)) }
 {

@@ -7,10 +7,9 @@ ghost use Rattle.cfg_build.specs.Steps.{node_id};
 ghost use Rattle.cfg_build.specs.Sizes as s;
 ghost use Rattle.cfg_build.specs.Numbers.{code_between, first_number, last_number, numbers_from, numbers_to, owners_to};
 
-use crate::fitting::instruction_at;
-use crate::ranging::{entry_at, link_at};
 use crate::sizes::nodes_at;
 use c_graph::NodeId;
+use code_tests::{entry_at, instruction_at, link_at};
 use lv_base::Memory;
 use slot_code::Instruction;
 use slot_compiler::Code;

@@ -7,10 +7,9 @@ ghost use Rattle.std.specs.HashMap.{get};
 ghost use Rattle.cfg_build.specs.Follows.{plan_of};
 ghost use Rattle.cfg_build.specs.Turns as of;
 
-use crate::fitting::instruction_at;
-use crate::keeping::is_inside;
 use crate::placing::{Places, node_of};
 use c_graph::LoopAt;
+use code_tests::{instruction_at, is_inside};
 use lv_base::Memory;
 use slot_code::Instruction;
 use std::alloc::Global;

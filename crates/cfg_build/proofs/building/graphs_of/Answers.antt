@@ -1,6 +1,7 @@
-use Rattle.std.proofs.Common.{◌≡◌, suc, ◌+◌, length, Some, arith, sym, ap, slice_get}
+use Rattle.std.proofs.Common.{◌≡◌, suc, ◌+◌, length, Some, arith, sym, ap, subst, slice_get}
 use Rattle.code_moves.specs.Setting.{setting_of}
 use Rattle.code_moves.proofs.Standing.{stand-later}
+use Rattle.cfg_build.specs.Few.{AreFew}
 use Rattle.cfg_build.specs.Follows.{plan_of}
 use Rattle.cfg_build.proofs.Graphing.{graphs-count, graph-more, some-of, plan-is}
 use Rattle.cfg_build.proofs.building.graphs_of.Goals as goal
@@ -21,3 +22,6 @@ pub returns-clause-whole : goal.returns-clause-whole
 returns-clause-whole c = λ h a.
     let n : length c.loop-number.all.graphs.items ≡ c.loop-number.number = graphs-count _ _ _ _ _ _ _ _ _ (c.loop-number.invariant h).1 in
     omega (arith, n, c.loop-number-test.false, c.loop-number.auto.number-end)
+
+pub graph_of-requires-numbers : goal.graph_of-requires-numbers
+graph_of-requires-numbers c = subst AreFew (sym (ap (λ p. p.whole.numbers.now) c.places_of-places.ensures)) c.requires.numbers

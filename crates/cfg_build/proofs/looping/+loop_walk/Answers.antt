@@ -1,4 +1,4 @@
-use Rattle.cfg_build.proofs.Looping.{block_arm, for_arm}
+use Rattle.cfg_build.proofs.BodyLoops.{block_arm, for_arm}
 use Rattle.cfg_build.proofs.looping.+loop_walk.Goals as goal
 
 pub put_loops-returns-in-Block : goal.put_loops-returns-in-Block
@@ -6,4 +6,4 @@ put_loops-returns-in-Block t c = block_arm c.args.found.now.items c.put_block.ne
 
 pub put_loops-returns-in-For : goal.put_loops-returns-in-For
 put_loops-returns-in-For t c =
-    for_arm c.args.found.now.items c.put_loop.new.found.items c.args.step.now c.in-For.at c.in-For.field-1 c.in-For.field-2 c.in-For.field-3 c.in-For.inner c.put_loop.result c.in-For.is c.put_loop.ensures
+    for_arm c.args.found.now.items c.put_loop-in-For.new.found.items c.args.step.now c.in-For.at c.in-For.field-1 c.in-For.field-2 c.in-For.field-3 c.in-For.inner c.put_loop-in-For.result c.in-For.is c.put_loop-in-For.ensures
