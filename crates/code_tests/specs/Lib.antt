@@ -1,0 +1,4 @@
+pub mod Fitting
+pub mod Beginnings
+pub mod Keeping
+pub mod Ranges
