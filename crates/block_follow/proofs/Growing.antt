@@ -18,6 +18,17 @@ prefix (x ∷ xs) (y ∷ ys) le same =
     let (more, t) = prefix xs ys (omega (arith, le)) (λ k lt. same (suc k) (omega (arith, lt))) in
     (more, ap (λ z. z ∷ ys) h ∙ ap (λ zs. x ∷ zs) t)
 
+-- a list of the same length that has each element of another one at its number is that one
+pub same-list : {A : Type 0} → (xs ys : List A) → length xs ≡ length ys → ((k : ℕ) → k < length xs → slice_get ys k ≡ slice_get xs k) → ys ≡ xs
+same-list [] [] le same = refl
+same-list [] (y ∷ ys) le same = absurd (omega (arith, le))
+same-list (x ∷ xs) [] le same = absurd (omega (arith, le))
+same-list (x ∷ xs) (y ∷ ys) le same =
+    let e : Some y ≡ Some x = same 0 (omega arith) in
+    let h : y ≡ x = cc in
+    let t : ys ≡ xs = same-list xs ys (omega (arith, le)) (λ k lt. same (suc k) (omega (arith, lt))) in
+    ap (λ z. z ∷ ys) h ∙ ap (λ zs. x ∷ zs) t
+
 pub carried : {A : Type 0} → (xs ys us vs : List A) → xs ≡ us → ys ≡ vs → ((more : List A) × (ys ≡ xs ++ more)) → (more : List A) × (vs ≡ us ++ more)
 carried xs ys us vs p q (more, e) = (more, sym q ∙ e ∙ ap (λ z. z ++ more) p)
 
@@ -26,9 +37,9 @@ widths-more [] ys = refl
 widths-more (x ∷ xs) ys = ap (λ ws. x.width ∷ ws) (widths-more xs ys)
 
 -- the widths of a table's cells are those of its graph's
-pub grown : (g h : Flow) → IsFlow g → IsFlow h → g.entry.0 ≡ h.entry.0 → ((more : List Node) × (h.nodes ≡ g.nodes ++ more))
+pub grown : (g h : Flow) → IsFlow g → IsFlow h → g.entry.0 ≡ h.entry.0 → h.loops ≡ g.loops → ((more : List Node) × (h.nodes ≡ g.nodes ++ more))
     → ((more : List Cell) × (h.cells ≡ g.cells ++ more)) → ((more : List Term) × (h.terms.terms ≡ g.terms.terms ++ more)) → Grows g h
-grown g h gf hf entry nodes cells terms =
+grown g h gf hf entry loops nodes cells terms =
     let F : ℕ → NodeId = λ v. record { 0 = v } in
     let (more, e) = cells in
     let widths : h.terms.cells ≡ g.terms.cells ++ widths_of more =
@@ -37,6 +48,7 @@ grown g h gf hf entry nodes cells terms =
       nodes = nodes;
       cells = cells;
       entry = ap F (sym entry);
+      loops = loops;
       terms = ((widths_of more, widths), terms);
     }
 

@@ -10,7 +10,7 @@ use Rattle.block_rule.specs.Rule.{guarded}
 use Rattle.block_edges.specs.Exact.{OneOf}
 use Rattle.block_steps.specs.Cursors.{Meets}
 use Rattle.block_steps.specs.declared.cursor.Cursor.{Cursor}
-use Rattle.block_walk.proofs.Following.{drop-step, drop-all}
+use Rattle.walk_states.proofs.Following.{drop-step, drop-all}
 use Rattle.block_follow.specs.Following.{straight}
 
 has-straight : (h : Flow) (table : Table) (v to : ℕ) (ops : List Operation) (ds : List Deed) → Has h v ds (straight table ops (Ends to))

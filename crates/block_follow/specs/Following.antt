@@ -1,5 +1,5 @@
 -- What is tested of a graph and the graph of its blocks.
-use Rattle.std.specs.Prelude.{ℕ, ◌<◌, ◌≤◌, ◌≡◌, ◌⊎◌, true, List, [], ◌∷◌, ◌++◌, length, None, Some, slice_get}
+use Rattle.std.specs.Prelude.{ℕ, ◌<◌, ◌≤◌, ◌≡◌, ◌⊎◌, true, false, List, [], ◌∷◌, ◌++◌, length, None, Some, slice_get}
 use Rattle.bv_term.specs.WellFormed.{Table}
 use Rattle.truth_terms.specs.Truths.{Grew}
 use Rattle.c_graph.specs.declared.graph.Cell.{Cell}
@@ -15,13 +15,14 @@ use Rattle.block_rule.specs.Rule.{guarded}
 use Rattle.block_rule.specs.Blocked.{plain_deeds}
 use Rattle.block_edges.specs.Exact.{HasBlock, HasKept}
 use Rattle.block_edges.specs.Weights.{places_in}
-use Rattle.block_walk.specs.declared.state.Place.{Place}
+use Rattle.walk_states.specs.declared.state.Place.{Place}
 
--- what the graph h has begins with what g has, and both begin at one node
+-- what the graph h has begins with what g has, both begin at one node, and their loops are the same
 pub record Grows (g h : Flow) : Type 0 where
   pub nodes : (more : List Node) × (h.nodes ≡ g.nodes ++ more)
   pub cells : (more : List Cell) × (h.cells ≡ g.cells ++ more)
   pub entry : h.entry ≡ g.entry
+  pub loops : h.loops ≡ g.loops
   pub terms : Grew g.terms h.terms
 
 -- the code of operations as they are, and what follows
@@ -73,6 +74,10 @@ AreOver h v = (k : ℕ) (e : Edge) → slice_get h.edges k ≡ Some e → e.from
 -- the first place is the node's
 abbrev pub IsFirst : List Place → ℕ → Type 0
 IsFirst places v = (p : Place) × (slice_get places 0 ≡ Some p) × (p.node ≡ v)
+
+-- no place but the first is a cut point
+abbrev pub AreInside : Plan → List Place → Type 0
+AreInside plan places = (k : ℕ) (p : Place) → slice_get places k ≡ Some p → 0 < k → plan.cuts p.node ≡ false
 
 -- the node has a block of so many places at most
 abbrev pub HasBlockOf : Flow → Flow → Plan → ℕ → ℕ → Type 0

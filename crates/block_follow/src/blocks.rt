@@ -8,9 +8,9 @@ ghost use Rattle.block_rule.specs.Plans.{ArePlaces};
 ghost use Rattle.block_rule.specs.Plans as rule;
 ghost use Rattle.block_edges.specs.Exact.{AllLed};
 ghost use Rattle.block_edges.specs.Weights.{IsExact};
-ghost use Rattle.block_walk.specs.Known.{plan_of};
-ghost use Rattle.block_walk.specs.Walks.{places_of};
-ghost use Rattle.block_follow.specs.Following.{AreOver, Follows, HasBlockOf, IsFirst};
+ghost use Rattle.walk_states.specs.Known.{plan_of};
+ghost use Rattle.walk_states.specs.Walks.{places_of};
+ghost use Rattle.block_follow.specs.Following.{AreInside, AreOver, Follows, HasBlockOf, IsFirst};
 
 use crate::growth::grows;
 use crate::keeping::keeps;
@@ -18,11 +18,12 @@ use crate::outs::are_over;
 use crate::sizes::{are_few, size_at};
 use block_places::places_of_nodes;
 use block_steps::{Cursor, are_sides, leads_from};
-use block_walk::{Known, Place, Stop, block, matters};
+use block_walk::block;
 use c_graph::{Graph, NodeId};
 use lv_base::Memory;
 use plan_tests::is_plan;
 use std::alloc::Global;
+use walk_states::{Known, Place, Stop, matters};
 
 /// Whether the second graph has for each cut point of the first a block by the rule, or the edges that it had, and no more. What is
 /// known of the first graph is tested too. The members of each node are a guess of the places of its block, the node itself first, and
@@ -197,6 +198,9 @@ fn begins(
     if places.len() > size || !is_first(places, node) {
         return Ok(false);
     }
+    if !are_inside(known, places) {
+        return Ok(false);
+    }
     if !leads_from(new, first, node) {
         return Ok(false);
     }
@@ -222,4 +226,23 @@ fn is_first(places: &[Place], node: u32) -> bool
         return false;
     }
     places[0].node == node
+}
+
+/// Whether no place but the first is a cut point.
+fn are_inside(known: &Known, places: &[Place]) -> bool
+    ensures { IsTrue result → AreInside (plan_of known.now) places.now }
+{
+    for number in 0..places.len() {
+        if !is_inside(known, places[number].node, number) {
+            return false;
+        }
+    }
+    true
+}
+
+/// Whether the node of the place of a number is no cut point, if it is not the first.
+fn is_inside(known: &Known, node: u32, number: usize) -> bool
+    ensures { IsTrue result → 0 < number → (plan_of known.now).cuts node ≡ false }
+{
+    number == 0 || !known.cuts.get(node)
 }

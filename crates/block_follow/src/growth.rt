@@ -6,13 +6,17 @@ ghost use Rattle.c_graph.specs.declared.graph.Node.{Node};
 ghost use Rattle.block_follow.specs.Following.{Grows};
 
 use bv_term::{Term, TermId, Terms};
-use c_graph::{Cell, Graph, Node};
+use c_graph::{Cell, Graph, LoopAt, Node};
 
-/// Whether the nodes, cells and terms of the second graph begin with those of the first, and both begin at one node.
+/// Whether the nodes, cells and terms of the second graph begin with those of the first, both begin at one node, and their loops are the
+/// same.
 pub(crate) fn grows(old: &Graph, new: &Graph) -> bool
     ensures { IsTrue result → Grows old.now new.now }
 {
     if old.entry().0 != new.entry().0 {
+        return false;
+    }
+    if !same_loops(old.loops(), new.loops()) {
         return false;
     }
     if !more_nodes(old.nodes(), new.nodes()) {
@@ -22,6 +26,20 @@ pub(crate) fn grows(old: &Graph, new: &Graph) -> bool
         return false;
     }
     more_terms(old.terms(), new.terms())
+}
+
+fn same_loops(old: &[LoopAt], new: &[LoopAt]) -> bool
+    ensures { IsTrue result → new.now ≡ old.now }
+{
+    if old.len() != new.len() {
+        return false;
+    }
+    for number in 0..old.len() {
+        if old[number] != new[number] {
+            return false;
+        }
+    }
+    true
 }
 
 /// Whether the second nodes begin with the first.

@@ -6,16 +6,16 @@ ghost use Rattle.block_edges.specs.Exact.{HasKept};
 ghost use Rattle.block_rule.specs.Deeds.{Code, Does, Leading};
 ghost use Rattle.block_rule.specs.Rule.{guarded};
 ghost use Rattle.block_steps.specs.Cursors.{Meets};
-ghost use Rattle.block_walk.specs.Known.{plan_of};
+ghost use Rattle.walk_states.specs.Known.{plan_of};
 ghost use Rattle.block_follow.specs.Following.{AreCopies, AreKept, AreMade, IsKept, IsKeptEdge, IsSame, straight};
 
 use crate::outs::are_within;
 use block_steps::{Cursor, Test, assumes, ends, leads_from, stores};
-use block_walk::{Known, matters};
 use bv_term::Terms;
 use c_graph::{Edge, EdgeId, Graph, NodeId, Operation};
 use lv_base::Memory;
 use std::alloc::Global;
+use walk_states::{Known, matters};
 
 /// Whether the edges of a node that lead to nodes that matter lead to cut points, and stand in the other graph one behind the other,
 /// the first having this number, and no other edges lead from the node there.

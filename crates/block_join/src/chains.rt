@@ -2,7 +2,8 @@
 ghost use Rattle.std.specs.Prelude.{◌≡◌, ◌⊎◌, IfOk, IsTrue};
 ghost use Rattle.c_graph.specs.Parts.{error_flow};
 ghost use Rattle.join_laws.specs.Keeping.{KeepsErrors};
-ghost use Rattle.block_join.specs.Joined.{ChainsReturn, HasMore, IsChained};
+ghost use Rattle.join_laws.specs.Visits.{KeepsStores};
+ghost use Rattle.block_join.specs.Joined.{ChainsReturn, HasMore, IsChained, Stays};
 
 use c_graph::{Edge, Graph, Operations, graph_from};
 use edge_chains::join_chains;
@@ -11,7 +12,9 @@ use std::alloc::Global;
 
 /// The graph in which chains of edges are one edge each, or the graph itself where these make none.
 pub(crate) fn with_chains(alloc: Global, graph: Graph) -> Result<Graph, Memory>
+    ensures stays { IfOk result (λ h. Stays graph h) }
     ensures keeps { IfOk result (λ h. KeepsErrors graph h) }
+    ensures visits { IfOk result (λ h. KeepsStores graph h) }
     ensures back { IfOk result (λ h. ChainsReturn graph h) }
 {
     let _entry = graph.entry();

@@ -2,25 +2,28 @@
 ghost use Rattle.std.specs.Prelude.{IfOk, IsTrue};
 ghost use Rattle.program_graphs.specs.Returning.{ComesBack};
 ghost use Rattle.join_laws.specs.Keeping.{KeepsErrors};
-ghost use Rattle.block_join.specs.Joined.{BlocksReturn};
+ghost use Rattle.join_laws.specs.Visits.{KeepsVisits};
+ghost use Rattle.block_join.specs.Joined.{BlocksReturn, Stays};
 
 use crate::chains::{copied_edge, with_chains};
 use crate::emission::{Draft, Plan};
 use crate::terms::Truths;
 use block_follow::follows_rule;
 use block_plan::{Blocks, Reads, Units, Ways, begins, blocks_of, live_units, number_of, ways_at};
-use block_walk::Known;
 use bv_term::{TermId, Terms, are_widths};
 use c_graph::{Cell, Edge, Graph, Node, NodeId, Operations, Origin, graph_from};
 use lv_base::Memory;
 use std::alloc::Global;
+use walk_states::Known;
 
 /// The graph in which everything between two cut points is one edge, with a branch for its failed checks and one for each way out;
 /// and then each node with one way in and one way out, that is neither the entry nor a loop's, has given its edge away. Nodes keep
-/// their numbers, also those without edges that are left over; new ones stand behind them. Where the graph of blocks is not what the
+/// their numbers, also those without edges that are left over; new ones stand behind them. Loops keep their nodes. Where the graph of blocks is not what the
 /// rule says, the graph's own chains of edges are joined, and where these make no graph, it stays as it is.
 pub fn join_blocks(alloc: Global, graph: Graph) -> Result<Graph, Memory>
+    ensures stays { IfOk result (λ h. Stays graph h) }
     ensures keeps { IfOk result (λ h. KeepsErrors graph h) }
+    ensures visits { IfOk result (λ h. KeepsVisits graph h) }
     ensures back { IfOk result (λ h. ComesBack graph h) }
 {
     let made = attempted(alloc, &graph)?;
@@ -29,7 +32,7 @@ pub fn join_blocks(alloc: Global, graph: Graph) -> Result<Graph, Memory>
         known,
         members,
     } = made;
-    let are_same = have_same_errors(alloc, &graph, &blocked, &known, &members)?;
+    let are_same = have_same_runs(alloc, &graph, &blocked, &known, &members)?;
     if are_same {
         with_chains(alloc, blocked)
     } else {
@@ -38,14 +41,16 @@ pub fn join_blocks(alloc: Global, graph: Graph) -> Result<Graph, Memory>
 }
 
 /// Whether the second graph has the blocks of the first, by what is known of that and the places of each block.
-fn have_same_errors(
+fn have_same_runs(
     alloc: Global,
     graph: &Graph,
     blocked: &Graph,
     known: &Known,
     members: &[Vec<NodeId>],
 ) -> Result<bool, Memory>
+    ensures stays { IfOk result (λ b. IsTrue b → Stays graph.now blocked.now) }
     ensures keeps { IfOk result (λ b. IsTrue b → KeepsErrors graph.now blocked.now) }
+    ensures visits { IfOk result (λ b. IsTrue b → KeepsVisits graph.now blocked.now) }
     ensures back { IfOk result (λ b. IsTrue b → BlocksReturn graph.now blocked.now) }
 {
     let _entry = graph.entry();

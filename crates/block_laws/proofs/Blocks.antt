@@ -10,7 +10,7 @@ use Rattle.c_graph.specs.Steps.{Moment, moment, operated_all}
 use Rattle.c_graph.proofs.Keeping.{edge-fits}
 use Rattle.block_rule.specs.Plans.{Place, Plan, matters, IsError, IsPlace, ArePlaces}
 use Rattle.block_rule.specs.Rule.{State, is_on, exits, placed, all_placed, start, block_code}
-use Rattle.block_rule.specs.Blocked.{Agree, read_before_all, Flows, IsPlan}
+use Rattle.block_rule.specs.Blocked.{Agree, read_before_all, Flows, IsPlan, NoneCuts}
 use Rattle.block_laws.proofs.Lists.{Each, each-map, false-true}
 use Rattle.block_laws.proofs.Keeping.{Ready, WaitIn}
 use Rattle.block_laws.proofs.Moving.{Lands, Widths}
@@ -57,24 +57,21 @@ Later g plan n w a most to end =
 
 -- the block ends at the run's error, or at a cut point from which the run goes on
 abbrev pub Out : Flow → Plan → ℕ → ℕ → Moment → ℕ → ℕ → Moment → Type 0
-Out g plan n w a most to end = ((to ≡ w) × (end.inputs ≡ a.inputs)) ⊎ Later g plan n w a most to end
+Out g plan n w a most to end = (IsError g w × (to ≡ w) × (end.inputs ≡ a.inputs)) ⊎ Later g plan n w a most to end
 
 module _ (g : Flow) (wide : Table) (plan : Plan) (many : ℕ) (widths : Widths (length g.cells) g.terms wide) (flow : IsFlow g) (is : IsPlan g plan) (le : length g.cells ≤ many)
-    (w : ℕ) (a : Moment) (error : IsError g w) (most : ℕ) where
+    (w : ℕ) (a : Moment) (alive-end : plan.alive w ≡ true) (stop : IsError g w ⊎ (plan.cuts w ≡ true)) (most : ℕ) where
   abbrev n : ℕ
   n = length g.cells
 
   abbrev P : ℕ → Moment → Type 0
   P = Out g plan n w a most
 
-  alive-end : plan.alive w ≡ true
-  alive-end = is.errors w error.0 error.1.0 error.1.1
-
   -- behind an edge that leads to an error
   over : (path : List EdgeId) (to : ℕ) (m : Moment) → Along g path to m w a → IsError g to → (t : List ℕ) → P to (moment t m.inputs)
   over path to m run err t =
       let (same, last) = error-ends g path to m w a flow err run in
-      inl (same, ap (λ (x : Moment). x.inputs) last)
+      inl (subst (λ (x : ℕ). IsError g x) same err, same, ap (λ (x : Moment). x.inputs) last)
 
   failing : (path : List EdgeId) (to : ℕ) (m : Moment) → Along g path to m w a → IsError g to → Failing g.terms wide plan n many P widths (Some to) m.inputs
   failing path to m run err e t q =
@@ -121,24 +118,31 @@ module _ (g : Flow) (wide : Table) (plan : Plan) (many : ℕ) (widths : Widths (
   waiting-on st s at ready =
       each-map (WaitIn n st.next ready.guards ready.owner None at s) (λ x. is_on x.guard s ≡ at x.node) st.waiting (λ x h. h.on refl) ready.waits
 
-  onwards : (places : List Place) → ArePlaces g plan n places → Onward places most
-  onwards [] are st s r path m ready agree long run less reached =
+  -- the run does not end at a place that is no cut point
+  passes-on : (p : Place) → IsPlace g plan n p → plan.cuts p.node ≡ false → w ≡ p.node → ⊥
+  passes-on p place off same = elim stop [
+    | inl error ↦ plain-error g p.node place.plain (subst (λ (x : ℕ). IsError g x) same error)
+    | inr cut ↦ false-true (sym off ∙ ap plan.cuts (sym same) ∙ cut)
+  ]
+
+  onwards : (places : List Place) → ArePlaces g plan n places → NoneCuts plan places → Onward places most
+  onwards [] are inside st s r path m ready agree long run less reached =
       lands-flush wide many P st.bads (exits plan st.lost st.waiting) (moment s m.inputs) ready.first
       (lands-exits wide plan many P st.lost st.waiting (moment s m.inputs) r (waiting-on st s (λ x. x == r) ready) (ready.held refl r (eq-eqb r r refl))
       (λ cut. inr (path, (m, less, run, cut, reached, agree, long, refl))))
-  onwards (p ∷ ps) are st s r [] m ready agree long run less reached = elim (cases_eq r p.node) [
-    | inl here ↦ absurd (plain-error g p.node are.0.plain (subst (λ (x : ℕ). IsError g x) (sym run.0 ∙ here) error))
+  onwards (p ∷ ps) are inside st s r [] m ready agree long run less reached = elim (cases_eq r p.node) [
+    | inl here ↦ absurd (passes-on p are.0 inside.0 (sym run.0 ∙ here))
     | inr away ↦
         placed-away g wide plan n many P widths None (λ x. x == r) r (λ e. eq-eqb r r refl) m.inputs (λ e t q. absurd (let z : None ≡ Some e = q in cc))
         st s p (all_placed g.terms plan ps) ready are.0 (λ e. ne_eqb p.node r (λ q. away (sym q)))
-        (λ st2 t ready2 q. onwards ps are.1 st2 t r [] m ready2 (λ c lt y. agree c lt y ∙ q refl c lt y) long run less reached)
+        (λ st2 t ready2 q. onwards ps are.1 inside.1 st2 t r [] m ready2 (λ c lt y. agree c lt y ∙ q refl c lt y) long run less reached)
   ]
-  onwards (p ∷ ps) are st s r (k ∷ path) m ready agree long run less reached = elim (cases_eq r p.node) [
-    | inl here ↦ steps p ps are.0 are.1 (onwards ps are.1) st s r k path m here ready agree long run (omega (arith, less)) reached
+  onwards (p ∷ ps) are inside st s r (k ∷ path) m ready agree long run less reached = elim (cases_eq r p.node) [
+    | inl here ↦ steps p ps are.0 are.1 (onwards ps are.1 inside.1) st s r k path m here ready agree long run (omega (arith, less)) reached
     | inr away ↦
         placed-away g wide plan n many P widths None (λ x. x == r) r (λ e. eq-eqb r r refl) m.inputs (λ e t q. absurd (let z : None ≡ Some e = q in cc))
         st s p (all_placed g.terms plan ps) ready are.0 (λ e. ne_eqb p.node r (λ q. away (sym q)))
-        (λ st2 t ready2 q. onwards ps are.1 st2 t r (k ∷ path) m ready2 (λ c lt y. agree c lt y ∙ q refl c lt y) long run less reached)
+        (λ st2 t ready2 q. onwards ps are.1 inside.1 st2 t r (k ∷ path) m ready2 (λ c lt y. agree c lt y ∙ q refl c lt y) long run less reached)
   ]
 
   -- before the first place of a block
@@ -158,8 +162,8 @@ module _ (g : Flow) (wide : Table) (plan : Plan) (many : ℕ) (widths : Widths (
     base = omega arith;
   }
 
-  pub block-lands : (p : Place) (ps : List Place) → ArePlaces g plan n (p ∷ ps) → (s : List ℕ) (k : EdgeId) (path : List EdgeId) (m : Moment) → length s ≡ many
+  pub block-lands : (p : Place) (ps : List Place) → ArePlaces g plan n (p ∷ ps) → NoneCuts plan ps → (s : List ℕ) (k : EdgeId) (path : List EdgeId) (m : Moment) → length s ≡ many
       → Agree n (plan.live p.node) m.store s → n ≤ length m.store → Along g (k ∷ path) p.node m w a → length path < most → plan.reached p.node ≡ true
       → Lands wide many P (block_code g.terms plan p ps n) (moment s m.inputs)
-  block-lands p ps are s k path m long agree wide2 run less reached =
-      steps p ps are.0 are.1 (onwards ps are.1) (start p.node n) s p.node k path m refl (starts p.node s long) agree wide2 run less reached
+  block-lands p ps are inside s k path m long agree wide2 run less reached =
+      steps p ps are.0 are.1 (onwards ps are.1 inside) (start p.node n) s p.node k path m refl (starts p.node s long) agree wide2 run less reached

@@ -1,5 +1,5 @@
 -- A run, block by block.
-use Rattle.std.proofs.Common.{◌≡◌, ℕ, ℤ, ◌<◌, ◌≤◌, inl, inr, true, List, [], ◌∷◌, ◌++◌, Some, None, refl, sym, ap, ◌∙◌, subst, zero, suc, length, length-append, arith, All, slice_index, slice_get}
+use Rattle.std.proofs.Common.{◌≡◌, ℕ, ℤ, ◌<◌, ◌≤◌, ◌⊎◌, inl, inr, true, List, [], ◌∷◌, ◌++◌, Some, None, refl, sym, ap, ◌∙◌, subst, zero, suc, length, length-append, arith, All, slice_index, slice_get}
 use Rattle.std.proofs.lemmas.Nat.{pow_pos}
 use Rattle.bv_term.specs.WellFormed.{Table}
 use Rattle.bv_term.specs.Values.{IsStore}
@@ -19,7 +19,7 @@ use Rattle.block_rule.specs.Deeds.{Code}
 use Rattle.block_rule.specs.Plans.{Plan, matters, IsError}
 use Rattle.block_rule.specs.Rule.{block_code}
 use Rattle.block_rule.specs.Blocked.{Agree, read_before_all, Flows, plain_deeds, Begins, Keeps, IsBlocked}
-use Rattle.block_laws.specs.Keeping.{BlockedMapMeansSafe, BlocksKeepErrors}
+use Rattle.block_laws.specs.Keeping.{BlockedMapMeansSafe, BlocksKeepErrors, BlocksKeepVisits}
 use Rattle.block_laws.proofs.Reading.{SetsBelow, AllSetBelow, follows_all}
 use Rattle.block_laws.proofs.Moving.{Widths}
 use Rattle.block_laws.proofs.Blocks.{Along, alive-along, both-true, Out, block-lands}
@@ -111,7 +111,8 @@ fits-below table n (op ∷ ops) long fits =
     one (SetAt first k i t) f = (let z = f.0.1 in omega (arith, z, long))
     one (Draw c signed) f = (let z = f.0 in omega (arith, z, long))
 
-module _ (g h : Flow) (plan : Plan) (flow : IsFlow g) (wide : IsFlow h) (is : IsBlocked g h plan) (w : ℕ) (a : Moment) (error : IsError g w) where
+module _ (g h : Flow) (plan : Plan) (flow : IsFlow g) (wide : IsFlow h) (is : IsBlocked g h plan) (w : ℕ) (a : Moment) (alive-end : plan.alive w ≡ true)
+    (stop : IsError g w ⊎ (plan.cuts w ≡ true)) where
   abbrev n : ℕ
   n = length g.cells
 
@@ -129,12 +130,13 @@ module _ (g h : Flow) (plan : Plan) (flow : IsFlow g) (wide : IsFlow h) (is : Is
   whole-long : (s : List ℕ) → IsWhole h.terms.cells s → length s ≡ many
   whole-long s whole = whole.length ∙ ap length wide.cells ∙ length-widths h.cells
 
-  alive-end : plan.alive w ≡ true
-  alive-end = is.planned.errors w error.0 error.1.0 error.1.1
+  -- at an error nothing is said of the store; at another node what is read from there on is the same
+  abbrev Arrived : Moment → Type 0
+  Arrived end = IsError g w ⊎ Agree n (plan.live w) a.store end.store
 
   -- the run of the graph of blocks
   abbrev Follows : ℕ → Moment → Type 0
-  Follows v m = (path : List EdgeId) × ((end : Moment) × Along h path v m w end × (end.inputs ≡ a.inputs))
+  Follows v m = (path : List EdgeId) × ((end : Moment) × Along h path v m w end × (end.inputs ≡ a.inputs) × Arrived end)
 
   -- runs along fewer edges than so many have one
   abbrev Followed : ℕ → Type 0
@@ -143,13 +145,13 @@ module _ (g h : Flow) (plan : Plan) (flow : IsFlow g) (wide : IsFlow h) (is : Is
       → Agree n (plan.live v) m.store s → n ≤ length m.store → IsWhole h.terms.cells s → Follows v (moment s m.inputs)
 
   joined : (v : ℕ) (m : Moment) (path : List EdgeId) (u : ℕ) (b : Moment) → Along h path v m u b → Follows u b → Follows v m
-  joined v m path u b run (rest, (end, run2, same)) = (path ++ rest, (end, along-append h path rest v m u b w end run run2, same))
+  joined v m path u b run (rest, (end, run2, same, arrived)) = (path ++ rest, (end, along-append h path rest v m u b w end run run2, same, arrived))
 
   by-block : (fuel : ℕ) → Followed fuel → (k : EdgeId) (path : List EdgeId) (v : ℕ) (m : Moment) (s : List ℕ) → length (k ∷ path) < suc fuel → Along g (k ∷ path) v m w a
       → plan.reached v ≡ true → Agree n (plan.live v) m.store s → n ≤ length m.store → IsWhole h.terms.cells s → Begins g h plan v → Follows v (moment s m.inputs)
   by-block fuel next k path v m s less run reached agree long whole begins =
       let code : Code = block_code g.terms plan begins.first begins.others n in
-      let lands = block-lands g h.terms plan many widths flow is.planned le w a error (length (k ∷ path)) begins.first begins.others begins.places s k path m (whole-long s whole)
+      let lands = block-lands g h.terms plan many widths flow is.planned le w a alive-end stop (length (k ∷ path)) begins.first begins.others begins.places begins.inside s k path m (whole-long s whole)
       (subst (λ (x : ℕ). Agree n (plan.live x) m.store s) (sym begins.node) agree) long (subst (λ (x : ℕ). Along g (k ∷ path) x m w a) (sym begins.node) run)
       (omega arith) (ap plan.reached begins.node ∙ reached) in
       let (to, (end, go, out)) = lands begins.sound in
@@ -157,7 +159,7 @@ module _ (g h : Flow) (plan : Plan) (flow : IsFlow g) (wide : IsFlow h) (is : Is
       joined v (moment s m.inputs) first to end run1 (goes-on to end whole1 out)
     where
       goes-on : (to : ℕ) (end : Moment) → IsWhole h.terms.cells end.store → Out g plan n w a (length (k ∷ path)) to end → Follows to end
-      goes-on to end whole1 (inl last) = ([], (end, (last.0, refl), last.1))
+      goes-on to end whole1 (inl (err, last, same)) = ([], (end, (last, refl), same, inl err))
       goes-on to end whole1 (inr (path2, (m2, less2, run2, cut2, reached2, agree2, long2, same2))) =
           subst (λ (zs : List ℤ). Follows to (moment end.store zs)) same2
           (next path2 to m2 end.store (omega (arith, less, less2)) run2 cut2 reached2 agree2 long2 whole1)
@@ -184,7 +186,11 @@ module _ (g h : Flow) (plan : Plan) (flow : IsFlow g) (wide : IsFlow h) (is : Is
   followed : (fuel : ℕ) → Followed fuel
   followed zero path v m s less run cut reached agree long whole = absurd (omega (arith, less))
   followed (suc fuel) [] v m s less run cut reached agree long whole =
-      ([], (moment s m.inputs, (run.0, refl), ap (λ (x : Moment). x.inputs) run.1))
+      ([], (moment s m.inputs, (run.0, refl), ap (λ (x : Moment). x.inputs) run.1, inr (λ c lt y. held c lt y)))
+    where
+      held : Agree n (plan.live w) a.store s
+      held c lt y =
+          ap (λ (x : Moment). slice_index x.store c) (sym run.1) ∙ agree c lt (ap (λ (x : ℕ). plan.live x c) run.0 ∙ y)
   followed (suc fuel) (k ∷ path) v m s less run cut reached agree long whole =
       let alive : plan.alive v ≡ true = alive-along g plan (k ∷ path) v m w a is.planned alive-end run in
       elim (is.blocks v cut (both-true (plan.reached v) (plan.alive v) reached alive)) [
@@ -192,30 +198,43 @@ module _ (g h : Flow) (plan : Plan) (flow : IsFlow g) (wide : IsFlow h) (is : Is
         | inr keeps ↦ by-edge fuel (followed fuel) k path v m s less run reached agree long whole keeps
       ]
 
-pub blocks_keep_errors : BlocksKeepErrors
-blocks_keep_errors g h plan draws v after kind at flow wide is (path, store, whole, run) error =
-    let err : IsError g v.0 = (kind, (at, error)) in
+-- a run from the entry, and one of the graph of blocks from there
+pub follows-to : (g h : Flow) (plan : Plan) (draws : List ℤ) (v : NodeId) (after : List ℕ) → IsFlow g → IsFlow h → IsBlocked g h plan → RunsTo g draws v after
+    → plan.alive v.0 ≡ true → IsError g v.0 ⊎ (plan.cuts v.0 ≡ true)
+    → (end : List ℕ) × RunsTo h draws v end × (IsError g v.0 ⊎ Agree (length g.cells) (plan.live v.0) after end)
+follows-to g h plan draws v after flow wide is (path, store, whole, run) alive stop =
     let s : List ℕ = store ++ zeros is.cells.0 in
     let cells : widths_of (g.cells ++ is.cells.0) ≡ h.terms.cells = ap widths_of (sym is.cells.1) ∙ sym wide.cells in
     let fits : IsWhole (widths_of (g.cells ++ is.cells.0)) (store ++ zeros is.cells.0) =
     record { length = wider-long g.cells is.cells.0 store whole.length; fits = wider-fits g.cells is.cells.0 store whole.length whole.fits } in
     let whole2 : IsWhole h.terms.cells (store ++ zeros is.cells.0) = subst (λ (ws : List ℕ). IsWhole ws (store ++ zeros is.cells.0)) cells fits in
     let long : length store ≡ length g.cells = whole.length ∙ length-widths g.cells in
-    let (path2, (end, run2, same)) = followed g h plan flow wide is v.0 (moment after []) err (suc (length path)) path g.entry.0 (moment store draws) (store ++ zeros is.cells.0)
-    (omega arith) (along-of g path g.entry store draws v after run) is.planned.cut is.planned.entry
+    let (path2, (end, run2, same, arrived)) = followed g h plan flow wide is v.0 (moment after []) alive stop (suc (length path)) path g.entry.0 (moment store draws)
+    (store ++ zeros is.cells.0) (omega arith) (along-of g path g.entry store draws v after run) is.planned.cut is.planned.entry
     (λ c lt y. front-same store (zeros is.cells.0) c (omega (arith, lt, long))) (omega (arith, long)) whole2 in
     let runs = runs-of h path2 g.entry (moment (store ++ zeros is.cells.0) draws) v end run2 same in (
+      end.store,
       (
-        end.store,
-        (
-          path2,
-          store ++ zeros is.cells.0,
-          subst (λ (ws : List ℕ). IsWhole ws (store ++ zeros is.cells.0)) wide.cells whole2,
-          subst (λ (x : NodeId). RunsAlong h path2 x (store ++ zeros is.cells.0) draws v end.store) (sym is.entry) runs,
-        ),
+        path2,
+        store ++ zeros is.cells.0,
+        subst (λ (ws : List ℕ). IsWhole ws (store ++ zeros is.cells.0)) wide.cells whole2,
+        subst (λ (x : NodeId). RunsAlong h path2 x (store ++ zeros is.cells.0) draws v end.store) (sym is.entry) runs,
       ),
+      arrived,
+    )
+
+pub blocks_keep_errors : BlocksKeepErrors
+blocks_keep_errors g h plan draws v after kind at flow wide is run error =
+    let err : IsError g v.0 = (kind, (at, error)) in
+    let (end, runs, arrived) = follows-to g h plan draws v after flow wide is run (is.planned.errors v.0 kind at error) (inl err) in (
+      (end, runs),
       ap (λ (xs : List Node). slice_get xs v.0) is.nodes.1 ∙ node-there g.nodes is.nodes.0 v.0 (Error kind at) error,
     )
+
+pub blocks_keep_visits : BlocksKeepVisits
+blocks_keep_visits g h plan draws v after flow wide is cut alive run =
+    let (end, runs, arrived) = follows-to g h plan draws v after flow wide is run alive (inr cut) in
+    (end, runs, λ no. elim arrived [ inl err ↦ absurd (no err) | inr agree ↦ agree ])
 
 pub blocked_map_means_safe : BlockedMapMeansSafe
 blocked_map_means_safe g h plan m draws v after kind at flow wide is map run error =

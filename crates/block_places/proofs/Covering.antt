@@ -10,13 +10,13 @@ use Rattle.c_graph.specs.declared.graph.Operation.TheVariants.{SetAt}
 use Rattle.c_graph.specs.Shape.{Flow, outs}
 use Rattle.plan_tables.specs.Tables.{is_live_in, unit_at}
 use Rattle.block_rule.specs.Plans.{Plan, AreMoves, ArePlaces, AreRegular, IsMove, IsPlace}
-use Rattle.block_walk.specs.declared.known.Known.{Known}
-use Rattle.block_walk.specs.declared.state.Place.{Place}
-use Rattle.block_walk.specs.declared.state.Ways.{Ways}
-use Rattle.block_walk.specs.declared.state.Ways.TheVariants.{Goes, Tested, Checked, Fails, Forks}
+use Rattle.walk_states.specs.declared.known.Known.{Known}
+use Rattle.walk_states.specs.declared.state.Place.{Place}
+use Rattle.walk_states.specs.declared.state.Ways.{Ways}
+use Rattle.walk_states.specs.declared.state.Ways.TheVariants.{Goes, Tested, Checked, Fails, Forks}
 use Rattle.block_edges.specs.Exact.{AllLed, AreLed, Leaves}
-use Rattle.block_walk.specs.Known.{on_unit, plan_of}
-use Rattle.block_walk.specs.Walks.{place_of, places_of, ways_of}
+use Rattle.walk_states.specs.Known.{on_unit, plan_of}
+use Rattle.walk_states.specs.Walks.{place_of, places_of, ways_of}
 use Rattle.block_places.specs.Covering.{AreCovered, AreLeading, IsTotal, Leads}
 use Rattle.block_steps.proofs.Leaving.{edge_id, leaving}
 

@@ -7,9 +7,9 @@ use Rattle.c_graph.specs.declared.graph.Operation.TheVariants.{Assume}
 use Rattle.c_graph.specs.Shape.{Flow}
 use Rattle.block_rule.specs.Plans.{IsOneOf, IsWay}
 use Rattle.block_edges.specs.Exact.{Either, Leaves}
-use Rattle.block_walk.specs.declared.state.Ways.{Ways}
-use Rattle.block_walk.specs.declared.state.Ways.TheVariants.{Goes, Tested, Checked, Fails, Forks}
-use Rattle.block_walk.specs.Walks.{moves_of, ways_of}
+use Rattle.walk_states.specs.declared.state.Ways.{Ways}
+use Rattle.walk_states.specs.declared.state.Ways.TheVariants.{Goes, Tested, Checked, Fails, Forks}
+use Rattle.walk_states.specs.Walks.{moves_of, ways_of}
 
 -- the edge of a number does this and leads there
 abbrev pub Leads : Flow → ℕ → List Operation → ℕ → Type 0

@@ -2,12 +2,12 @@
 ghost use Rattle.std.specs.Prelude.{◌≡◌, [], ◌∷◌, IsTrue, Some, drop, slice_get};
 ghost use Rattle.c_graph.specs.declared.graph.Operation.TheVariants.{Assume};
 ghost use Rattle.block_rule.specs.Plans.{IsWay};
-ghost use Rattle.block_walk.specs.Walks.{moves_of};
+ghost use Rattle.walk_states.specs.Walks.{moves_of};
 ghost use Rattle.block_places.specs.Covering.{AreCovered, IsCovered, Leads};
 
-use block_walk::{Way, Ways};
 use bv_term::TermId;
 use c_graph::{Edge, EdgeId, Graph, Operation};
+use walk_states::{Way, Ways};
 
 fn is_test(operation: Operation, test: TermId) -> bool
     ensures { IsTrue result → operation ≡ Assume test }

@@ -1,8 +1,8 @@
 //! Ways out of a node, guessed by the first operations of its edges and the nodes to which they lead.
 
-use block_walk::{Way, Ways};
 use bv_term::TermId;
 use c_graph::{EdgeId, Graph, Node, NodeId, Operation};
+use walk_states::{Way, Ways};
 
 /// An edge as a way out: the term that it tests first, if it does, the way behind that, and whether it leads to an error.
 #[derive(Clone, Copy)]

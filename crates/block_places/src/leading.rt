@@ -2,14 +2,14 @@
 ghost use Rattle.std.specs.Prelude.{[], ◌∷◌, IsTrue};
 ghost use Rattle.c_graph.specs.declared.graph.Operation.TheVariants.{Assume};
 ghost use Rattle.block_edges.specs.Exact.{Leaves};
-ghost use Rattle.block_walk.specs.Walks.{moves_of};
+ghost use Rattle.walk_states.specs.Walks.{moves_of};
 ghost use Rattle.block_places.specs.Covering.{AreLeading};
 
 use crate::edges::{is_bare, is_behind, is_whole};
 use block_steps::leads_from;
-use block_walk::{Way, Ways};
 use bv_term::TermId;
 use c_graph::{EdgeId, Graph};
+use walk_states::{Way, Ways};
 
 /// Whether an edge leads from the node that is the way.
 fn has_whole(graph: &Graph, node: u32, way: Way) -> bool

@@ -4,11 +4,11 @@ ghost use Rattle.bv_term.specs.declared.term.TermId.{TermId};
 ghost use Rattle.c_graph.specs.declared.graph.Operation.TheVariants.{SetAt};
 ghost use Rattle.plan_tables.specs.Tables.{unit_at};
 ghost use Rattle.block_rule.specs.Plans.{AreMoves, IsMove};
-ghost use Rattle.block_walk.specs.Known.{plan_of};
-ghost use Rattle.block_walk.specs.Walks.{moves_of};
+ghost use Rattle.walk_states.specs.Known.{plan_of};
+ghost use Rattle.walk_states.specs.Walks.{moves_of};
 
-use block_walk::{Known, Way};
 use c_graph::{Graph, Operation};
+use walk_states::{Known, Way};
 
 fn has_unit(known: &Known, cell: u32, unit: u32) -> bool
     ensures { IsTrue result → unit_at known.now.units cell ≡ Some unit }

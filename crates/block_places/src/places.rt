@@ -4,18 +4,18 @@ ghost use Rattle.c_graph.specs.declared.graph.Node.TheVariants.{Plain};
 ghost use Rattle.c_graph.specs.Shape.{outs};
 ghost use Rattle.block_rule.specs.Plans.{ArePlaces, IsPlace};
 ghost use Rattle.block_edges.specs.Exact.{AllLed, AreLed};
-ghost use Rattle.block_walk.specs.Known.{plan_of};
-ghost use Rattle.block_walk.specs.Walks.{place_of, places_of, ways_of};
+ghost use Rattle.walk_states.specs.Known.{plan_of};
+ghost use Rattle.walk_states.specs.Walks.{place_of, places_of, ways_of};
 
 use crate::edges::are_covered;
 use crate::exits::guess;
 use crate::leading::are_leading;
 use crate::regular::is_regular;
 use block_steps::is_plain;
-use block_walk::{Known, Place, Ways};
 use c_graph::{EdgeId, Graph, NodeId};
 use lv_base::Memory;
 use std::alloc::Global;
+use walk_states::{Known, Place, Ways};
 
 /// The place with these ways, if they pass the tests.
 fn tested(

@@ -4,14 +4,14 @@ ghost use Rattle.bv_term.specs.WellFormed.{IsTable};
 ghost use Rattle.graph_walk_laws.specs.Walks.{AreComplements};
 ghost use Rattle.block_rule.specs.Plans.{AreRegular, Exclude, IsError};
 ghost use Rattle.block_edges.specs.Exact.{Either};
-ghost use Rattle.block_walk.specs.Known.{plan_of};
-ghost use Rattle.block_walk.specs.Walks.{ways_of};
+ghost use Rattle.walk_states.specs.Known.{plan_of};
+ghost use Rattle.walk_states.specs.Walks.{ways_of};
 ghost use Rattle.block_places.specs.Covering.{IsTotal};
 
 use crate::moves::has_moves;
-use block_walk::{Known, Ways};
 use bv_term::{Term, TermId, Terms};
 use c_graph::{Graph, Node};
+use walk_states::{Known, Ways};
 
 fn is_not(term: Term, operand: TermId) -> bool
     ensures { IsTrue result → term ≡ Term.Not operand }

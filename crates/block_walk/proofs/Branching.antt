@@ -1,41 +1,37 @@
 -- Branches found in edges, and steps of loops over checks, ways out and places that wait.
-use Rattle.std.proofs.Common.{Result, IfOk, ◌≡◌, ℕ, ◌+◌, ◌<◌, ◌≤◌, ◌==◌, ◌&&◌, ◌||◌, Bool, true, false, not, List, [], ◌∷◌, ◌++◌, Option, Some, None, refl, sym, ap, ◌∙◌, subst, zero, suc, arith, length, drop, slice_get, nat_lt, if◌then◌else◌, append_assoc, add-one}
-use Rattle.std.proofs.lemmas.Bool.{lt-ltb, le-ltb}
+use Rattle.std.proofs.Common.{◌≡◌, ℕ, ◌+◌, ◌<◌, ◌≤◌, ◌||◌, Bool, true, not, List, [], ◌∷◌, Option, Some, None, refl, sym, ap, ◌∙◌, subst, zero, suc, arith, length, drop, slice_get, add-one}
 use Rattle.bv_term.specs.declared.term.TermId.{TermId}
 use Rattle.bv_term.specs.Numbers.{truth}
 use Rattle.bv_term.specs.WellFormed.{Table}
 use Rattle.c_graph.specs.Shape.{Flow}
 use Rattle.truth_terms.specs.Truths.{IsBit, is_one}
 use Rattle.truth_terms.proofs.Bits.{test-is}
-use Rattle.block_rule.specs.Deeds.{Deed, Code, Stops, Ends, Does, Branches}
+use Rattle.block_rule.specs.Deeds.{Code, Stops, Ends, Branches}
 use Rattle.block_rule.specs.Plans as plans
-use Rattle.block_rule.specs.Rule.{Wait, Bad, State, with_wait, is_none, some_bad, is_set, is_on, exits, flushed, certain, moved, some_draw, leads, goes, clear}
+use Rattle.block_rule.specs.Rule.{State, is_none, some_bad, is_on, exits, flushed, certain, moved, some_draw, leads, goes, clear}
 use Rattle.block_steps.specs.Cursors.{AreSides, EndAt, Meets, SideAt}
 use Rattle.block_steps.specs.declared.cursor.Cursor.{Cursor}
 use Rattle.block_steps.proofs.Places.{branches, branches-once}
-use Rattle.block_walk.specs.declared.state.Waiting.{Waiting}
-use Rattle.block_walk.specs.declared.state.Failing.{Failing}
-use Rattle.block_walk.specs.declared.state.Walk.{Walk}
-use Rattle.block_walk.specs.Walks.{waits_of, bads_of, state_of, first_of}
-use Rattle.block_walk.proofs.Following.{drop-step, drop-all, waits-last, chosen, first-step, exit-step, bad-step, bad-last, with-step, with-here, onto}
+use Rattle.walk_states.specs.declared.state.Waiting.{Waiting}
+use Rattle.walk_states.specs.declared.state.Failing.{Failing}
+use Rattle.walk_states.specs.declared.state.Walk.{Walk}
+use Rattle.walk_states.specs.Walks.{waits_of, bads_of, state_of, first_of}
+use Rattle.walk_states.proofs.Following.{chosen, onto}
+use Rattle.block_walk.specs.Branches.{IsSecond}
+use Rattle.block_walk.proofs.Following.{first-step, exit-step, bad-step, bad-last}
 
--- the second term is the complement of the first
-abbrev pub IsOther : Table → TermId → TermId → Type 0
-IsOther table t u = (q : List ℕ → Bool) → IsBit table t q → IsBit table u (λ s. not (q s))
-
-pub branch-found : (h : Flow) (k a b : Cursor) (w : ℕ) (t u : TermId) (p : List ℕ → Bool) (one code : Code) → EndAt h k w → SideAt h a w t
-    → IsBit h.terms t p → SideAt h b w u → IsOther h.terms t u → AreSides h w a.edge_at b.edge_at → Meets h a one → Meets h b code
-    → Meets h k (Branches p one code)
-branch-found h k a b w t u p one code end sa bit sb other both ma mb =
+pub branch-found : (h : Flow) (k a b : Cursor) (w : ℕ) (t : TermId) (p : List ℕ → Bool) (one code : Code) → EndAt h k w → SideAt h a w t
+    → IsBit h.terms t p → IsSecond h w t a b → Meets h a one → Meets h b code → Meets h k (Branches p one code)
+branch-found h k a b w t p one code end sa bit (u, (sb, other, both)) ma mb =
     branches h k a b w t u p one code end sa (λ s wh. test-is h.terms t p s bit wh) sb
     (λ s wh. test-is h.terms u (λ x. not (p x)) s (other p bit) wh) both ma mb
 
-pub flush-found : (h : Flow) (bs : List Failing) (k a b : Cursor) (w : ℕ) (t u : TermId) (code : Code) → 0 < length bs → EndAt h k w → SideAt h a w t
-    → IsBit h.terms t (some_bad (bads_of bs)) → SideAt h b w u → IsOther h.terms t u → AreSides h w a.edge_at b.edge_at
-    → Meets h a (first_of (bads_of bs)) → Meets h b code → Meets h k (flushed (bads_of bs) code)
-flush-found h [] k a b w t u code some end sa bit sb other both ma mb = absurd (omega (arith, some))
-flush-found h (x ∷ bs) k a b w t u code some end sa bit sb other both ma mb =
-    branch-found h k a b w t u (some_bad (bads_of (x ∷ bs))) (first_of (bads_of (x ∷ bs))) code end sa bit sb other both ma mb
+pub flush-found : (h : Flow) (bs : List Failing) (k a b : Cursor) (w : ℕ) (t : TermId) (code : Code) → 0 < length bs → EndAt h k w → SideAt h a w t
+    → IsBit h.terms t (some_bad (bads_of bs)) → IsSecond h w t a b → Meets h a (first_of (bads_of bs)) → Meets h b code
+    → Meets h k (flushed (bads_of bs) code)
+flush-found h [] k a b w t code some end sa bit second ma mb = absurd (omega (arith, some))
+flush-found h (x ∷ bs) k a b w t code some end sa bit second ma mb =
+    branch-found h k a b w t (some_bad (bads_of (x ∷ bs))) (first_of (bads_of (x ∷ bs))) code end sa bit second ma mb
 
 pub last-found : (h : Flow) (bs : List Failing) (k a : Cursor) (w : ℕ) (t : TermId) → 0 < length bs → EndAt h k w → SideAt h a w t
     → IsBit h.terms t (some_bad (bads_of bs)) → AreSides h w a.edge_at a.edge_at → Meets h a (first_of (bads_of bs))
@@ -86,48 +82,6 @@ pub bit-last : (table : Table) (term at : TermId) (bs : List Failing) (n : ℕ) 
     → IsBit table at (is_one b.cell)
     → (IsBit table at (some_bad (bads_of (drop n bs))) → IsBit table term (some_bad (bads_of bs))) → IsBit table term (some_bad (bads_of bs))
 bit-last table term at bs n b get le bit inv = inv (λ s w. bit s w ∙ ap truth (bad-last bs n b s get (omega (arith, le))))
-
--- places that wait
-
-pub joined-step : (ws more next : List Waiting) (all : List Wait) (n : ℕ) (w : Waiting) → slice_get ws n ≡ Some w → next ≡ more ++ w ∷ []
-    → all ≡ waits_of more ++ waits_of (drop n ws) → all ≡ waits_of next ++ waits_of (drop (n + 1) ws)
-joined-step ws more next all n w get e h =
-    let rest : List Wait = waits_of (drop (suc n) ws) in
-    let one : Wait = record { node = w.node; guard = w.guard } in
-    h ∙ ap (λ (xs : List Waiting). waits_of more ++ waits_of xs) (drop-step ws n w get)
-    ∙ sym (append_assoc (waits_of more) (one ∷ []) rest)
-    ∙ ap (λ (r : List Wait). r ++ rest) (sym (ap waits_of e ∙ waits-last more w))
-    ∙ ap (λ (j : ℕ). waits_of next ++ waits_of (drop j ws)) (sym (add-one n))
-
--- a place that comes before the new one
-pub with-on : (ws all more : List Waiting) (n v : ℕ) (g : Option ℕ) (w : Waiting) → slice_get ws n ≡ Some w → w.node < v → more ≡ all ++ w ∷ []
-    → with_wait (waits_of ws) v g ≡ waits_of all ++ with_wait (waits_of (drop n ws)) v g
-    → with_wait (waits_of ws) v g ≡ waits_of more ++ with_wait (waits_of (drop (n + 1) ws)) v g
-with-on ws all more n v g w get less e h =
-    with-step ws all more n v g w get (lt-ltb w.node v less) e h
-    ∙ ap (λ (j : ℕ). waits_of more ++ with_wait (waits_of (drop j ws)) v g) (sym (add-one n))
-
--- the new place stands before the rest
-pub with-found : (ws all next got : List Waiting) (n v : ℕ) (g : Option ℕ) (w x : Waiting) → slice_get ws n ≡ Some w → v ≤ w.node
-    → x.node ≡ v → x.guard ≡ g → next ≡ all ++ x ∷ [] → with_wait (waits_of ws) v g ≡ waits_of all ++ with_wait (waits_of (drop n ws)) v g
-    → waits_of got ≡ waits_of next ++ waits_of (drop n ws) → waits_of got ≡ with_wait (waits_of ws) v g
-with-found ws all next got n v g w x get less d f e h i =
-    let rest : List Wait = waits_of (drop n ws) in
-    let one : Wait = record { node = v; guard = g } in
-    let same : waits_of next ≡ waits_of all ++ one ∷ [] =
-    ap waits_of e ∙ waits-last all x ∙ ap (λ (y : ℕ). waits_of all ++ record { node = y; guard = x.guard } ∷ []) d
-    ∙ ap (λ (y : Option ℕ). waits_of all ++ record { node = v; guard = y } ∷ []) f in
-    i ∙ ap (λ (r : List Wait). r ++ rest) same ∙ append_assoc (waits_of all) (one ∷ []) rest ∙ sym (with-here ws all n v g w get (le-ltb w.node v less) h)
-
--- the new place stands behind all
-pub with-end : (ws all next : List Waiting) (n v : ℕ) (g : Option ℕ) (x : Waiting) → length ws ≤ n → x.node ≡ v → x.guard ≡ g → next ≡ all ++ x ∷ []
-    → with_wait (waits_of ws) v g ≡ waits_of all ++ with_wait (waits_of (drop n ws)) v g → waits_of next ≡ with_wait (waits_of ws) v g
-with-end ws all next n v g x le d f e h =
-    let one : Wait = record { node = v; guard = g } in
-    let same : waits_of next ≡ waits_of all ++ one ∷ [] =
-    ap waits_of e ∙ waits-last all x ∙ ap (λ (y : ℕ). waits_of all ++ record { node = y; guard = x.guard } ∷ []) d
-    ∙ ap (λ (y : Option ℕ). waits_of all ++ record { node = v; guard = y } ∷ []) f in
-    same ∙ sym (h ∙ ap (λ (xs : List Waiting). waits_of all ++ with_wait (waits_of xs) v g) (drop-all ws n le))
 
 -- a way that draws a value
 pub drawn-found : (h : Flow) (table : Table) (plan : plans.Plan) (walk : Walk) (there : State) (guard : Option ℕ) (way : plans.Way) (k sure next : Cursor)

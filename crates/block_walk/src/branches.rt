@@ -5,16 +5,16 @@ ghost use Rattle.block_rule.specs.Deeds.{Branches, Code, Does, Ends, Stops, Test
 ghost use Rattle.block_rule.specs.Rule.{certain, exits, flushed, some_bad};
 ghost use Rattle.block_steps.specs.Cursors.{AreSides, EndAt, Meets, SideAt};
 ghost use Rattle.block_steps.specs.Tests.{holds};
-ghost use Rattle.block_walk.specs.Known.{plan_of};
-ghost use Rattle.block_walk.specs.Walks.{bads_of, first_of, waits_of};
+ghost use Rattle.walk_states.specs.Known.{plan_of};
+ghost use Rattle.walk_states.specs.Walks.{bads_of, first_of, waits_of};
+ghost use Rattle.block_walk.specs.Branches.{IsSecond};
 
-use crate::known::{Known, is_cut};
-use crate::state::{Failing, Stop, Waiting};
 use block_steps::{Cursor, Test, are_sides, assumes, ends, find_branch, find_side, is_test};
 use bv_term::{TermId, Terms};
 use c_graph::Graph;
 use std::alloc::Global;
 use truth_terms::{is_added, is_cell_bit, is_not};
+use walk_states::{Failing, Known, Stop, Waiting, is_cut};
 
 /// The place behind the end of an edge at a node.
 fn ended(new: &Graph, cursor: Cursor, to: u32) -> Result<Cursor, Stop>
@@ -52,6 +52,28 @@ fn only_these(alloc: Global, new: &Graph, node: u32, one: Cursor, other: Cursor)
     }
 }
 
+/// The place behind the test of a branch's second side, whose edge begins where its first side ends: the test is the complement of the
+/// first side's, and no other edge leads from the node.
+fn second_side(
+    alloc: Global,
+    new: &Graph,
+    node: u32,
+    term: TermId,
+    one: Cursor,
+    end: Cursor,
+) -> Result<Cursor, Stop>
+    ensures { IfOk result (λ n. IsSecond new.now node term one n) }
+{
+    let Some(other) = find_side(new, end, node) else {
+        return Err(Stop::Differs);
+    };
+    if !is_other(new, term, other.term) {
+        return Err(Stop::Differs);
+    }
+    only_these(alloc, new, node, one, other.next)?;
+    Ok(other.next)
+}
+
 /// A branch whose first side ends at a node: the place behind the test of its second side.
 fn passed(
     alloc: Global,
@@ -74,14 +96,7 @@ fn passed(
         return Err(Stop::Differs);
     }
     let end = ended(new, one.next, to)?;
-    let Some(other) = find_side(new, end, fork.node) else {
-        return Err(Stop::Differs);
-    };
-    if !is_other(new, one.term, other.term) {
-        return Err(Stop::Differs);
-    }
-    only_these(alloc, new, fork.node, one.next, other.next)?;
-    Ok(other.next)
+    second_side(alloc, new, fork.node, one.term, one.next, end)
 }
 
 /// Whether a term is 1 where one of the checks failed.
@@ -166,14 +181,7 @@ pub(crate) fn flush(
     }
     let opened = open_branch(new, bads, cursor)?;
     let end = first_failing(alloc, old, new, bads, opened.next)?;
-    let Some(other) = find_side(new, end, opened.node) else {
-        return Err(Stop::Differs);
-    };
-    if !is_other(new, opened.term, other.term) {
-        return Err(Stop::Differs);
-    }
-    only_these(alloc, new, opened.node, opened.next, other.next)?;
-    Ok(other.next)
+    second_side(alloc, new, opened.node, opened.term, opened.next, end)
 }
 
 /// The branch for all checks that may have failed, behind which nothing waits. Where there is no check either, no edge leads on, and so

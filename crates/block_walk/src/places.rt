@@ -5,19 +5,19 @@ ghost use Rattle.block_rule.specs.Deeds.{Code};
 ghost use Rattle.block_rule.specs.Rule.{at_place, goes, is_clear, is_none, is_sure, moved, outwards, placed, some_draw};
 ghost use Rattle.block_rule.specs.Rule as rule;
 ghost use Rattle.block_steps.specs.Cursors.{Meets};
-ghost use Rattle.block_walk.specs.Known.{plan_of};
-ghost use Rattle.block_walk.specs.declared.state.Ways.TheVariants.{Tested, Checked, Fails, Forks};
-ghost use Rattle.block_walk.specs.Walks.{Finds, all_of, bads_of, moves_of, place_of, places_of, state_of, waits_of, way_of, ways_of};
+ghost use Rattle.walk_states.specs.Known.{plan_of};
+ghost use Rattle.walk_states.specs.declared.state.Ways.TheVariants.{Tested, Checked, Fails, Forks};
+ghost use Rattle.walk_states.specs.Walks.{Finds, all_of, bads_of, moves_of, place_of, places_of, state_of, waits_of, way_of, ways_of};
 
 use crate::branches::{certain, close, flush};
-use crate::known::{Known, guard_for};
-use crate::leads::{checked, leads, saved};
-use crate::lists::{found, no_bads, no_waits, without};
-use crate::state::{Place, Stop, Waiting, Walk, Way, Ways};
 use block_steps::{Cursor, Test, stores};
 use bv_term::TermId;
 use c_graph::{Graph, Operation};
 use std::alloc::Global;
+use walk_states::{
+    Known, Place, Stop, Waiting, Walk, Way, Ways, checked, found, guard_for, leads, no_bads,
+    no_waits, saved, without,
+};
 
 /// The place behind operations from a number on, each through its guard.
 fn moved(

@@ -93,7 +93,7 @@ cost-append : (edges : List Edge) (weight : ℕ → ℕ) (xs ys : List EdgeId) �
 cost-append edges weight [] ys = omega arith
 cost-append edges weight (k ∷ xs) ys = (let z = cost-append edges weight xs ys in omega (arith, z))
 
-module _ (g : Flow) (new : List Edge) (i : IsJoined g.nodes g.entry g.edges new) where
+module _ (g : Flow) (new : List Edge) (i : IsJoined g.nodes g.loops g.entry g.edges new) where
   abbrev AreBelow : ℕ → Type 0
   AreBelow most = (k : ℕ) (e : Edge) → slice_get g.edges k ≡ Some e → e.from.0 < most
 

@@ -7,10 +7,10 @@ use Rattle.c_graph.specs.declared.graph.Edge.{Edge}
 use Rattle.c_graph.specs.declared.graph.Operation.{Operation}
 use Rattle.c_graph.specs.Shape.{Flow, widths_of}
 use Rattle.c_graph.specs.Steps.{IsWhole, Moment, moment, operated, operated_all}
-use Rattle.c_graph.specs.Runs.{RunsAlong}
+use Rattle.c_graph.specs.Runs.{RunsAlong, RunsTo}
 use Rattle.graph_walk_laws.proofs.Consuming.{more_left}
 use Rattle.edge_chains.specs.Joining.{Follows, IsJoined}
-use Rattle.edge_chain_laws.specs.Keeping.{ChainsKeepErrors, with_edges}
+use Rattle.edge_chain_laws.specs.Keeping.{ChainsKeepErrors, ChainsKeepVisits, with_edges}
 
 none_stays : (table : Table) (ops : List Operation) → operated_all table ops None ≡ None
 none_stays table [] = refl
@@ -37,7 +37,7 @@ Rests g new rest to s draws w after =
     × (operated_all g.terms rest (Some (moment s first)) ≡ Some (moment mid []))
     × ((path : List EdgeId) × RunsAlong (with_edges g new) path to mid later w after)
 
-rests : (g : Flow) (new : List Edge) (i : IsJoined g.nodes g.entry g.edges new) (path : List EdgeId) (n : ℕ) (rest : List Operation) (v to : NodeId)
+rests : (g : Flow) (new : List Edge) (i : IsJoined g.nodes g.loops g.entry g.edges new) (path : List EdgeId) (n : ℕ) (rest : List Operation) (v to : NodeId)
     (s : List ℕ) (draws : List ℤ) (w : NodeId) (after : List ℕ)
     → i.inner w.0 ≡ false → Follows i.inner g.edges n v rest to → RunsAlong g path v s draws w after → Rests g new rest to s draws w after
 rests g new i [] zero rest v to s draws w after last (kept, nothing, goal) (same, stays, none) = (
@@ -78,10 +78,12 @@ rests g new i (e ∷ path) (suc n) rest v to s draws w after last (gives, (x, mo
       onwards,
     )
 
-pub chains_keep_errors : ChainsKeepErrors
-chains_keep_errors g new draws v after kind at i (path, store, whole, run) error =
+-- a run to a node that is kept
+runs-on : (g : Flow) (new : List Edge) (i : IsJoined g.nodes g.loops g.entry g.edges new) (draws : List ℤ) (v : NodeId) (after : List ℕ)
+    → i.inner v.0 ≡ false → RunsTo g draws v after → RunsTo (with_edges g new) draws v after
+runs-on g new i draws v after kept (path, store, whole, run) =
     let begins : Follows i.inner g.edges zero g.entry [] g.entry = (i.entry, refl, refl) in
-    let (first, later, mid, split, done, (onwards, tail)) = rests g new i path zero [] g.entry g.entry store draws v after (i.errors v kind at error) begins run in
+    let (first, later, mid, split, done, (onwards, tail)) = rests g new i path zero [] g.entry g.entry store draws v after kept begins run in
     let same : moment store first ≡ moment mid [] = cc in
     let stays : store ≡ mid = ap (λ (m : Moment). m.store) same in
     let none : first ≡ [] = ap (λ (m : Moment). m.inputs) same in
@@ -91,3 +93,9 @@ chains_keep_errors g new draws v after kind at i (path, store, whole, run) error
       subst (λ z. IsWhole (widths_of g.cells) z) stays whole,
       subst (λ zs. RunsAlong (with_edges g new) onwards g.entry mid zs v after) all tail,
     )
+
+pub chains_keep_errors : ChainsKeepErrors
+chains_keep_errors g new draws v after kind at i run error = runs-on g new i draws v after (i.errors v kind at error) run
+
+pub chains_keep_visits : ChainsKeepVisits
+chains_keep_visits g new draws k l after i there run = runs-on g new i draws l.node after (i.loops k l there) run

@@ -7,8 +7,9 @@ use Rattle.c_graph.specs.declared.graph.Node.{Node}
 use Rattle.c_graph.specs.declared.graph.Node.TheVariants.{Error}
 use Rattle.c_graph.specs.declared.graph.Operation.{Operation}
 use Rattle.c_graph.specs.declared.graph.Edge.{Edge}
+use Rattle.c_graph.specs.declared.graph.LoopAt.{LoopAt}
 use Rattle.edge_chains.specs.Joining.{Among, IsOnly, Follows, Extends, IsJoined}
-use Rattle.edge_chains.specs.Links.{flag_at, link_at, AreLinked, AreKept, IsNext, Adds, AreJoined}
+use Rattle.edge_chains.specs.Links.{flag_at, link_at, AreClear, AreLinked, AreKept, IsNext, Adds, AreJoined}
 
 pub among-front : (xs ys : List Edge) (x : Edge) → Among xs x → Among (xs ++ ys) x
 among-front [] ys x (k, s) = absurd (cc)
@@ -126,21 +127,24 @@ one_more inner edges k x old new lt is adds h = elim adds [
   })
 ]
 
-pub joined_is : (nodes : List Node) (first : NodeId) (edges : List Edge) (inner : List Bool) (new : List Edge)
-    → flag_at inner first.0 ≡ false → AreKept nodes inner → AreJoined inner edges (length edges) new → IsJoined nodes first edges new
-joined_is nodes first edges inner new entry kept j = record {
+pub joined_is : (nodes : List Node) (places : List LoopAt) (first : NodeId) (edges : List Edge) (inner : List Bool) (new : List Edge)
+    → flag_at inner first.0 ≡ false → AreClear inner places → AreKept nodes inner → AreJoined inner edges (length edges) new
+    → IsJoined nodes places first edges new
+joined_is nodes places first edges inner new entry clear kept j = record {
   inner = flag_at inner;
   entry = entry;
+  loops = clear;
   errors = λ v kind at s. kept v.0 (Error kind at) s;
   kept = λ e a b. j.kept a.0 e (slice_get_within edges a.0 e a.1) a.1 b;
   made = j.made;
 }
 
 -- edges that stay as they are
-pub unjoined : (nodes : List Node) (first : NodeId) (edges : List Edge) → IsJoined nodes first edges edges
-unjoined nodes first edges = record {
+pub unjoined : (nodes : List Node) (places : List LoopAt) (first : NodeId) (edges : List Edge) → IsJoined nodes places first edges edges
+unjoined nodes places first edges = record {
   inner = λ n. false;
   entry = refl;
+  loops = λ k l s. refl;
   errors = λ v kind at s. refl;
   kept = λ e a b. (e, a, itself e);
   made = λ e a. (e, a, refl, itself e);

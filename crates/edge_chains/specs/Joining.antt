@@ -6,6 +6,7 @@ use Rattle.c_graph.specs.declared.graph.Node.{Node}
 use Rattle.c_graph.specs.declared.graph.Node.TheVariants.{Error}
 use Rattle.c_graph.specs.declared.graph.Operation.{Operation}
 use Rattle.c_graph.specs.declared.graph.Edge.{Edge}
+use Rattle.c_graph.specs.declared.graph.LoopAt.{LoopAt}
 
 -- the edge is one of these
 abbrev pub Among : List Edge → Edge → Type 0
@@ -28,11 +29,12 @@ abbrev pub Extends : (ℕ → Bool) → List Edge → Edge → Edge → Type 0
 Extends inner edges e f =
     (n : ℕ) × (rest : List Operation) × (f.from ≡ e.from) × (f.ops ≡ e.ops ++ rest) × Follows inner edges n e.to rest f.to
 
--- Some nodes give their edges away, but neither the entry nor an error node. Each edge from another node stands in the new edges with
--- all that follows it, and there are no others.
-pub record IsJoined (nodes : List Node) (first : NodeId) (edges new : List Edge) : Type 0 where
+-- Some nodes give their edges away, but neither the entry nor an error node nor that of a loop. Each edge from another node stands in the
+-- new edges with all that follows it, and there are no others.
+pub record IsJoined (nodes : List Node) (places : List LoopAt) (first : NodeId) (edges new : List Edge) : Type 0 where
   pub inner : ℕ → Bool
   pub entry : inner first.0 ≡ false
+  pub loops : (k : ℕ) (l : LoopAt) → slice_get places k ≡ Some l → inner l.node.0 ≡ false
   pub errors : (v : NodeId) (kind : ErrorKind) (at : ℕ) → slice_get nodes v.0 ≡ Some (Error kind at) → inner v.0 ≡ false
   pub kept : (e : Edge) → Among edges e → inner e.from.0 ≡ false → (f : Edge) × Among new f × Extends inner edges e f
   pub made : (f : Edge) → Among new f → (e : Edge) × Among edges e × (inner e.from.0 ≡ false) × Extends inner edges e f

@@ -4,6 +4,7 @@ use Rattle.c_graph.specs.declared.graph.NodeId.{NodeId}
 use Rattle.c_graph.specs.declared.graph.Node.{Node}
 use Rattle.c_graph.specs.declared.graph.Node.TheVariants.{Plain, Error, End, Call}
 use Rattle.c_graph.specs.declared.graph.Edge.{Edge}
+use Rattle.c_graph.specs.declared.graph.LoopAt.{LoopAt}
 use Rattle.edge_chains.specs.Joining.{Among, IsOnly, Extends}
 
 abbrev pub flag_of : Option Bool → Bool
@@ -38,6 +39,10 @@ IsKept (Call callee next) b = Unit {0}
 
 abbrev pub AreKept : List Node → List Bool → Type 0
 AreKept nodes inner = (n : ℕ) (x : Node) → slice_get nodes n ≡ Some x → IsKept x (flag_at inner n)
+
+-- the node of a loop does not give its edge away
+abbrev pub AreClear : List Bool → List LoopAt → Type 0
+AreClear inner places = (k : ℕ) (l : LoopAt) → slice_get places k ≡ Some l → flag_at inner l.node.0 ≡ false
 
 -- the node gives its edge away, and the edge of this number is the only one from it
 abbrev pub IsNext : List Bool → List Edge → NodeId → ℕ → Type 0

@@ -1,7 +1,7 @@
 ghost use Rattle.std.specs.Prelude.{◌≡◌, ◌<◌, false, IfOk, IfSome, IsTrue, Some, length, slice_get};
 ghost use Rattle.c_graph.specs.declared.graph.Edge.{Edge};
 ghost use Rattle.edge_chains.specs.Joining.{Extends, IsJoined};
-ghost use Rattle.edge_chains.specs.Links.{Adds, AreJoined, AreKept, AreLinked, IsKept, IsLinked, IsNext, flag_at, link_at};
+ghost use Rattle.edge_chains.specs.Links.{Adds, AreClear, AreJoined, AreKept, AreLinked, IsKept, IsLinked, IsNext, flag_at, link_at};
 
 use crate::tables::{flag, link};
 use c_graph::{Edge, LoopAt, Node, NodeId, Operation, Operations};
@@ -16,11 +16,11 @@ pub fn join_chains(
     entry: NodeId,
     loops: &[LoopAt],
 ) -> Result<Vec<Edge>, Memory>
-    ensures { IfOk result (λ r. IsJoined nodes.now entry edges.items r.items) }
+    ensures { IfOk result (λ r. IsJoined nodes.now loops.now entry edges.items r.items) }
 {
     let inner = inner_nodes(alloc, nodes.len(), &edges, entry, loops)?;
     let links = links_of(alloc, nodes.len(), &edges)?;
-    match tested(alloc, nodes, &edges, entry, &inner, &links)? {
+    match tested(alloc, nodes, &edges, entry, loops, &inner, &links)? {
         Some(found) => Ok(found),
         None => Ok(edges),
     }
@@ -32,12 +32,16 @@ fn tested(
     nodes: &[Node],
     edges: &[Edge],
     entry: NodeId,
+    loops: &[LoopAt],
     inner: &[bool],
     links: &[Option<u32>],
 ) -> Result<Option<Vec<Edge>>, Memory>
-    ensures { IfOk result (λ o. IfSome o (λ r. IsJoined nodes.now entry edges.now r.items)) }
+    ensures { IfOk result (λ o. IfSome o (λ r. IsJoined nodes.now loops.now entry edges.now r.items)) }
 {
     if flag(inner, entry.0) || !are_kept(nodes, inner) || !are_linked(inner, links, edges) {
+        return Ok(None);
+    }
+    if !are_clear(inner, loops) {
         return Ok(None);
     }
     followed_all(alloc, edges, inner, links)
@@ -66,6 +70,18 @@ fn is_kept(node: Node, inner: &[bool], number: usize) -> bool
         },
         Node::Plain | Node::End | Node::Call(_, _) => true,
     }
+}
+
+/// Whether no loop's node gives its edge away.
+fn are_clear(inner: &[bool], loops: &[LoopAt]) -> bool
+    ensures { IsTrue result → AreClear inner.now loops.now }
+{
+    for number in 0..loops.len() {
+        if flag(inner, loops[number].node.0) {
+            return false;
+        }
+    }
+    true
 }
 
 /// Whether each node that gives its edge away is linked to each edge that leads from it.

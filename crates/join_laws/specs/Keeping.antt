@@ -17,4 +17,4 @@ abbrev pub BlocksKeep : Type 0
 BlocksKeep = (g h : Flow) (plan : Plan) → IsFlow g → IsFlow h → IsBlocked g h plan → KeepsErrors g h
 
 abbrev pub ChainsKeep : Type 0
-ChainsKeep = (g : Flow) (edges : List Edge) → IsJoined g.nodes g.entry g.edges edges → KeepsErrors g (with_edges g edges)
+ChainsKeep = (g : Flow) (edges : List Edge) → IsJoined g.nodes g.loops g.entry g.edges edges → KeepsErrors g (with_edges g edges)

@@ -1,10 +1,11 @@
-//! Runs to errors stay in the graph of a graph's blocks, and where chains of edges become one edge each.
+//! Runs to errors and to loops stay in the graph of a graph's blocks, and where chains of edges become one edge each.
 //!
 //! What a graph of blocks and joined chains are, `block_rule` and `edge_chains` say; here is what their laws mean for errors that some
-//! run meets.
+//! run meets, and for loops that some run visits.
 #![tactic(auto)]
 
 ghost use Rattle.join_laws.specs.Keeping.{BlocksKeep, ChainsKeep};
+ghost use Rattle.join_laws.specs.Visits.{BlocksKeepLoops, ChainsKeepLoops};
 
 /// Each error that a run of a graph meets, a run of the graph of its blocks meets, with the same values.
 pub fn blocks_keep()
@@ -14,4 +15,15 @@ pub fn blocks_keep()
 /// Each error that a run of a graph meets, a run of the graph with joined chains meets, with the same values.
 pub fn chains_keep()
     ensures { ChainsKeep }
+{}
+
+/// Each visit of a loop by a run of a graph, a run of the graph of its blocks makes, with the same values, and the same in each cell that
+/// is needed there.
+pub fn blocks_keep_loops()
+    ensures { BlocksKeepLoops }
+{}
+
+/// Each visit of a loop by a run of a graph, a run of the graph with joined chains makes, with the same values and the same store.
+pub fn chains_keep_loops()
+    ensures { ChainsKeepLoops }
 {}

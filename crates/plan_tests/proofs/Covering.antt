@@ -6,8 +6,8 @@ use Rattle.c_graph.specs.declared.graph.Operation.{Operation}
 use Rattle.plan_tables.specs.declared.units.Units.{Units}
 use Rattle.plan_tables.specs.Tables.{is_live_in, unit_at, units_of}
 use Rattle.block_rule.specs.Tests.{ReadsOperand}
-use Rattle.block_walk.specs.declared.known.Known.{Known}
-use Rattle.block_walk.specs.Known.{has_unit, on_unit, plan_of}
+use Rattle.walk_states.specs.declared.known.Known.{Known}
+use Rattle.walk_states.specs.Known.{has_unit, on_unit, plan_of}
 use Rattle.plan_tests.specs.Cells.{AreUnits, IsAlone, IsRising}
 use Rattle.plan_tests.specs.Reads.{Includes}
 use Rattle.plan_tests.specs.Flow.{AllCovered, IsCovered, IsKeptBelow, IsWordKept, Kills, KillsBy, StaysLive, TermFlows, sets, some_sets}

@@ -7,13 +7,14 @@ use Rattle.c_graph.specs.declared.graph.NodeId.{NodeId}
 use Rattle.c_graph.specs.declared.graph.Node.TheVariants.{Error}
 use Rattle.c_graph.specs.declared.graph.Cell.{Cell}
 use Rattle.c_graph.specs.declared.graph.Edge.{Edge}
+use Rattle.c_graph.specs.declared.graph.LoopAt.{LoopAt}
 use Rattle.c_graph.specs.Shape.{Flow, IsFlow, widths_of}
 use Rattle.block_rule.specs.Tests.{AreReads}
 use Rattle.block_rule.specs.Blocked.{IsPlan, ReadsAll}
 use Rattle.block_laws.proofs.Testing as law
-use Rattle.block_walk.specs.declared.known.Known.{Known}
-use Rattle.block_walk.specs.Known.{plan_of}
-use Rattle.plan_tests.specs.Nodes.{AreSteps, AreWatched, IsEntry}
+use Rattle.walk_states.specs.declared.known.Known.{Known}
+use Rattle.walk_states.specs.Known.{plan_of}
+use Rattle.plan_tests.specs.Nodes.{AreListed, AreSteps, AreWatched, IsEntry}
 use Rattle.plan_tests.specs.Flow.{AllFlow}
 
 -- one more element of a list has the property
@@ -45,10 +46,10 @@ as_many : (xs : List Cell) → length (widths_of xs) ≡ length xs
 as_many [] = refl
 as_many (x ∷ xs) = ap suc (as_many xs)
 
-pub planned : (g : Flow) (known : Known) (entry : NodeId) (es fs : List Edge) (table : Table) → IsFlow g
-    → entry ≡ g.entry → es ≡ g.edges → fs ≡ g.edges → table ≡ g.terms → IsEntry (plan_of known) entry → AreSteps known es
-    → AreWatched known g.nodes → AreReads table (plan_of known) → AllFlow (plan_of known) fs → IsPlan g (plan_of known)
-planned g known entry es fs table flow entry_is es_is fs_is table_is begins steps watched reads flows =
+pub planned : (g : Flow) (known : Known) (entry : NodeId) (es fs : List Edge) (ls : List LoopAt) (table : Table) → IsFlow g
+    → entry ≡ g.entry → es ≡ g.edges → fs ≡ g.edges → ls ≡ g.loops → table ≡ g.terms → IsEntry (plan_of known) entry → AreSteps known es
+    → AreWatched known g.nodes → AreListed (plan_of known) ls → AreReads table (plan_of known) → AllFlow (plan_of known) fs → IsPlan g (plan_of known)
+planned g known entry es fs ls table flow entry_is es_is fs_is ls_is table_is begins steps watched listed reads flows =
     let at : IsEntry (plan_of known) g.entry = subst (IsEntry (plan_of known)) entry_is begins in
     let steps2 : AreSteps known g.edges = subst (AreSteps known) es_is steps in
     let reads2 : AreReads g.terms (plan_of known) = subst (λ (t : Table). AreReads t (plan_of known)) table_is reads in
@@ -61,6 +62,7 @@ planned g known entry es fs table flow entry_is es_is fs_is table_is begins step
       errors = λ v kind at s. watched v (Error kind at) s;
       lives = λ k e s. (steps2 k e s).1;
       cut = at.1;
+      loops = subst (AreListed (plan_of known)) ls_is listed;
       terms = subst (λ (n : ℕ). ReadsAll g.terms n (plan_of known)) many tell;
       flows = flows2;
     }

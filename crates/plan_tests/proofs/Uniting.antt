@@ -4,7 +4,7 @@ use Rattle.std.proofs.lemmas.Bool.{cases_eq, cases_lt, eq-eqb}
 use Rattle.std.proofs.lemmas.Option.{slice_get_within, slice_get-get_or, same_Some}
 use Rattle.plan_tables.specs.declared.units.Units.{Units}
 use Rattle.plan_tables.specs.Tables.{unit_at}
-use Rattle.block_walk.specs.Known.{on_unit}
+use Rattle.walk_states.specs.Known.{on_unit}
 use Rattle.plan_tests.specs.Cells.{AreUnits, IsAlone, IsNext, IsRising}
 
 -- the first n units do not fall, and none is above the last one

@@ -8,8 +8,8 @@ use Rattle.plan_tables.specs.declared.units.Units.{Units}
 use Rattle.plan_tables.specs.Tables.{bit_in, is_live_in, unit_at}
 use Rattle.block_rule.specs.Plans.{Plan, matters}
 use Rattle.block_rule.specs.Blocked.{Flows}
-use Rattle.block_walk.specs.declared.known.Known.{Known}
-use Rattle.block_walk.specs.Known.{plan_of}
+use Rattle.walk_states.specs.declared.known.Known.{Known}
+use Rattle.walk_states.specs.Known.{plan_of}
 
 -- the operation sets exactly this cell
 abbrev pub sets : Operation → ℕ → Bool

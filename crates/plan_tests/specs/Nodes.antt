@@ -1,12 +1,13 @@
--- Nodes that are reached and nodes that are alive.
+-- Nodes that are reached, nodes that are alive, and nodes of loops.
 use Rattle.std.specs.Prelude.{ℕ, ◌≡◌, Bool, true, List, Some, slice_get}
 use Rattle.c_graph.specs.declared.graph.NodeId.{NodeId}
 use Rattle.c_graph.specs.declared.graph.Node.{Node}
 use Rattle.c_graph.specs.declared.graph.Node.TheVariants.{Plain, Error, End, Call}
 use Rattle.c_graph.specs.declared.graph.Edge.{Edge}
+use Rattle.c_graph.specs.declared.graph.LoopAt.{LoopAt}
 use Rattle.plan_tables.specs.Tables.{flag_at}
 use Rattle.block_rule.specs.Plans.{Plan}
-use Rattle.block_walk.specs.declared.known.Known.{Known}
+use Rattle.walk_states.specs.declared.known.Known.{Known}
 
 -- the entry is reached, and a cut point
 abbrev pub IsEntry : Plan → NodeId → Type 0
@@ -29,3 +30,10 @@ IsWatched (Call callee next) b = Unit {0}
 
 abbrev pub AreWatched : Known → List Node → Type 0
 AreWatched known nodes = (v : ℕ) (x : Node) → slice_get nodes v ≡ Some x → IsWatched x (flag_at known.alive v)
+
+-- the node of a loop is a cut point, and alive
+abbrev pub IsListed : Plan → NodeId → Type 0
+IsListed plan v = (plan.cuts v.0 ≡ true) × (plan.alive v.0 ≡ true)
+
+abbrev pub AreListed : Plan → List LoopAt → Type 0
+AreListed plan loops = (k : ℕ) (l : LoopAt) → slice_get loops k ≡ Some l → IsListed plan l.node

@@ -4,7 +4,7 @@ use Rattle.bv_term.specs.declared.term.Term.{Term}
 use Rattle.term_laws.specs.Operands.{OnOperands}
 use Rattle.block_rule.specs.Plans.{Plan}
 use Rattle.block_rule.specs.Tests.{ReadsOwn, ReadsOperand}
-use Rattle.block_walk.specs.Known.{has_unit}
+use Rattle.walk_states.specs.Known.{has_unit}
 
 -- a term is said to read its own cells, and what its operands are said to read
 abbrev pub IsRead : Plan → ℕ → Term → Type 0

@@ -1,7 +1,7 @@
 //! The units of cells: they do not fall from a cell to the next, so that the cells of a unit stand side by side.
 ghost use Rattle.std.specs.Prelude.{ℕ, ◌+◌, ◌≡◌, ◌<◌, ◌≤◌, ◌==◌, IfSome, IsTrue, false};
 ghost use Rattle.plan_tables.specs.Tables.{unit_at};
-ghost use Rattle.block_walk.specs.Known.{on_unit};
+ghost use Rattle.walk_states.specs.Known.{on_unit};
 ghost use Rattle.plan_tests.specs.Cells.{AreUnits, IsAlone, IsNext, IsRising};
 
 use plan_tables::Units;

@@ -2,15 +2,15 @@
 ghost use Rattle.std.specs.Prelude.{◌≡◌, ◌≤◌, IsTrue, Some, slice_get, true};
 ghost use Rattle.block_rule.specs.Blocked.{Flows};
 ghost use Rattle.block_rule.specs.Plans as plans;
-ghost use Rattle.block_walk.specs.Known.{plan_of};
+ghost use Rattle.walk_states.specs.Known.{plan_of};
 ghost use Rattle.plan_tests.specs.Cells.{AreUnits, IsRising};
 ghost use Rattle.plan_tests.specs.Flow.{AllCovered, AllFlow, AllReadsFlow, HasBits, IsCovered, IsKept, IsKeptBelow, IsWordKept, Kills, KillsBy, ReadsFlow, StaysLive, TermFlows};
 
 use crate::cells::is_alone;
-use block_walk::{Known, matters};
 use bv_term::TermId;
 use c_graph::{Edge, Operation};
 use plan_tables::Units;
+use walk_states::{Known, matters};
 
 /// Whether what each edge to a node that matters needs is read from its node on; there being so many units.
 pub(crate) fn all_flow(known: &Known, edges: &[Edge], count: u32) -> bool

@@ -1,11 +1,12 @@
-//! Nodes that are reached, and nodes that are alive, along the edges.
+//! Nodes that are reached, and nodes that are alive, along the edges; and nodes of loops.
 ghost use Rattle.std.specs.Prelude.{◌≡◌, IsTrue, true};
 ghost use Rattle.plan_tables.specs.Tables.{flag_at};
-ghost use Rattle.plan_tests.specs.Nodes.{AreSteps, AreWatched, IsStep, IsWatched};
+ghost use Rattle.walk_states.specs.Known.{plan_of};
+ghost use Rattle.plan_tests.specs.Nodes.{AreListed, AreSteps, AreWatched, IsListed, IsStep, IsWatched};
 
-use block_walk::Known;
-use c_graph::{Edge, Graph, Node};
+use c_graph::{Edge, Graph, LoopAt, Node, NodeId};
 use plan_tables::Flags;
+use walk_states::Known;
 
 /// Whether along each edge what is reached leads to what is reached, and what is alive is led to by what is.
 pub(crate) fn are_steps(known: &Known, edges: &[Edge]) -> bool
@@ -52,4 +53,22 @@ fn is_watched(known: &Known, node: Node, number: u32) -> bool
         Node::Error(_, _) => known.alive.get(number),
         Node::Plain | Node::End | Node::Call(_, _) => true,
     }
+}
+
+/// Whether each loop's node is a cut point, and alive.
+pub(crate) fn are_listed(known: &Known, loops: &[LoopAt]) -> bool
+    ensures { IsTrue result → AreListed (plan_of known.now) loops.now }
+{
+    for number in 0..loops.len() {
+        if !is_listed(known, loops[number].node) {
+            return false;
+        }
+    }
+    true
+}
+
+fn is_listed(known: &Known, node: NodeId) -> bool
+    ensures { IsTrue result → IsListed (plan_of known.now) node }
+{
+    known.cuts.get(node.0) && known.alive.get(node.0)
 }

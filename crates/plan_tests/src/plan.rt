@@ -1,15 +1,15 @@
 //! All tests of a plan.
 ghost use Rattle.std.specs.Prelude.{IsTrue};
 ghost use Rattle.block_rule.specs.Blocked.{IsPlan};
-ghost use Rattle.block_walk.specs.Known.{plan_of};
+ghost use Rattle.walk_states.specs.Known.{plan_of};
 ghost use Rattle.plan_tests.specs.Nodes.{IsEntry};
 
 use crate::cells::are_units;
 use crate::flow::all_flow;
-use crate::nodes::{are_steps, are_watched};
+use crate::nodes::{are_listed, are_steps, are_watched};
 use crate::reads::are_reads;
-use block_walk::Known;
 use c_graph::{Graph, NodeId};
+use walk_states::Known;
 
 /// Whether what the tables say of a graph's nodes, cells and terms is true. It takes no memory, and time in proportion to the edges
 /// with their operations and the terms, each with the units of cells at most: an edge with a 64th of the units where nearly the same is
@@ -25,6 +25,9 @@ pub fn is_plan(graph: &Graph, known: &Known) -> bool
         return false;
     }
     if !are_steps(known, graph.edges()) || !are_watched(known, graph) {
+        return false;
+    }
+    if !are_listed(known, graph.loops()) {
         return false;
     }
     are_reads(known, graph.terms()) && all_flow(known, graph.edges(), count)

@@ -2,13 +2,13 @@
 ghost use Rattle.std.specs.Prelude.{ℕ, ◌+◌, ◌≡◌, ◌<◌, ◌≤◌, IsTrue, true};
 ghost use Rattle.term_laws.specs.Operands.{OnOperands};
 ghost use Rattle.block_rule.specs.Tests.{AreReads, ReadsOperand, ReadsOwn};
-ghost use Rattle.block_walk.specs.Known.{has_unit, plan_of};
+ghost use Rattle.walk_states.specs.Known.{has_unit, plan_of};
 ghost use Rattle.plan_tests.specs.Cells.{IsRising};
 ghost use Rattle.plan_tests.specs.Reads.{Includes, IsRead};
 
 use crate::cells::is_unit;
-use block_walk::Known;
 use bv_term::{Term, TermId, Terms};
+use walk_states::Known;
 
 /// Whether each term is said to read its own cells and what its operands are said to read.
 pub(crate) fn are_reads(known: &Known, terms: &Terms) -> bool

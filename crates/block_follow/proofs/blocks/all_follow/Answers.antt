@@ -1,6 +1,6 @@
 use Rattle.std.proofs.Common.{arith, rules, refl, ap, ◌≡◌, ℕ, length, slice_index}
 use Rattle.program_graphs.specs.Weighing.{total}
-use Rattle.block_walk.specs.Known.{plan_of}
+use Rattle.walk_states.specs.Known.{plan_of}
 use Rattle.block_follow.specs.Following.{Follows}
 use Rattle.block_follow.proofs.Leaving.{follows-more}
 use Rattle.block_follow.proofs.blocks.all_follow.Goals as goal

@@ -1,5 +1,5 @@
 use Rattle.std.proofs.Common.{◌<◌, ℕ, slice_index}
-use Rattle.block_walk.specs.Known.{plan_of}
+use Rattle.walk_states.specs.Known.{plan_of}
 use Rattle.block_follow.specs.Following.{Follows}
 use Rattle.block_follow.proofs.blocks.all_follow.Given as goal
 

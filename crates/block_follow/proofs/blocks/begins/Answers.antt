@@ -1,5 +1,5 @@
 use Rattle.std.proofs.Common.{arith, refl, rules, ◌≤◌, length}
-use Rattle.block_walk.specs.Known.{plan_of}
+use Rattle.walk_states.specs.Known.{plan_of}
 use Rattle.block_follow.proofs.Beginning.{has-block}
 use Rattle.block_follow.proofs.blocks.begins.Goals as goal
 
@@ -7,5 +7,5 @@ pub returns-in-Ok : goal.returns-in-Ok
 returns-in-Ok c = λ t.
     let few : length c.args.places.now ≤ c.args.size = omega (arith, c.if-places-size.false) in
     has-block c.args.old.now c.args.new.now (plan_of c.args.known.now) c.args.places.now c.args.node c.count_cells.result c.args.first c.args.size
-    c.count_cells.ensures few (c.if-not-is_first.ensures refl) c.requires.places c.requires.led (c.if-not-leads_from.ensures refl)
+    c.count_cells.ensures few (c.if-not-is_first.ensures refl) (c.if-not-are_inside.ensures refl) c.requires.places c.requires.led (c.if-not-leads_from.ensures refl)
     (c.in_ok-are_sides.ensures (search rules)) c.in-Ok.ensures

@@ -1,5 +1,5 @@
 use Rattle.std.proofs.Common.{rules, refl, length, slice_index, ◌≡◌, false}
-use Rattle.block_walk.specs.Known.{plan_of}
+use Rattle.walk_states.specs.Known.{plan_of}
 use Rattle.block_rule.specs.Plans.{matters}
 use Rattle.block_follow.specs.Following.{AreOver, Grows}
 use Rattle.block_follow.proofs.Growing.{both, weaken}
@@ -17,6 +17,7 @@ returns-clause-blocked c =
       nodes = more.nodes;
       cells = more.cells;
       entry = more.entry;
+      loops = more.loops;
       blocks = blocks-all g h (plan_of c.args.known.now) (slice_index c.deref.result.now) (length g.nodes) c.all_follow.ensures.flow refl (f t);
     })
     c.all_follow.ensures.follow

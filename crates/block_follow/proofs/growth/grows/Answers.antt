@@ -13,6 +13,7 @@ returns c = λ t.
     let h = c.args.new.now in
     let number : NodeId → ℕ = λ v. v.0 in
     let entry : g.entry.0 ≡ h.entry.0 = sym (ap number c.entry.ensures.value) ∙ c.if-entry.false ∙ ap number c.entry-2.ensures.value in
+    let loops : h.loops ≡ g.loops = sym c.loops-2.ensures.value ∙ c.if-not-same_loops.ensures refl ∙ c.loops.ensures.value in
     let nodes : (more : List Node) × (h.nodes ≡ g.nodes ++ more) =
     carried c.nodes.result.now c.nodes-2.result.now g.nodes h.nodes c.nodes.ensures.value c.nodes-2.ensures.value (c.if-not-more_nodes.ensures refl) in
     let cells : (more : List Cell) × (h.cells ≡ g.cells ++ more) =
@@ -21,4 +22,4 @@ returns c = λ t.
     let terms : (more : List Term) × (h.terms.terms ≡ g.terms.terms ++ more) =
     carried c.terms.result.now.terms c.terms-2.result.now.terms g.terms.terms h.terms.terms (ap part c.terms.ensures.value) (ap part c.terms-2.ensures.value)
     (c.more_terms.ensures t) in
-    grown g h c.entry.ensures.flow c.entry-2.ensures.flow entry nodes cells terms
+    grown g h c.entry.ensures.flow c.entry-2.ensures.flow entry loops nodes cells terms

@@ -1,5 +1,5 @@
 use Rattle.std.proofs.Common.{◌∙◌}
-use Rattle.block_walk.specs.Known.{plan_of}
+use Rattle.walk_states.specs.Known.{plan_of}
 use Rattle.block_follow.proofs.Growing.{weaken}
 use Rattle.block_follow.proofs.Leaving.{has-kept}
 use Rattle.block_follow.proofs.keeping.keeps.Goals as goal

@@ -1,5 +1,5 @@
 use Rattle.std.proofs.Common.{arith}
-use Rattle.block_walk.specs.Known.{plan_of}
+use Rattle.walk_states.specs.Known.{plan_of}
 use Rattle.block_follow.proofs.Growing.{weaken_some}
 use Rattle.block_follow.proofs.Leaving.{made-of}
 use Rattle.block_follow.proofs.keeping.kept_at.Goals as goal

@@ -1,6 +1,6 @@
 use Rattle.std.proofs.Common.{rules, refl, ◌≡◌, true}
 use Rattle.block_rule.specs.Plans.{matters}
-use Rattle.block_walk.specs.Known.{plan_of}
+use Rattle.walk_states.specs.Known.{plan_of}
 use Rattle.block_follow.proofs.Leaving.{one-copy}
 use Rattle.block_follow.proofs.keeping.kept_edge.Goals as goal
 

@@ -1,6 +1,6 @@
 use Rattle.std.proofs.Common.{◌≡◌, ◌<◌, ℕ, Some, slice_get}
 use Rattle.c_graph.specs.declared.graph.EdgeId.{EdgeId}
-use Rattle.block_walk.specs.Known.{plan_of}
+use Rattle.walk_states.specs.Known.{plan_of}
 use Rattle.block_follow.specs.Following.{AreMade, IsKept}
 use Rattle.block_follow.proofs.keeping.kept_until.Given as goal
 

@@ -1,4 +1,5 @@
 use Rattle.std.proofs.Common.{rules, ◌≡◌, ◌∙◌, List, subst}
+use Rattle.c_graph.specs.declared.graph.LoopAt.{LoopAt}
 use Rattle.c_graph.specs.declared.graph.Node.{Node}
 use Rattle.edge_chains.specs.Joining.{IsJoined}
 use Rattle.block_join.proofs.Keeping.{chained, weaken}
@@ -10,9 +11,12 @@ returns c =
     let nodes : c.in_ok-nodes.nodes.items ≡ c.nodes.result.now = search rules in
     let cells : c.in_ok-cells.cells.items ≡ c.cells.result.now = search rules in
     let loops : c.in_ok-loops.loops.items ≡ c.loops.result.now = search rules in
-    let joined : IsJoined c.in_ok-nodes.nodes.items c.entry-entry.result c.in_ok-edges.edges.items c.in_ok-joined.joined.items =
-    subst (λ (xs : List Node). IsJoined xs c.entry-entry.result c.in_ok-edges.edges.items c.in_ok-joined.joined.items) c.deref.ensures.value
-    c.in_ok-joined.ensures in
+    let at_nodes : IsJoined c.in_ok-nodes.nodes.items c.deref-2.result.now c.entry-entry.result c.in_ok-edges.edges.items c.in_ok-joined.joined.items =
+    subst (λ (xs : List Node). IsJoined xs c.deref-2.result.now c.entry-entry.result c.in_ok-edges.edges.items c.in_ok-joined.joined.items)
+    c.deref.ensures.value c.in_ok-joined.ensures in
+    let joined : IsJoined c.in_ok-nodes.nodes.items c.in_ok-loops.loops.items c.entry-entry.result c.in_ok-edges.edges.items c.in_ok-joined.joined.items =
+    subst (λ (xs : List LoopAt). IsJoined c.in_ok-nodes.nodes.items xs c.entry-entry.result c.in_ok-edges.edges.items c.in_ok-joined.joined.items)
+    c.deref-2.ensures.value at_nodes in
     weaken c.graph_from.result _ _
     (λ h made. chained g h c.in_ok-nodes.nodes.items c.in_ok-edges.edges.items c.in_ok-joined.joined.items c.in_ok-cells.cells.items
     c.in_ok-terms.terms c.entry-entry.result c.in_ok-loops.loops.items (nodes ∙ c.nodes.ensures.value) (c.in_ok-edges.ensures ∙ c.edges.ensures.value)

@@ -1,6 +1,6 @@
 use Rattle.std.proofs.Common.{◌∷◌}
 use Rattle.c_graph.specs.declared.graph.Operation.TheVariants.{Assume}
-use Rattle.block_walk.specs.Walks.{moves_of}
+use Rattle.walk_states.specs.Walks.{moves_of}
 use Rattle.block_places.proofs.Covering.{leaves-by}
 use Rattle.block_places.proofs.leading.has_behind.Goals as goal
 

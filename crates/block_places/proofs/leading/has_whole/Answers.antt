@@ -1,4 +1,4 @@
-use Rattle.block_walk.specs.Walks.{moves_of}
+use Rattle.walk_states.specs.Walks.{moves_of}
 use Rattle.block_places.proofs.Covering.{leaves-by}
 use Rattle.block_places.proofs.leading.has_whole.Goals as goal
 

@@ -1,6 +1,6 @@
 use Rattle.std.proofs.Common.{drop}
 use Rattle.block_rule.specs.Plans.{AreMoves}
-use Rattle.block_walk.specs.Known.{plan_of}
+use Rattle.walk_states.specs.Known.{plan_of}
 use Rattle.block_places.proofs.moves.are_moves.Given as goal
 
 abbrev pub invariant-loop-number : goal.invariant-loop-number

@@ -1,6 +1,6 @@
 use Rattle.std.proofs.Common.{subst, sym}
 use Rattle.block_rule.specs.Plans.{IsMove}
-use Rattle.block_walk.specs.Known.{plan_of}
+use Rattle.walk_states.specs.Known.{plan_of}
 use Rattle.block_places.proofs.moves.is_move.Goals as goal
 
 pub returns-in-SetAt : goal.returns-in-SetAt

@@ -1,9 +1,9 @@
 use Rattle.std.proofs.Common.{List, length, subst, sym}
 use Rattle.block_rule.specs.Plans.{ArePlaces}
 use Rattle.block_edges.specs.Exact.{AllLed}
-use Rattle.block_walk.specs.declared.state.Place.{Place}
-use Rattle.block_walk.specs.Known.{plan_of}
-use Rattle.block_walk.specs.Walks.{places_of}
+use Rattle.walk_states.specs.declared.state.Place.{Place}
+use Rattle.walk_states.specs.Known.{plan_of}
+use Rattle.walk_states.specs.Walks.{places_of}
 use Rattle.block_places.proofs.Covering.{more-led, more-places}
 use Rattle.block_places.proofs.places.places_of_nodes.Goals as goal
 

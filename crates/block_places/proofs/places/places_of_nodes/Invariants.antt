@@ -1,8 +1,8 @@
 use Rattle.std.proofs.Common.{length}
 use Rattle.block_rule.specs.Plans.{ArePlaces}
 use Rattle.block_edges.specs.Exact.{AllLed}
-use Rattle.block_walk.specs.Known.{plan_of}
-use Rattle.block_walk.specs.Walks.{places_of}
+use Rattle.walk_states.specs.Known.{plan_of}
+use Rattle.walk_states.specs.Walks.{places_of}
 use Rattle.block_places.proofs.places.places_of_nodes.Given as goal
 
 abbrev pub invariant-loop-node : goal.invariant-loop-node

@@ -1,5 +1,5 @@
 use Rattle.std.proofs.Common.{refl}
-use Rattle.block_walk.specs.Known.{plan_of}
+use Rattle.walk_states.specs.Known.{plan_of}
 use Rattle.block_places.proofs.Covering.{are-led, place-is}
 use Rattle.block_places.proofs.places.tested.Goals as goal
 

@@ -1,6 +1,6 @@
 use Rattle.std.proofs.Common.{arith, get_or}
 use Rattle.std.proofs.lemmas.Option.{slice_get-get_or}
-use Rattle.block_walk.specs.declared.state.Failing.{Failing}
+use Rattle.walk_states.specs.declared.state.Failing.{Failing}
 use Rattle.block_walk.proofs.Branching.{first-on}
 use Rattle.block_walk.proofs.branches.first_failing.Goals as goal
 

@@ -1,6 +1,6 @@
 use Rattle.std.proofs.Common.{drop}
 use Rattle.block_steps.specs.Cursors.{Meets}
-use Rattle.block_walk.specs.Walks.{bads_of, first_of}
+use Rattle.walk_states.specs.Walks.{bads_of, first_of}
 use Rattle.block_walk.proofs.branches.first_failing.Given as goal
 
 abbrev pub invariant-loop-number : goal.invariant-loop-number

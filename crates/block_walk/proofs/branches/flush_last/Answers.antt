@@ -1,6 +1,6 @@
 use Rattle.std.proofs.Common.{rules, ◌<◌, length}
 use Rattle.block_walk.proofs.Branching.{last-found}
-use Rattle.block_walk.proofs.Following.{weaken}
+use Rattle.walk_states.proofs.Following.{weaken}
 use Rattle.block_walk.proofs.branches.flush_last.Goals as goal
 
 pub returns : goal.returns

@@ -1,7 +1,7 @@
 use Rattle.std.proofs.Common.{drop}
 use Rattle.truth_terms.specs.Truths.{IsBit}
 use Rattle.block_rule.specs.Rule.{some_bad}
-use Rattle.block_walk.specs.Walks.{bads_of}
+use Rattle.walk_states.specs.Walks.{bads_of}
 use Rattle.block_walk.proofs.branches.is_some_failing.Given as goal
 
 abbrev pub invariant-loop-number : goal.invariant-loop-number

@@ -1,7 +1,7 @@
 use Rattle.std.proofs.Common.{rules, ◌≡◌, true}
 use Rattle.block_rule.specs.Deeds.{Ends}
-use Rattle.block_walk.specs.Known.{plan_of}
-use Rattle.block_walk.proofs.Following.{chosen, weaken}
+use Rattle.walk_states.specs.Known.{plan_of}
+use Rattle.walk_states.proofs.Following.{chosen, weaken}
 use Rattle.block_walk.proofs.branches.last_exit.Goals as goal
 
 pub returns : goal.returns

@@ -1,7 +1,7 @@
 use Rattle.std.proofs.Common.{rules, arith, get_or, ◌≡◌, true, None}
 use Rattle.std.proofs.lemmas.Option.{slice_get-get_or}
-use Rattle.block_walk.specs.Known.{plan_of}
-use Rattle.block_walk.specs.declared.state.Waiting.{Waiting}
+use Rattle.walk_states.specs.Known.{plan_of}
+use Rattle.walk_states.specs.declared.state.Waiting.{Waiting}
 use Rattle.block_walk.proofs.Branching.{exit-on}
 use Rattle.block_walk.proofs.branches.leave.Goals as goal
 

@@ -1,8 +1,8 @@
 use Rattle.std.proofs.Common.{drop}
 use Rattle.block_rule.specs.Rule.{exits}
 use Rattle.block_steps.specs.Cursors.{Meets}
-use Rattle.block_walk.specs.Known.{plan_of}
-use Rattle.block_walk.specs.Walks.{waits_of}
+use Rattle.walk_states.specs.Known.{plan_of}
+use Rattle.walk_states.specs.Walks.{waits_of}
 use Rattle.block_walk.proofs.branches.leave.Given as goal
 
 abbrev pub invariant-loop-number : goal.invariant-loop-number

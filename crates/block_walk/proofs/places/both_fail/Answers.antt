@@ -1,5 +1,5 @@
 use Rattle.block_rule.specs.Rule.{checked, under}
-use Rattle.block_walk.proofs.Following.{weaken}
+use Rattle.walk_states.proofs.Following.{weaken}
 use Rattle.block_walk.proofs.places.both_fail.Goals as goal
 
 pub returns : goal.returns

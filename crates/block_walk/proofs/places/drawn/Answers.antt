@@ -2,12 +2,12 @@ use Rattle.std.proofs.Common.{rules, ◌≡◌, ap, refl, true, false, List, Non
 use Rattle.block_rule.specs.Deeds.{Code}
 use Rattle.block_rule.specs.Rule.{State, clear, flushed, is_none, moved}
 use Rattle.block_steps.specs.Cursors.{Meets}
-use Rattle.block_walk.specs.Known.{plan_of}
-use Rattle.block_walk.specs.Walks.{bads_of, moves_of, state_of, waits_of, way_of}
-use Rattle.block_walk.specs.declared.state.Failing.{Failing}
-use Rattle.block_walk.specs.declared.state.Waiting.{Waiting}
+use Rattle.walk_states.specs.Known.{plan_of}
+use Rattle.walk_states.specs.Walks.{bads_of, moves_of, state_of, waits_of, way_of}
+use Rattle.walk_states.specs.declared.state.Failing.{Failing}
+use Rattle.walk_states.specs.declared.state.Waiting.{Waiting}
 use Rattle.block_walk.proofs.Branching.{drawn-found}
-use Rattle.block_walk.proofs.Following.{same-state, weaken}
+use Rattle.walk_states.proofs.Following.{same-state, weaken}
 use Rattle.block_walk.proofs.places.drawn.Goals as goal
 
 pub returns : goal.returns

@@ -1,7 +1,7 @@
 use Rattle.std.proofs.Common.{false}
 use Rattle.block_rule.specs.Rule.{leads, under}
-use Rattle.block_walk.specs.Known.{plan_of}
-use Rattle.block_walk.proofs.Following.{weaken}
+use Rattle.walk_states.specs.Known.{plan_of}
+use Rattle.walk_states.proofs.Following.{weaken}
 use Rattle.block_walk.proofs.places.forks.Goals as goal
 
 pub returns : goal.returns

@@ -2,10 +2,10 @@ use Rattle.std.proofs.Common.{Bool, false, List, subst}
 use Rattle.block_rule.specs.Deeds.{Code}
 use Rattle.block_rule.specs.Rule.{is_on, is_sure, leads, moved, some_draw}
 use Rattle.block_steps.specs.Cursors.{Meets}
-use Rattle.block_walk.specs.Known.{plan_of}
-use Rattle.block_walk.specs.Walks.{moves_of, state_of, waits_of}
-use Rattle.block_walk.specs.declared.state.Waiting.{Waiting}
-use Rattle.block_walk.proofs.Following.{chosen, weaken}
+use Rattle.walk_states.specs.Known.{plan_of}
+use Rattle.walk_states.specs.Walks.{moves_of, state_of, waits_of}
+use Rattle.walk_states.specs.declared.state.Waiting.{Waiting}
+use Rattle.walk_states.proofs.Following.{chosen, weaken}
 use Rattle.block_walk.proofs.places.goes_on.Goals as goal
 
 pub returns : goal.returns

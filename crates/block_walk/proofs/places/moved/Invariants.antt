@@ -2,8 +2,8 @@ use Rattle.std.proofs.Common.{drop}
 use Rattle.block_rule.specs.Deeds.{Code}
 use Rattle.block_rule.specs.Rule.{moved}
 use Rattle.block_steps.specs.Cursors.{Meets}
-use Rattle.block_walk.specs.Known.{plan_of}
-use Rattle.block_walk.specs.Walks.{waits_of}
+use Rattle.walk_states.specs.Known.{plan_of}
+use Rattle.walk_states.specs.Walks.{waits_of}
 use Rattle.block_walk.proofs.places.moved.Given as goal
 
 abbrev pub invariant-loop-number : goal.invariant-loop-number

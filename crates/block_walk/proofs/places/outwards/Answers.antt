@@ -1,8 +1,8 @@
 use Rattle.std.proofs.Common.{IfOk, sym, subst}
 use Rattle.block_rule.specs.Rule.{outwards}
-use Rattle.block_walk.specs.Known.{plan_of}
-use Rattle.block_walk.specs.Walks.{Finds, state_of, ways_of}
-use Rattle.block_walk.specs.declared.state.Ways.{Ways}
+use Rattle.walk_states.specs.Known.{plan_of}
+use Rattle.walk_states.specs.Walks.{Finds, state_of, ways_of}
+use Rattle.walk_states.specs.declared.state.Ways.{Ways}
 use Rattle.block_walk.proofs.places.outwards.Goals as goal
 
 pub returns-in-Fails : goal.returns-in-Fails

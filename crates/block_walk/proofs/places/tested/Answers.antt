@@ -1,8 +1,8 @@
 use Rattle.std.proofs.Common.{Some}
 use Rattle.block_rule.specs.Rule.{goes}
-use Rattle.block_walk.specs.Known.{plan_of}
-use Rattle.block_walk.specs.Walks.{way_of}
-use Rattle.block_walk.proofs.Following.{weaken}
+use Rattle.walk_states.specs.Known.{plan_of}
+use Rattle.walk_states.specs.Walks.{way_of}
+use Rattle.walk_states.proofs.Following.{weaken}
 use Rattle.block_walk.proofs.places.tested.Goals as goal
 
 pub returns : goal.returns

@@ -2,7 +2,7 @@ use Rattle.std.proofs.Common.{◌≡◌, ◌<◌, ℕ, true, Some, slice_get}
 use Rattle.c_graph.specs.declared.graph.Edge.{Edge}
 use Rattle.block_rule.specs.Plans.{matters}
 use Rattle.block_rule.specs.Blocked.{Flows}
-use Rattle.block_walk.specs.Known.{plan_of}
+use Rattle.walk_states.specs.Known.{plan_of}
 use Rattle.plan_tests.proofs.flow.all_flow.Given as goal
 
 abbrev pub invariant-loop-number : goal.invariant-loop-number

@@ -1,6 +1,6 @@
 use Rattle.std.proofs.Common.{◌≡◌, ◌<◌, ℕ, Some, slice_get, take}
 use Rattle.c_graph.specs.declared.graph.Operation.{Operation}
-use Rattle.block_walk.specs.Known.{plan_of}
+use Rattle.walk_states.specs.Known.{plan_of}
 use Rattle.plan_tests.specs.Flow.{ReadsFlow}
 use Rattle.plan_tests.proofs.flow.all_reads_flow.Given as goal
 

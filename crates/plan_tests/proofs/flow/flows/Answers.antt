@@ -1,4 +1,4 @@
-use Rattle.block_walk.specs.Known.{plan_of}
+use Rattle.walk_states.specs.Known.{plan_of}
 use Rattle.plan_tests.proofs.Flowing.{flows_by}
 use Rattle.plan_tests.proofs.flow.flows.Goals as goal
 

@@ -1,6 +1,6 @@
 use Rattle.std.proofs.Common.{◌≡◌, ◌<◌, ℕ, Some, slice_get}
 use Rattle.bv_term.specs.declared.term.Term.{Term}
-use Rattle.block_walk.specs.Known.{plan_of}
+use Rattle.walk_states.specs.Known.{plan_of}
 use Rattle.plan_tests.specs.Reads.{IsRead}
 use Rattle.plan_tests.proofs.reads.are_reads.Given as goal
 

@@ -1,5 +1,5 @@
 use Rattle.std.proofs.Common.{◌≡◌, drop}
-use Rattle.block_walk.specs.Known.{has_unit}
+use Rattle.walk_states.specs.Known.{has_unit}
 use Rattle.plan_tests.proofs.reads.has.Given as goal
 
 abbrev pub invariant-loop-found : goal.invariant-loop-found

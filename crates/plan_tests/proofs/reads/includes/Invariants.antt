@@ -1,5 +1,5 @@
 use Rattle.std.proofs.Common.{◌≡◌, ◌<◌, ℕ, true, Some, slice_get}
-use Rattle.block_walk.specs.Known.{has_unit}
+use Rattle.walk_states.specs.Known.{has_unit}
 use Rattle.plan_tests.proofs.reads.includes.Given as goal
 
 abbrev pub invariant-loop-number : goal.invariant-loop-number

@@ -1,7 +1,0 @@
-use Rattle.std.proofs.Common.{◌≡◌, drop}
-use Rattle.block_rule.specs.Rule.{found}
-use Rattle.block_walk.specs.Walks.{waits_of}
-use Rattle.block_walk.proofs.lists.found.Given as goal
-
-abbrev pub invariant-loop-place : goal.invariant-loop-place
-invariant-loop-place l = found (waits_of l.waiting) l.node ≡ found (waits_of (drop l.place-index l.waiting)) l.node

@@ -1,6 +1,0 @@
-use Rattle.std.proofs.Common.{sym, ap, nat_lt}
-use Rattle.block_walk.proofs.Following.{long-waits}
-use Rattle.block_walk.proofs.lists.many_wait.Goals as goal
-
-pub returns : goal.returns
-returns c = ap (nat_lt 64) (sym (long-waits c.args.waiting.now))

@@ -1,8 +1,0 @@
-use Rattle.std.proofs.Common.{◌≡◌, ◌++◌, drop}
-use Rattle.block_rule.specs.Rule.{without}
-use Rattle.block_walk.specs.Walks.{waits_of}
-use Rattle.block_walk.proofs.lists.without.Given as goal
-
-abbrev pub invariant-loop-number : goal.invariant-loop-number
-invariant-loop-number l =
-    without (waits_of l.waiting) l.node ≡ waits_of l.all.items ++ without (waits_of (drop l.number l.waiting)) l.node

@@ -1,0 +1,8 @@
+use Rattle.std.proofs.Common.{◌≡◌, ◌<◌, ℕ, Some, slice_get}
+use Rattle.c_graph.specs.declared.graph.LoopAt.{LoopAt}
+use Rattle.walk_states.specs.Known.{plan_of}
+use Rattle.plan_tests.specs.Nodes.{IsListed}
+use Rattle.plan_tests.proofs.nodes.are_listed.Given as goal
+
+abbrev pub invariant-loop-number : goal.invariant-loop-number
+invariant-loop-number l = (k : ℕ) (x : LoopAt) → k < l.number → slice_get l.loops k ≡ Some x → IsListed (plan_of l.known) x.node

@@ -1,0 +1,14 @@
+use Rattle.std.proofs.Common.{ℕ, Option, Some, IfOk, sym, subst}
+use Rattle.block_rule.specs.Rule.{waits}
+use Rattle.block_steps.specs.Tests.{holds}
+use Rattle.walk_states.specs.Known.{plan_of}
+use Rattle.walk_states.specs.Walks.{Finds, state_of}
+use Rattle.walk_states.proofs.leads.waits_more.Goals as goal
+
+pub returns-in-Some : goal.returns-in-Some
+returns-in-Some c =
+    subst
+    (λ (x : Option ℕ). IfOk c.added.result
+    (Finds c.args.new.now c.args.walk
+    (λ rest. waits (plan_of c.args.known.now) (state_of c.args.walk) c.args.to c.args.sure (holds c.args.old.now.terms c.args.test) rest (Some x))))
+    (sym c.in-Some.is) c.added.ensures
