@@ -6,9 +6,10 @@
 //! number, or `limit` with its number and the count that passed it);
 //! the words, with blanks between them; the outside; and each file, as its name, `=` and its bytes. The outside is `-`, or has
 //! words: `read=N` and `put=N` for a call that fails, counted from 0, `room=N` for the room of the sink, which else has a hundred
-//! bytes, and `never` for a folder and a sink that never fail. Lines that begin with `#`, and empty ones, are left out.
+//! bytes, and `never` for a folder and a sink that never fail. The gate hears of each unit of a verification, and of nothing else. Lines that begin with `#`, and empty ones, are left out.
 #![tactic(auto)]
 
+mod hearing;
 mod left;
 mod rows;
 mod tables;

@@ -1,10 +1,11 @@
 //! Answers the words of a row.
 
+use crate::hearing::HearingGate;
 use crate::left::{Left, are_left};
 use crate::rows::{Row, Wanted};
 use lazic::{Report, run_words};
 use lv_base::Text;
-use lv_outside::{FreeGate, MemFolder, MemSink, NoFaultFolder, NoFaultSink, names_differ};
+use lv_outside::{MemFolder, MemSink, NoFaultFolder, NoFaultSink, names_differ};
 use std::alloc::Global;
 use std::str;
 use std::thread::Threads;
@@ -44,9 +45,9 @@ fn compared(
     asked: &Asked<'_>,
     report: &Report,
     text: &[u8],
-    are_left: bool,
+    outside: bool,
 ) -> Result<Answered, Flaw> {
-    let same = report.status as u64 == asked.status && text == asked.text && are_left;
+    let same = report.status as u64 == asked.status && text == asked.text && outside;
     Ok(Answered {
         holds: same && asked.kept.is(&report.kept),
         status: report.status,
@@ -67,6 +68,7 @@ fn over_no_faults<R: Threads + Sync>(
     }
     let mut folder = NoFaultFolder::new(files);
     let mut out = NoFaultSink::new(alloc, room)?;
+    let gate = HearingGate::new();
     let report = run_words(
         rt,
         alloc,
@@ -75,10 +77,11 @@ fn over_no_faults<R: Threads + Sync>(
         &mut out,
         0,
         [0; 16],
-        &FreeGate,
+        &gate,
     );
     let left = are_left(alloc, &mut folder, asked.left)?;
-    compared(alloc, asked, &report, out.text(), left)
+    let heard = gate.heard_what_was_asked(asked.words, report.status);
+    compared(alloc, asked, &report, out.text(), left && heard)
 }
 
 // Over files of which some calls fail.
@@ -94,6 +97,7 @@ fn over_faults<R: Threads + Sync>(
         return Err(Flaw::Form);
     }
     let mut folder = MemFolder::new(files, reads);
+    let gate = HearingGate::new();
     let report = run_words(
         rt,
         alloc,
@@ -102,10 +106,11 @@ fn over_faults<R: Threads + Sync>(
         &mut out,
         0,
         [0; 16],
-        &FreeGate,
+        &gate,
     );
     let left = are_left(alloc, &mut folder, asked.left)?;
-    compared(alloc, asked, &report, out.text(), left)
+    let heard = gate.heard_what_was_asked(asked.words, report.status);
+    compared(alloc, asked, &report, out.text(), left && heard)
 }
 
 /// What comes of a row.

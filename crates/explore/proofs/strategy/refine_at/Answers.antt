@@ -13,9 +13,9 @@ use Rattle.explore.proofs.Rules.{grown-steered}
 use Rattle.explore.proofs.Trying.{follows-stays, path-there, path-turn, refined-steered, strengthened-last, strengthened-nodes}
 use Rattle.explore.proofs.strategy.refine_at.Goals as goal
 
-pub returns-in_err-values-clause-ready : goal.returns-in_err-values-clause-ready
-returns-in_err-values-clause-ready g c =
-    let same = same_units c.args.work.now.unwinding c.refine_leaf.new.unwinding c.in_err-values.ensures.only in
+pub returns-in_err-log-clause-ready : goal.returns-in_err-log-clause-ready
+returns-in_err-log-clause-ready g c =
+    let same = same_units c.args.work.now.unwinding c.refine_leaf.new.unwinding c.in_err-log.ensures.only in
     let few = c.requires.ready.few in
     ready_grows c.args.graph.now c.args.budget.units c.args.work.now.unwinding c.refine_leaf.new.unwinding c.args.work.now.witnesses c.refine_leaf.ensures.extends
     (c.refine_leaf.ensures.legal c.requires.ready.legal c.requires.error) (omega (arith, same, few)) c.requires.ready
@@ -23,7 +23,7 @@ returns-in_err-values-clause-ready g c =
 pub returns-in_err-path-clause-ready : goal.returns-in_err-path-clause-ready
 returns-in_err-path-clause-ready g c =
     let made = subst (IsRefined c.args.graph.now c.args.work.now.unwinding c.refine_leaf.new.unwinding c.args.leaf c.args.budget.learn) c.in-Strengthened.is
-    c.in_ok-values.ensures.refined in
+    c.in_ok-log.ensures.refined in
     let more = one_unit c.args.graph.now c.args.work.now.unwinding c.refine_leaf.new.unwinding c.args.leaf made.0 in
     let few = c.requires.more in
     ready_grows c.args.graph.now c.args.budget.units c.args.work.now.unwinding c.refine_leaf.new.unwinding c.args.work.now.witnesses c.refine_leaf.ensures.extends
@@ -32,7 +32,7 @@ returns-in_err-path-clause-ready g c =
 pub loop-vertex-init : goal.loop-vertex-init
 loop-vertex-init g c =
     let made = subst (IsRefined c.args.graph.now c.args.work.now.unwinding c.refine_leaf.new.unwinding c.args.leaf c.args.budget.learn) c.in-Strengthened.is
-    c.in_ok-values.ensures.refined in
+    c.in_ok-log.ensures.refined in
     let more = one_unit c.args.graph.now c.args.work.now.unwinding c.refine_leaf.new.unwinding c.args.leaf made.0 in
     let few = c.requires.more in
     let new = c.refine_leaf.new.unwinding in
@@ -43,8 +43,8 @@ loop-vertex-init g c =
     record {
       ready = ready_grows c.args.graph.now c.args.budget.units old new c.args.work.now.witnesses c.refine_leaf.ensures.extends
           (c.refine_leaf.ensures.legal c.requires.ready.legal c.requires.error) (omega (arith, more, few)) c.requires.ready;
-      steered = refined-steered c.args.graph.now old new c.args.leaf c.args.budget.learn c.in_ok-values.field-0 c.requires.ready.legal c.requires.steered
-          c.requires.highest c.in_ok-values.ensures.refined;
+      steered = refined-steered c.args.graph.now old new c.args.leaf c.args.budget.learn c.in_ok-log.field-0 c.requires.ready.legal c.requires.steered
+          c.requires.highest c.in_ok-log.ensures.refined;
       follows = follows-stays c.args.graph.now old.vertices new.vertices c.args.work.now.beside c.args.work.now.beside nodes refl c.requires.follows;
       refined = strengthened-last c.args.graph.now old new c.args.leaf made.0;
       path = c.as_slice-vertex-items.ensures ∙ c.in_ok-path.ensures.vertices;
@@ -54,11 +54,13 @@ loop-vertex-init g c =
 
 pub settle_all-requires-clause-there : goal.settle_all-requires-clause-there
 settle_all-requires-clause-there g c =
+    λ _ _.
     path-there c.args.graph.now c.loop-vertex.work.unwinding c.args.leaf c.as_slice-vertex-items.result.now c.loop-vertex.vertex-index (record { 0 = 0 })
     c.loop-vertex.invariant.ready.legal c.loop-vertex.invariant.there c.loop-vertex.invariant.path c.loop-vertex-test.true
 
 pub settle_all-requires-clause-turn : goal.settle_all-requires-clause-turn
 settle_all-requires-clause-turn g c =
+    λ _ _.
     path-turn c.args.graph.now c.loop-vertex.work.unwinding c.args.leaf c.as_slice-vertex-items.result.now c.loop-vertex.vertex-index (record { 0 = 0 })
     c.loop-vertex.invariant.refined c.loop-vertex.invariant.path c.loop-vertex-test.true
 
@@ -81,36 +83,36 @@ loop-vertex-preserved g c =
       grows = omega (arith, more, so-far);
     }
 
-pub returns-in_err-values-clause-ended : goal.returns-in_err-values-clause-ended
-returns-in_err-values-clause-ended g c =
+pub returns-in_err-log-clause-ended : goal.returns-in_err-log-clause-ended
+returns-in_err-log-clause-ended g c =
     let p = err_from_is_err_and c.from_residual.result c.from_residual.ensures.1 in
     rw (p.1, p.2)
-    (leaf_ends c.args.graph.now c.args.budget.units c.args.budget.learn c.args.work.now.unwinding c.refine_leaf.new.unwinding c.args.leaf c.in_err-values.field-0.0
-    c.requires.leaf c.requires.highest c.requires.error c.requires.more c.in_err-values.ensures.refused)
+    (leaf_ends c.args.graph.now c.args.budget.units c.args.budget.learn c.args.work.now.unwinding c.refine_leaf.new.unwinding c.args.leaf c.in_err-log.field-0.0
+    c.requires.leaf c.requires.highest c.requires.error c.requires.more c.in_err-log.ensures.refused)
 
 pub returns-in-Spent-clause-ended : goal.returns-in-Spent-clause-ended
 returns-in-Spent-clause-ended g c =
     let made = subst (IsRefined c.args.graph.now c.args.work.now.unwinding c.refine_leaf.new.unwinding c.args.leaf c.args.budget.learn) c.in-Spent.is
-    c.in_ok-values.ensures.refined in
+    c.in_ok-log.ensures.refined in
     subst (λ (u : Unwound). IsAsked c.args.graph.now c.args.budget.units u (λ (clauses : List (List Lit)). IsSpent clauses c.args.budget.learn c.in-Spent.log)) (sym made.0)
     (path_asked c.args.graph.now c.args.budget.units c.args.work.now.unwinding c.args.leaf _ c.requires.leaf c.requires.highest c.requires.error c.requires.more made.1)
 
-pub returns-in_err-values-clause-steered : goal.returns-in_err-values-clause-steered
-returns-in_err-values-clause-steered g c =
-    grown-steered c.args.graph.now c.args.work.now.unwinding c.refine_leaf.new.unwinding c.in_err-values.ensures.only.extends c.in_err-values.ensures.only.others
+pub returns-in_err-log-clause-steered : goal.returns-in_err-log-clause-steered
+returns-in_err-log-clause-steered g c =
+    grown-steered c.args.graph.now c.args.work.now.unwinding c.refine_leaf.new.unwinding c.in_err-log.ensures.only.extends c.in_err-log.ensures.only.others
     c.requires.ready.legal c.requires.steered
 
 pub returns-in_err-path-clause-steered : goal.returns-in_err-path-clause-steered
 returns-in_err-path-clause-steered g c =
-    refined-steered c.args.graph.now c.args.work.now.unwinding c.refine_leaf.new.unwinding c.args.leaf c.args.budget.learn c.in_ok-values.field-0
-    c.requires.ready.legal c.requires.steered c.requires.highest c.in_ok-values.ensures.refined
+    refined-steered c.args.graph.now c.args.work.now.unwinding c.refine_leaf.new.unwinding c.args.leaf c.args.budget.learn c.in_ok-log.field-0
+    c.requires.ready.legal c.requires.steered c.requires.highest c.in_ok-log.ensures.refined
 
 pub returns-in-Feasible-clause-steered : goal.returns-in-Feasible-clause-steered
 returns-in-Feasible-clause-steered g c =
-    refined-steered c.args.graph.now c.args.work.now.unwinding c.refine_leaf.new.unwinding c.args.leaf c.args.budget.learn c.in_ok-values.field-0
-    c.requires.ready.legal c.requires.steered c.requires.highest c.in_ok-values.ensures.refined
+    refined-steered c.args.graph.now c.args.work.now.unwinding c.refine_leaf.new.unwinding c.args.leaf c.args.budget.learn c.in_ok-log.field-0
+    c.requires.ready.legal c.requires.steered c.requires.highest c.in_ok-log.ensures.refined
 
 pub returns-in-Spent-clause-steered : goal.returns-in-Spent-clause-steered
 returns-in-Spent-clause-steered g c =
-    refined-steered c.args.graph.now c.args.work.now.unwinding c.refine_leaf.new.unwinding c.args.leaf c.args.budget.learn c.in_ok-values.field-0
-    c.requires.ready.legal c.requires.steered c.requires.highest c.in_ok-values.ensures.refined
+    refined-steered c.args.graph.now c.args.work.now.unwinding c.refine_leaf.new.unwinding c.args.leaf c.args.budget.learn c.in_ok-log.field-0
+    c.requires.ready.legal c.requires.steered c.requires.highest c.in_ok-log.ensures.refined

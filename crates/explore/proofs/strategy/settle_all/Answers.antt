@@ -31,10 +31,12 @@ loop-w-init g c =
 
 pub try_pair-requires-clause-below : goal.try_pair-requires-clause-below
 try_pair-requires-clause-below g c =
+    λ _ _.
     left-low c.loop-w.work.unwinding c.args.v c.in-Some.w c.loop-w.below.items c.pop.new.self.items c.in-Some.ensures.items c.loop-w.invariant.left
 
 pub try_pair-requires-clause-lowest : goal.try_pair-requires-clause-lowest
 try_pair-requires-clause-lowest g c =
+    λ _ _.
     left-lowest c.loop-w.work.unwinding c.args.v c.in-Some.w c.loop-w.below.items c.pop.new.self.items c.in-Some.ensures.items c.loop-w.invariant.left
 
 pub returns-then-branch-clause-refined : goal.returns-then-branch-clause-refined
