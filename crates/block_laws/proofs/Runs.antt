@@ -12,7 +12,7 @@ use Rattle.c_graph.specs.declared.graph.Operation.{Operation}
 use Rattle.c_graph.specs.declared.graph.Operation.TheVariants.{Assume, Set, SetAt, Draw}
 use Rattle.c_graph.specs.Shape.{Flow, IsFlow, OperationFits, widths_of}
 use Rattle.c_graph.specs.Steps.{IsWhole, Moment, moment, operated_all}
-use Rattle.c_graph.specs.Runs.{RunsAlong}
+use Rattle.c_graph.specs.Runs.{RunsAlong, RunsTo}
 use Rattle.c_graph.proofs.Keeping.{edge-fits, inductive_means_safe}
 use Rattle.graph_walk_laws.proofs.Consuming.{taken, more_left}
 use Rattle.block_rule.specs.Deeds.{Code}

@@ -1,6 +1,6 @@
 -- Terms in stores that agree on the cells that they are said to read, and complements.
-use Rattle.std.proofs.Common.{◌≡◌, ℕ, ◌+◌, ◌<◌, ◌≤◌, ◌%◌, ◌^◌, ◌==◌, ◌⊎◌, inl, inr, Bool, true, false, List, [], ◌∷◌, Option, Some, None, refl, sym, ap, ◌∙◌, subst, zero, suc, length, arith, slice_index, slice_get, nat_lt, if◌then◌else◌, bit_and, bit_or, bit_xor}
-use Rattle.std.proofs.lemmas.Bool.{cases_Bool, cases_eq, ltb-true}
+use Rattle.std.proofs.Common.{◌≡◌, ℕ, ◌+◌, ◌<◌, ◌≤◌, ◌%◌, ◌^◌, ◌==◌, ◌⊎◌, inl, inr, true, false, List, [], ◌∷◌, Some, refl, sym, ap, ◌∙◌, zero, suc, length, arith, slice_index, slice_get, nat_lt, if◌then◌else◌, bit_and, bit_or, bit_xor}
+use Rattle.std.proofs.lemmas.Bool.{cases_Bool, ltb-true}
 use Rattle.bv_term.specs.declared.term.TermId.{TermId}
 use Rattle.bv_term.specs.declared.term.Term.{Term}
 use Rattle.bv_term.specs.declared.term.Term.TheVariants.{Constant, Cell, Element, Add, Subtract, Multiply, Divide, Remainder, And, Or, Xor, Not, ShiftLeft, ShiftRight, ShiftSigned, Equal, Less, LessSigned, Select, ZeroExtend, SignExtend, Truncate, Bit}
@@ -10,10 +10,9 @@ use Rattle.bv_term.specs.Values.{value, value_in, values}
 use Rattle.bv_term.proofs.Staying.{one_for_each}
 use Rattle.term_laws.specs.Operands.{OnOperands}
 use Rattle.term_laws.proofs.Made.{made, onto}
-use Rattle.graph_walk_laws.specs.Walks.{AreComplements}
-use Rattle.block_rule.specs.Plans.{Plan, Exclude}
+use Rattle.block_rule.specs.Plans.{Plan}
 use Rattle.block_rule.specs.Tests.{ReadsOwn, ReadsOperand, AreReads}
-use Rattle.block_rule.specs.Blocked.{Agree, ReadsAll}
+use Rattle.block_rule.specs.Blocked.{Agree}
 use Rattle.block_laws.specs.Testing.{ReadsTell, ComplementsExclude}
 
 pair : (P Q : TermId → Type 0) (u : Term) → OnOperands P u → OnOperands Q u → OnOperands (λ i. P i × Q i) u

@@ -1,5 +1,5 @@
 -- What tests of a plan tell.
-use Rattle.std.specs.Prelude.{ℕ, ◌≡◌, length}
+use Rattle.std.specs.Prelude.{length}
 use Rattle.bv_term.specs.declared.term.TermId.{TermId}
 use Rattle.bv_term.specs.WellFormed.{Table, IsTable}
 use Rattle.graph_walk_laws.specs.Walks.{AreComplements}
