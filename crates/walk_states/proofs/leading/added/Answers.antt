@@ -5,7 +5,7 @@ use Rattle.block_rule.specs.Rule.{is_set}
 use Rattle.block_steps.specs.Tests.{holds}
 use Rattle.walk_states.specs.Walks.{state_of}
 use Rattle.walk_states.proofs.Following.{finds-deed}
-use Rattle.walk_states.proofs.leads.added.Goals as goal
+use Rattle.walk_states.proofs.leading.added.Goals as goal
 
 pub returns : goal.returns
 returns c =
