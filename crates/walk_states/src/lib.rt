@@ -6,11 +6,11 @@
 #![tactic(auto)]
 
 mod known;
-mod leads;
+mod leading;
 mod lists;
 mod state;
 
 pub use known::{Known, guard_for, is_cut, matters};
-pub use leads::{checked, leads, saved};
+pub use leading::{checked, leads, saved};
 pub use lists::{found, no_bads, no_waits, without};
 pub use state::{Failing, Place, Stop, Waiting, Walk, Way, Ways};

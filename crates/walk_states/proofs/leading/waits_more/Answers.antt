@@ -3,7 +3,7 @@ use Rattle.block_rule.specs.Rule.{waits}
 use Rattle.block_steps.specs.Tests.{holds}
 use Rattle.walk_states.specs.Known.{plan_of}
 use Rattle.walk_states.specs.Walks.{Finds, state_of}
-use Rattle.walk_states.proofs.leads.waits_more.Goals as goal
+use Rattle.walk_states.proofs.leading.waits_more.Goals as goal
 
 pub returns-in-Some : goal.returns-in-Some
 returns-in-Some c =

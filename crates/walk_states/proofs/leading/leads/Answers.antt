@@ -2,7 +2,7 @@ use Rattle.std.proofs.Common.{◌≡◌, ◌∙◌, true, sym}
 use Rattle.block_rule.specs.Plans as plans
 use Rattle.walk_states.specs.Known.{plan_of}
 use Rattle.walk_states.proofs.Following.{chosen, weaken}
-use Rattle.walk_states.proofs.leads.leads.Goals as goal
+use Rattle.walk_states.proofs.leading.leads.Goals as goal
 
 pub returns-then-matters : goal.returns-then-matters
 returns-then-matters c =

@@ -3,7 +3,7 @@ use Rattle.block_rule.specs.Rule.{found, waits}
 use Rattle.block_steps.specs.Tests.{holds}
 use Rattle.walk_states.specs.Known.{plan_of}
 use Rattle.walk_states.specs.Walks.{Finds, state_of, waits_of}
-use Rattle.walk_states.proofs.leads.waits.Goals as goal
+use Rattle.walk_states.proofs.leading.waits.Goals as goal
 
 pub returns : goal.returns
 returns c =

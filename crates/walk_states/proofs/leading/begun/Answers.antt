@@ -1,8 +1,8 @@
 use Rattle.std.proofs.Common.{rules, ◌≡◌, ◌&&◌, false, not}
 use Rattle.walk_states.specs.Known.{plan_of}
 use Rattle.walk_states.proofs.Following.{chosen, weaken}
-use Rattle.walk_states.proofs.leads.begun.Goals as goal
-use Rattle.walk_states.proofs.leads.begun.Goals.{else-sure-via-then-sure+else-not-is_cut, else-sure-via-else-sure}
+use Rattle.walk_states.proofs.leading.begun.Goals as goal
+use Rattle.walk_states.proofs.leading.begun.Goals.{else-sure-via-then-sure+else-not-is_cut, else-sure-via-else-sure}
 
 pub returns-else-sure : goal.returns-else-sure
 returns-else-sure c =
