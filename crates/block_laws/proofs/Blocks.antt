@@ -32,7 +32,7 @@ error-ends g (k ∷ path) v m w a flow is (e, there, from, rest) =
     let plain : slice_get g.nodes v ≡ Some Plain = ap (slice_get g.nodes) (sym from) ∙ (edge-fits g k.0 e flow there).from in
     absurd (let z : Some Plain ≡ Some (Error is.0 is.1.0) = sym plain ∙ is.1.1 in cc)
 
-plain-error : (g : Flow) (v : ℕ) → slice_get g.nodes v ≡ Some Plain → IsError g v → ⊥
+pub plain-error : (g : Flow) (v : ℕ) → slice_get g.nodes v ≡ Some Plain → IsError g v → ⊥
 plain-error g v plain is = absurd (let z : Some Plain ≡ Some (Error is.0 is.1.0) = sym plain ∙ is.1.1 in cc)
 
 -- a place from which an error is reached is alive

@@ -1,11 +1,10 @@
 -- Cells that are needed at a node are read from there on by the plan, and visits that stay.
-use Rattle.std.proofs.Common.{◌≡◌, ℕ, ℤ, ◌<◌, ◌==◌, ◌&&◌, ◌||◌, inl, inr, Bool, true, false, not, List, [], ◌∷◌, ◌++◌, refl, sym, ap, ◌∙◌, subst, length, slice_get, slice_set, Some}
+use Rattle.std.proofs.Common.{◌≡◌, ℕ, ℤ, ◌<◌, ◌==◌, ◌&&◌, ◌||◌, inl, inr, Bool, true, false, not, List, [], ◌∷◌, ◌++◌, refl, sym, ap, ◌∙◌, subst, length, slice_get, slice_set}
 use Rattle.std.proofs.lemmas.Bool.{cases_Bool, ne_eqb}
 use Rattle.bv_term.specs.declared.term.TermId.{TermId}
 use Rattle.bv_term.specs.WellFormed.{Table}
 use Rattle.c_graph.specs.declared.graph.NodeId.{NodeId}
 use Rattle.c_graph.specs.declared.graph.EdgeId.{EdgeId}
-use Rattle.c_graph.specs.declared.graph.Node.TheVariants.{Plain, Error}
 use Rattle.c_graph.specs.declared.graph.Operation.{Operation}
 use Rattle.c_graph.specs.declared.graph.Operation.TheVariants.{Assume, Set, SetAt, Draw}
 use Rattle.c_graph.specs.Shape.{Flow, IsFlow}
@@ -14,7 +13,7 @@ use Rattle.c_graph.proofs.Keeping.{edge-fits}
 use Rattle.block_rule.specs.Plans.{Plan, IsError}
 use Rattle.block_rule.specs.Blocked.{Agree, ReadsAll, read_before, read_before_all, IsPlan}
 use Rattle.block_laws.proofs.Lists.{false-true, set-other}
-use Rattle.block_laws.proofs.Blocks.{both-true}
+use Rattle.block_laws.proofs.Blocks.{both-true, plain-error}
 use Rattle.block_laws.proofs.Runs.{follows-to}
 use Rattle.edge_chain_laws.proofs.Along.{chains_keep_visits}
 use Rattle.join_laws.specs.Visits.{BlocksKeepLoops, ChainsKeepLoops, Depends, IsGoal, IsNeeded, IsPath, ReadsCell, ReadsFirst, SetsCell}
@@ -88,9 +87,6 @@ module _ (g : Flow) (plan : Plan) (is : IsPlan g plan) where
   reached-along [] v s draws w after reached (same, stays, none) = ap (λ (x : NodeId). plan.reached x.0) (sym same) ∙ reached
   reached-along (k ∷ path) v s draws w after reached (e, there, from, (mid, first, rest, split, leads, run)) =
       reached-along path e.to mid rest w after (is.reaches k.0 e there (ap (λ (x : NodeId). plan.reached x.0) from ∙ reached)) run
-
-plain-error : (g : Flow) (v : ℕ) → slice_get g.nodes v ≡ Some Plain → IsError g v → ⊥
-plain-error g v plain (kind, (at, there)) = absurd (let e : Some Plain ≡ Some (Error kind at) = sym plain ∙ there in cc)
 
 -- nothing is needed at an error
 error-needs : (g : Flow) → IsFlow g → (v c : ℕ) → IsError g v → IsNeeded g v c → ⊥

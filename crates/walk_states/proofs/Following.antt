@@ -1,5 +1,5 @@
 -- Lists that a walk keeps, and codes that follow each other.
-use Rattle.std.proofs.Common.{Result, Ok, Err, IfOk, inl, inr, ◌≡◌, ℕ, ◌+◌, ◌≤◌, ◌==◌, Bool, true, false, List, [], ◌∷◌, ◌++◌, Option, Some, None, refl, sym, ap, ◌∙◌, subst, zero, suc, arith, length, drop, slice_get, if◌then◌else◌, nat_lt, append_assoc, append-nil}
+use Rattle.std.proofs.Common.{Result, Ok, Err, IfOk, inl, inr, ◌≡◌, ℕ, ◌≤◌, ◌==◌, Bool, true, false, List, [], ◌∷◌, ◌++◌, Option, Some, None, refl, sym, ap, ◌∙◌, subst, zero, suc, arith, length, drop, slice_get, if◌then◌else◌, nat_lt, append_assoc, append-nil}
 use Rattle.std.proofs.lemmas.Bool.{cases_Bool, ne_eqb}
 use Rattle.c_graph.specs.Shape.{Flow}
 use Rattle.block_rule.specs.Deeds.{Deed, Code, Does}

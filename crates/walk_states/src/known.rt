@@ -66,10 +66,9 @@ fn through(known: &Known, waiting: &[Waiting], guard: Option<u32>, cell: u32) ->
     ensures { result ≡ through (plan_of known.now) (waits_of waiting.now) guard cell }
 {
     if is_awaited(known, waiting, cell) {
-        guard
-    } else {
-        None
+        return guard;
     }
+    None
 }
 
 /// The guard through which an operation goes.
