@@ -6,7 +6,8 @@ use Rattle.c_typed.specs.Tree.{Program}
 use Rattle.c_typed.specs.Run.{run}
 use Rattle.c_typed.specs.declared.tree.Object.{Object}
 use Rattle.c_graph.specs.declared.graph.LoopAt.{LoopAt}
-use Rattle.c_graph.specs.Shape.{Flow}
+use Rattle.c_graph.specs.Shape.{Flow, widths_of}
+use Rattle.c_graph.specs.Steps.{IsWhole}
 use Rattle.c_graph.specs.Runs.{RunsTo, Formulas, HoldsAt}
 use Rattle.code_layout.specs.Layout.{elements_of}
 use Rattle.code_moves.specs.Setting.{Setting}
@@ -37,4 +38,4 @@ VisitsFollow s p g =
 abbrev pub VisitsHold : Setting → Program → Flow → Formulas → Type 0
 VisitsHold s p g m =
     (inputs : List ℤ) (l : LoopAt) (values : List (List ℤ)) → IsLoopOf g l → Visits p inputs l.at values
-    → (after : List ℕ) × HoldsAt m l.node after × Shows s values after
+    → (after : List ℕ) × IsWhole (widths_of g.cells) after × HoldsAt m l.node after × Shows s values after
