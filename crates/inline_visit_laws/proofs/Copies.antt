@@ -11,7 +11,7 @@ use Rattle.c_graph.specs.declared.graph.Cell.{Cell}
 use Rattle.c_graph.specs.Shape.{Flow, widths_of}
 use Rattle.c_graph.specs.Steps.{IsWhole, Leads}
 use Rattle.c_graph.specs.Functions.{FnFlow, Flows}
-use Rattle.c_graph.specs.Runs.{RunsAlong, RunsTo}
+use Rattle.c_graph.specs.Runs.{RunsAlong}
 use Rattle.function_runs.specs.Runs.{Along, Into, Back, Move, Return, Spot, return_to, spot, node_in, node_at, MovesBy, RunsBy}
 use Rattle.call_inline.specs.declared.numbers.Copied.{Copied}
 use Rattle.call_inline.specs.Inlining.{Among, IsInlining, edges_in, edges_of, entry_in, entry_of, nodes_in, nodes_of, step}

@@ -1,5 +1,5 @@
 -- A machine that is out of turns stands at an instruction that takes one.
-use Rattle.std.proofs.Common.{◌≡◌, ℕ, zero, suc, nat_eq, Bool, true, false, refl, sym, ap, ◌∙◌, List, Option, None, Some, slice_get, ℤ}
+use Rattle.std.proofs.Common.{◌≡◌, ℕ, zero, suc, nat_eq, Bool, true, false, refl, ap, ◌∙◌, List, Option, None, Some, slice_get, ℤ}
 use Rattle.std.proofs.lemmas.Bool.{eqb-true}
 use Rattle.std.proofs.lemmas.Option.{same_Some, none-some}
 use Rattle.lv_base.specs.declared.kind.Model.{Model}

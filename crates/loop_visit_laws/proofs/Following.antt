@@ -17,9 +17,8 @@ use Rattle.slot_code.specs.Slots.{get, slots_in}
 use Rattle.slot_code.specs.Values.{Link, link_of}
 use Rattle.slot_code.specs.Programs.{code_of}
 use Rattle.slot_code.specs.Machine.{Machine, main_link, rank}
-use Rattle.slot_laws.specs.Laws.{IsOrder}
 use Rattle.slot_laws.proofs.Lying.{put_same}
-use Rattle.slot_turn_laws.specs.Turns.{spent_at, turned_code, turned_from}
+use Rattle.slot_turn_laws.specs.Turns.{spent_at, turned_code}
 use Rattle.slot_turn_laws.proofs.Whole.{turns-as-tree}
 use Rattle.code_moves.specs.Setting.{Setting}
 use Rattle.code_move_laws.specs.Mirrors.{IsLaid}

@@ -1,5 +1,5 @@
 -- The function that is open outermost in a run over functions.
-use Rattle.std.proofs.Common.{◌≡◌, ℕ, ℤ, refl, sym, ap, ◌∙◌, List, [], ◌∷◌}
+use Rattle.std.proofs.Common.{◌≡◌, ℕ, ℤ, sym, ap, ◌∙◌, List, [], ◌∷◌}
 use Rattle.c_graph.specs.Functions.{Flows}
 use Rattle.function_runs.specs.Runs.{Along, Into, Back, Move, Return, Spot, MovesBy, RunsBy}
 

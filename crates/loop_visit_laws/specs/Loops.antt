@@ -3,7 +3,6 @@ use Rattle.std.specs.Prelude.{ℕ, ℤ, ◌<◌, ◌≤◌, ◌≡◌, true, Lis
 use Rattle.c_typed.specs.Facts.{IsTyped}
 use Rattle.c_typed.specs.Parts.{Parts, tree_of}
 use Rattle.c_graph.specs.declared.graph.LoopAt.{LoopAt}
-use Rattle.c_graph.specs.declared.graph.NodeId.{NodeId}
 use Rattle.c_graph.specs.Functions.{Flows, AreFlows}
 use Rattle.slot_code.specs.declared.flat.Instruction.{Instruction}
 use Rattle.slot_code.specs.declared.flat.Instruction.TheVariants as i

@@ -1,5 +1,5 @@
 -- What an inductive map says along runs.
-use Rattle.std.proofs.Common.{◌≡◌, ℕ, ℤ, sym, subst, List, [], ◌∷◌}
+use Rattle.std.proofs.Common.{ℕ, ℤ, sym, subst, List, [], ◌∷◌}
 use Rattle.std.specs.Prelude.{take}
 use Rattle.c_graph.specs.declared.graph.EdgeId.{EdgeId}
 use Rattle.c_graph.specs.declared.graph.NodeId.{NodeId}

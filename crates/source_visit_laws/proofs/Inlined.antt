@@ -1,5 +1,5 @@
 -- A visit of a loop goes by the flat code and the graphs of functions to the graph of the whole.
-use Rattle.std.proofs.Common.{◌≡◌, ℕ, sym, subst, List, ℤ}
+use Rattle.std.proofs.Common.{ℕ, sym, subst}
 use Rattle.std.specs.Prelude.{take}
 use Rattle.c_typed.specs.Parts.{tree_of}
 use Rattle.c_graph.specs.declared.graph.NodeId.{NodeId}

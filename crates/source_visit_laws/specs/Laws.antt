@@ -1,5 +1,5 @@
 -- Visits of a program's loops by the graph that is made of it.
-use Rattle.std.specs.Prelude.{ℕ, ◌≡◌, List, Some, slice_get}
+use Rattle.std.specs.Prelude.{ℕ, ◌≡◌, List, slice_get}
 use Rattle.c_typed.specs.Facts.{IsTyped}
 use Rattle.c_typed.specs.Parts.{Parts, tree_of}
 use Rattle.c_typed.specs.Tree.{Program}
