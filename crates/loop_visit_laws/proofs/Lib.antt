@@ -1,0 +1,4 @@
+pub mod Asking
+pub mod Outermost
+pub mod Following
+pub mod Loops

@@ -1,0 +1,11 @@
+pub mod Running
+pub mod Lying
+pub mod Pieces
+pub mod Calling
+pub mod Valuing
+pub mod Leaving
+pub mod Entering
+pub mod Stating
+pub mod Functioning
+pub mod Returning
+pub mod Whole
