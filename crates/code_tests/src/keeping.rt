@@ -18,9 +18,10 @@ pub fn is_inside(range: &Range, place: usize) -> bool
 fn stays_at(range: &Range, place: usize, count: usize) -> bool
     ensures { result ≡ of.is_inside range.now (place + count) }
 {
+    let end = range.end;
     match place.checked_add(count) {
         None => false,
-        Some(behind) => is_inside(range, behind),
+        Some(behind) => range.entry <= behind && behind < end,
     }
 }
 
@@ -55,9 +56,10 @@ fn stays(range: &Range, place: usize, instruction: Instruction) -> bool
 fn is_own(range: &Range, slot: usize, count: usize) -> bool
     ensures { result ≡ of.is_own range.now (Some (slot + count)) }
 {
+    let bound = range.bound;
     match slot.checked_add(count) {
         None => false,
-        Some(behind) => range.slot < behind && behind < range.bound,
+        Some(behind) => range.slot < behind && behind < bound,
     }
 }
 
