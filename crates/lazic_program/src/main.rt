@@ -6,6 +6,7 @@ ghost use Rattle.std.specs.Prelude.{pos, ◌≤ℤ◌};
 use lazic::run_words;
 use lv_outside::{HostFolder, HostGate, HostSink, Sink};
 use std::alloc::AllocError;
+use std::io::IsTerminal;
 use std::process::ExitCode;
 use std::random::RandomSource;
 use std::rt::{Clock, Env, Files};
