@@ -305,8 +305,21 @@ fn calls_as_copies() {
 }
 
 #[test]
+fn visits_of_loops() {
+    slot_turn_laws::code_turns_as_tree();
+    loop_visit_laws::loops_turn();
+    loop_visit_laws::loop_visits_follow();
+    inline_visit_laws::inlined_spots_follow();
+    source_visit_laws::inlined_visits_follow();
+    source_visit_laws::visits_hold();
+    join_laws::blocks_keep_loops();
+    join_laws::chains_keep_loops();
+}
+
+#[test]
 fn chains_of_edges() {
     edge_chain_laws::chains_keep_errors();
+    edge_chain_laws::chains_keep_visits();
     join_laws::blocks_keep();
     join_laws::chains_keep();
 }
