@@ -1,7 +1,6 @@
 -- What stands for places, in a table that grew, and one behind the other.
-use Rattle.std.proofs.Common.{◌≡◌, ℕ, zero, suc, ◌+◌, ◌-◌, ◌≤◌, Bool, true, false, List, [], ◌++◌, length, refl, sym, subst, Result, Ok, Err}
-use Rattle.std.specs.Prelude.{IfOk, IsTrue, if◌then◌else◌, nat_lt}
-use Rattle.std.proofs.lemmas.Bool.{le-ltb}
+use Rattle.std.proofs.Common.{◌≡◌, ℕ, zero, suc, ◌+◌, ◌-◌, Bool, List, [], ◌++◌, length, refl, sym, subst, Result, Ok, Err}
+use Rattle.std.specs.Prelude.{IfOk, IsTrue}
 use Rattle.std.proofs.lemmas.List.{append-nil}
 use Rattle.lv_base.specs.declared.fail.Memory.{Memory}
 use Rattle.bv_term.specs.declared.term.TermId.{TermId}
@@ -22,7 +21,7 @@ use Rattle.code_moves.specs.Deeds.{AreTests}
 use Rattle.code_moves.proofs.Doing.{tells-later, deeds-later}
 use Rattle.cfg_build.specs.declared.draft.Draft.{Draft}
 use Rattle.cfg_build.specs.Steps.{Built, Fork, Passes, Checked, next_of}
-use Rattle.cfg_build.specs.Follows.{Plan, node_of, Follows, Joined, StandsAt, FirstFollow, Exit, PlacesFollow}
+use Rattle.cfg_build.specs.Follows.{Plan, Follows, Joined, StandsAt, FirstFollow, Exit, PlacesFollow}
 use Rattle.cfg_build.proofs.Adding.{adds-twice, next-more, turned-later}
 use Rattle.cfg_build.proofs.Checking.{fails-later, first_when, second_when, one-tells, two-tells}
 
@@ -169,13 +168,3 @@ pub places-end : (r : Result Bool Memory) (a b : Words) (x y z : Draft) (p : Pla
 places-end (Err w) a b x y z p s k h e g = tt
 places-end (Ok o) a b x y z p s k h e g =
     λ t. (h.0, built-twice x y z (FirstFollow p s b.terms (p.range.end - p.range.entry)) (Exit p) (subst (λ (j : ℕ). Built x y (FirstFollow p s b.terms j)) e h.1) (g t))
-
--- ---- Places behind a function's code
-
-past-if : (b c : Bool) (exit node : NodeId) → c ≡ false → exit ≡ (if b then exit else if c then node else exit)
-past-if true c exit node e = refl
-past-if false true exit node e = absurd cc
-past-if false false exit node e = refl
-
-pub node-past : (p : Plan) (place : ℕ) → p.range.end ≤ place → p.exit ≡ node_of p place
-node-past p place le = past-if (nat_lt place p.range.entry) (nat_lt place p.range.end) p.exit _ (le-ltb place p.range.end le)

@@ -20,7 +20,7 @@ use Rattle.c_terms.proofs.Putting.{grows-twice}
 use Rattle.code_moves.specs.Setting.{Setting, Stands}
 use Rattle.code_moves.proofs.Doing.{deeds-later}
 use Rattle.cfg_build.specs.declared.draft.Draft.{Draft}
-use Rattle.code_tests.specs.declared.ranging.Range.{Range}
+use Rattle.cfg_build.specs.declared.placing.Range.{Range}
 use Rattle.lv_base.specs.declared.kind.Model.{Model}
 use Rattle.c_graph.specs.Shape.{widths_of}
 use Rattle.slot_code.specs.Slots.{slots_in}
@@ -34,8 +34,8 @@ use Rattle.cfg_build.specs.Sizes.{nodes_of}
 use Rattle.cfg_build.specs.Placed.{CanFollow, CanStand}
 use Rattle.cfg_build.specs.Follows.{Plan, plan_of, Joined, Exit, FirstFollow, PlacesFollow}
 use Rattle.slot_code.specs.Programs.{Code, code_of}
-use Rattle.code_tests.specs.Ranges.{AreRanges, ProgramRanges}
-use Rattle.code_tests.specs.Fitting.{AreFit, CallsEnter}
+use Rattle.cfg_build.specs.Ranges.{AreRanges, ProgramRanges}
+use Rattle.cfg_build.specs.Fitting.{AreFit, CallsEnter}
 use Rattle.cfg_build.specs.Graphs.{Opening, AreLoops, IsGraph, GraphFollows, FirstGraphs, ProgramFollows, program_code, program_setting}
 use Rattle.cfg_build.proofs.Adding.{next-more}
 use Rattle.cfg_build.proofs.Counting.{first-count}

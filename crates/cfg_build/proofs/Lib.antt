@@ -1,10 +1,9 @@
 pub mod Adding
 pub mod Checking
 pub mod Counting
+pub mod Entering
 pub mod Following
 pub mod Graphing
+pub mod Linking
 pub mod Numbers
 pub mod Passing
-pub mod Turning
-pub mod BodyLoops
-pub mod Bounds

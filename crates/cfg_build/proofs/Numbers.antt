@@ -1,17 +1,16 @@
 -- The numbers of places, and the functions whose code has them, as they are laid out link by link.
-use Rattle.std.proofs.Common.{◌≡◌, inl, inr, ℕ, zero, suc, ◌+◌, ◌-◌, ◌<◌, ◌≤◌, ◌==◌, Bool, true, false, List, [], ◌∷◌, ◌++◌, length, refl, sym, ap, ◌∙◌, subst, arith, None, Some, slice_get, take, drop, replicate, length-append, append_assoc}
+use Rattle.std.proofs.Common.{◌≡◌, inl, inr, ℕ, zero, suc, ◌+◌, ◌-◌, ◌<◌, ◌≤◌, List, [], ◌∷◌, ◌++◌, length, refl, sym, ap, ◌∙◌, subst, arith, None, Some, slice_get, take, drop, replicate, length-append, append_assoc}
 use Rattle.std.proofs.lemmas.List.{length-replicate, length-take-le, length-drop, take-take, append-nil}
 use Rattle.std.proofs.lemmas.Option.{same_Some, none-some}
 use Rattle.slot_code.specs.declared.flat.Instruction.{Instruction}
 use Rattle.slot_code.specs.Values as c
 use Rattle.slot_values.specs.Linked.{links_of}
 use Rattle.slot_values.specs.declared.scene.Link.{Link}
-use Rattle.code_tests.specs.declared.ranging.Range.{Range}
-use Rattle.code_tests.specs.Ranges.{AreRanges, range_of, entry_or}
-use Rattle.cfg_build.specs.Sizes.{nodes_at, nodes_of, one_if}
-use Rattle.cfg_build.specs.Numbers.{numbers_from, code_between, first_number, last_number, numbers_to, owners_to}
-use Rattle.code_tests.specs.Ranges.{HasLink}
-use Rattle.code_tests.proofs.Linking.{links-more, none-behind, all-taken}
+use Rattle.cfg_build.specs.declared.placing.Range.{Range}
+use Rattle.cfg_build.specs.Ranges.{AreRanges, range_of, entry_or}
+use Rattle.cfg_build.specs.Sizes.{nodes_at, nodes_of}
+use Rattle.cfg_build.specs.Numbers.{numbers_from, code_between, first_number, numbers_to, owners_to, HasLink}
+use Rattle.cfg_build.proofs.Linking.{links-more, none-behind, all-taken}
 
 -- ---- Lists
 
@@ -97,41 +96,6 @@ pub owner-done : (acc whole : List ℕ) (function place end : ℕ) → end ≤ p
 owner-done acc whole function place end le h =
     let n : end - place ≡ 0 = omega (arith, le) in
     sym (append-nil acc) ∙ sym (ap (λ k. acc ++ replicate k function) n) ∙ h
-
--- ---- Numbers that pass no bound
-
--- what stands before a bound that the nodes of what is left reach
-pub number-fits : (n last : ℕ) (x : Instruction) (rest all : List Instruction) → all ≡ x ∷ rest → n + nodes_of all ≡ last → last < 4294967296 → n + nodes_at x < 4294967296
-number-fits n last x rest all e h lt = let s : nodes_of all ≡ nodes_at x + nodes_of rest = ap nodes_of e in omega (arith, s, h, lt)
-
-taken-nodes : (n : ℕ) (xs : List Instruction) → nodes_of (take n xs) ≤ nodes_of xs
-taken-nodes zero xs = omega arith
-taken-nodes (suc n) [] = omega arith
-taken-nodes (suc n) (x ∷ xs) = let h = taken-nodes n xs in omega (arith, h)
-
-dropped-nodes : (n : ℕ) (xs : List Instruction) → nodes_of (drop n xs) ≤ nodes_of xs
-dropped-nodes zero xs = omega arith
-dropped-nodes (suc n) [] = omega arith
-dropped-nodes (suc n) (x ∷ xs) = let h = dropped-nodes n xs in omega (arith, h)
-
-few-if : (b : Bool) → one_if b ≤ 1
-few-if true = omega arith
-few-if false = omega arith
-
-pub first-few : (main function : ℕ) → first_number main function ≤ 1
-first-few main function = few-if (function == main)
-
-pub between-few : (code : List Instruction) (entry end : ℕ) → nodes_of (code_between code entry end) ≤ nodes_of code
-between-few code entry end =
-    let a = taken-nodes (end - entry) (drop entry code) in
-    let b = dropped-nodes entry code in
-    omega (arith, a, b)
-
-pub last-fits : (code : List Instruction) (main function entry end : ℕ) → nodes_of code ≤ 65536 → last_number code (first_number main function) entry end < 4294967296
-last-fits code main function entry end few =
-    let a = between-few code entry end in
-    let b = first-few main function in
-    omega (arith, a, b, few)
 
 -- ---- Loops over links
 

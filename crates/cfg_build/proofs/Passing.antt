@@ -15,13 +15,12 @@ use Rattle.slot_code.specs.declared.flat.Instruction.{Instruction}
 use Rattle.slot_code.specs.declared.flat.Instruction.TheVariants as i
 use Rattle.slot_code.specs.Programs.{Code, code_of}
 use Rattle.slot_code.specs.Slots.{slots_in}
-use Rattle.code_tests.specs.Ranges.{AreRanges, ProgramRanges}
+use Rattle.cfg_build.specs.Ranges.{AreRanges, ProgramRanges}
 use Rattle.code_layout.specs.Layout.{Lay}
-use Rattle.code_tests.specs.declared.ranging.Range.{Range}
+use Rattle.cfg_build.specs.declared.placing.Range.{Range}
 use Rattle.cfg_build.specs.declared.placing.Whole.{Whole}
 use Rattle.cfg_build.specs.Sizes.{nodes_of}
-use Rattle.cfg_build.specs.Numbers.{first_number, numbers_to, owners_to}
-use Rattle.code_tests.specs.Ranges.{HasLink}
+use Rattle.cfg_build.specs.Numbers.{first_number, numbers_to, owners_to, HasLink}
 use Rattle.cfg_build.specs.Placed.{CanCall, AllCanFollow}
 use Rattle.code_moves.specs.Setting.{Setting}
 use Rattle.cfg_build.specs.Passing.{IsCall, IsPassing, FollowingMakesFlows}

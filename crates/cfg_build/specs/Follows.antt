@@ -13,10 +13,10 @@ use Rattle.c_terms.specs.Numbers.{nonzero}
 use Rattle.code_layout.specs.Layout.{slot_cell}
 use Rattle.code_moves.specs.Setting.{Setting}
 use Rattle.code_moves.specs.Values.{slot_value}
-use Rattle.code_tests.specs.declared.ranging.Range.{Range}
+use Rattle.cfg_build.specs.declared.placing.Range.{Range}
 use Rattle.cfg_build.specs.declared.placing.Places.{Places}
 use Rattle.cfg_build.specs.Steps.{node_id, Way, Fork, Checked}
-use Rattle.code_tests.specs.Keeping.{keeps}
+use Rattle.cfg_build.specs.Keeping.{keeps}
 
 -- the code of a program, the number of each place's node, where each function's code stands, the function that is looked at, and the
 -- node behind all its places

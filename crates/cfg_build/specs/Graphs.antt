@@ -1,5 +1,5 @@
 -- The graphs of a program's functions that follow its flat code.
-use Rattle.std.specs.Prelude.{ℕ, zero, suc, ◌+◌, ◌==◌, ◌≡◌, ◌<◌, ◌≤◌, Bool, true, false, List, [], ◌∷◌, ◌++◌, length, Option, None, Some, ℤ, pos, slice_get, All}
+use Rattle.std.specs.Prelude.{ℕ, zero, suc, ◌+◌, ◌==◌, ◌≡◌, ◌<◌, Bool, true, false, List, [], ◌∷◌, ◌++◌, length, Option, None, Some, ℤ, pos, slice_get, All}
 use Rattle.lv_base.specs.Integers.{residue, width_of}
 use Rattle.bv_term.specs.WellFormed.{Table}
 use Rattle.c_typed.specs.declared.tree.Object.{Object}
@@ -13,7 +13,6 @@ use Rattle.c_graph.specs.declared.graph.Edge.{Edge}
 use Rattle.c_graph.specs.declared.graph.LoopAt.{LoopAt}
 use Rattle.c_graph.specs.Functions.{FnFlow, Flows}
 use Rattle.slot_code.specs.declared.flat.Instruction.{Instruction}
-use Rattle.slot_code.specs.declared.flat.Instruction.TheVariants as i
 use Rattle.slot_code.specs.Programs.{code_of}
 use Rattle.slot_code.specs.Slots.{slots_in}
 use Rattle.c_typed.specs.Parts.{Parts, tree_of}
@@ -21,11 +20,11 @@ use Rattle.c_typed.specs.Run.{main_number}
 use Rattle.code_layout.specs.Layout.{elements_of, layout_of}
 use Rattle.code_moves.specs.Setting.{Setting}
 use Rattle.code_moves.specs.Deeds.{Deed, Sets, AreDeeds}
-use Rattle.code_tests.specs.declared.ranging.Range.{Range}
+use Rattle.cfg_build.specs.declared.placing.Range.{Range}
 use Rattle.cfg_build.specs.Steps.{node_id, edge}
 use Rattle.cfg_build.specs.Follows.{Plan, node_of, Joined, PlacesFollow}
-use Rattle.code_tests.specs.Ranges.{ProgramRanges}
-use Rattle.code_tests.specs.Fitting.{AreFit, CallsEnter}
+use Rattle.cfg_build.specs.Ranges.{ProgramRanges}
+use Rattle.cfg_build.specs.Fitting.{AreFit, CallsEnter}
 
 -- ---- The first values of objects
 
@@ -65,23 +64,9 @@ pub record Opening (g : Setting) (table : Table) (n : ℕ) (nodes : List Node) (
 
 -- ---- The graph of a function
 
--- all turns of the code at this offset go to one place
-abbrev pub AllTurnTo : List Instruction → (at goal : ℕ) → Type 0
-AllTurnTo code at goal = (place other : ℕ) → slice_get code place ≡ Some (i.Turn at other) → other ≡ goal
-
--- A loop of a function: at one of its places stands a turn of the loop, all turns of the loop in the whole code go to one place, and the
--- loop's node is that of this place.
-pub record IsLoop (p : Plan) (l : LoopAt) : Type 0 where
-  pub goal : ℕ
-  pub place : ℕ
-  pub not_before : p.range.entry ≤ place
-  pub not_behind : place < p.range.end
-  pub turns : slice_get p.code place ≡ Some (i.Turn l.at goal)
-  pub all : AllTurnTo p.code l.at goal
-  pub node : l.node ≡ node_of p goal
-
+-- each loop's node is that of some place
 abbrev pub AreLoops : Plan → List LoopAt → Type 0
-AreLoops p loops = All (λ l. IsLoop p l) loops
+AreLoops p loops = All (λ l. (place : ℕ) × (l.node ≡ node_of p place)) loops
 
 -- nodes and edges of a form from number 0 on, and loops
 abbrev pub IsGraph : (ℕ → List Node → List Edge → Type 0) → Plan → FnFlow → Type 0

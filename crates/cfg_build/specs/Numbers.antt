@@ -1,5 +1,5 @@
 -- The numbers of nodes in the graphs of functions, and the function whose code has a place.
-use Rattle.std.specs.Prelude.{ℕ, ◌+◌, ◌-◌, ◌==◌, List, [], ◌∷◌, ◌++◌, take, drop, replicate}
+use Rattle.std.specs.Prelude.{ℕ, ◌+◌, ◌-◌, ◌==◌, ◌≡◌, ◌<◌, ◌⊎◌, List, [], ◌∷◌, ◌++◌, take, drop, replicate}
 use Rattle.slot_code.specs.declared.flat.Instruction.{Instruction}
 use Rattle.slot_code.specs.Values.{Link}
 use Rattle.cfg_build.specs.Sizes.{nodes_at, nodes_of, one_if}
@@ -30,3 +30,12 @@ numbers_to code main end (l ∷ ls) = numbers_to code main l.entry ls ++ numbers
 abbrev pub owners_to : (end : ℕ) → List Link → List ℕ
 owners_to end [] = replicate end 0
 owners_to end (l ∷ ls) = owners_to l.entry ls ++ replicate (end - l.entry) l.function
+
+-- one of these links is the function's
+abbrev pub HasLink : List Link → ℕ → Type 0
+HasLink [] function = ⊥
+HasLink (l ∷ ls) function = (l.function ≡ function) ⊎ HasLink ls function
+
+-- each of the first so many functions has a link
+abbrev pub AllLinked : List Link → ℕ → Type 0
+AllLinked links functions = (function : ℕ) → function < functions → HasLink links function

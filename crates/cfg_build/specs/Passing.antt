@@ -9,12 +9,12 @@ use Rattle.slot_code.specs.declared.flat.Instruction.{Instruction}
 use Rattle.slot_code.specs.declared.flat.Instruction.TheVariants as i
 use Rattle.slot_code.specs.Programs.{code_of}
 use Rattle.code_layout.specs.Layout.{Lay, slot_cell}
-use Rattle.code_tests.specs.declared.ranging.Range.{Range}
-use Rattle.code_tests.specs.Keeping.{keeps}
-use Rattle.code_tests.specs.Fitting.{AreFit, CallsEnter}
+use Rattle.cfg_build.specs.declared.placing.Range.{Range}
+use Rattle.cfg_build.specs.Keeping.{keeps}
+use Rattle.cfg_build.specs.Fitting.{AreFit, CallsEnter}
 use Rattle.cfg_build.specs.Follows.{Begins}
-use Rattle.code_tests.specs.Ranges.{ProgramRanges}
-use Rattle.code_tests.specs.Ranges.{AllLinked}
+use Rattle.cfg_build.specs.Ranges.{ProgramRanges}
+use Rattle.cfg_build.specs.Numbers.{AllLinked}
 use Rattle.cfg_build.specs.Graphs.{program_code, program_setting, ProgramFollows}
 use Rattle.cfg_build.specs.Sizes.{IsWithin}
 

@@ -3,11 +3,11 @@ use Rattle.std.specs.Prelude.{ℕ, ◌+◌, ◌-◌, ◌≡◌, ◌<◌, true, N
 use Rattle.slot_code.specs.declared.flat.Instruction.{Instruction}
 use Rattle.slot_code.specs.declared.flat.Instruction.TheVariants as i
 use Rattle.code_layout.specs.Layout.{Lay, slot_cell}
-use Rattle.code_tests.specs.declared.ranging.Range.{Range}
+use Rattle.cfg_build.specs.declared.placing.Range.{Range}
 use Rattle.cfg_build.specs.declared.placing.Whole.{Whole}
 use Rattle.cfg_build.specs.declared.placing.Places.{Places}
 use Rattle.cfg_build.specs.Steps.{node_id}
-use Rattle.code_tests.specs.Keeping.{keeps}
+use Rattle.cfg_build.specs.Keeping.{keeps}
 use Rattle.cfg_build.specs.Follows.{Begins}
 use Rattle.cfg_build.specs.Sizes.{nodes_of}
 use Rattle.cfg_build.specs.Numbers.{first_number, last_number}

@@ -1,36 +1,33 @@
 //! The graphs of functions, place by place.
 
-ghost use Rattle.std.specs.Prelude.{◌≡◌, ◌≤◌, ◌==◌, ◌⊎◌, [], length, true, false, slice_get, IfErr, IfOk, IfSome, IsSome, IsTrue};
+ghost use Rattle.std.specs.Prelude.{◌≡◌, ◌==◌, ◌⊎◌, [], length, true, false, slice_get, IfErr, IfOk, IfSome, IsSome, IsTrue};
 ghost use Rattle.c_graph.specs.Parts.{error_flows};
 ghost use Rattle.c_terms.specs.Shown.{Grows};
 ghost use Rattle.code_moves.specs.Setting.{setting_of, Stands};
-ghost use Rattle.cfg_build.specs.Few.{AreFew, OpensFew};
 ghost use Rattle.cfg_build.specs.Follows.{plan_of};
-ghost use Rattle.c_typed.specs.Parts.{tree_of};
 ghost use Rattle.cfg_build.specs.Graphs as of;
-ghost use Rattle.cfg_build.specs.Loops.{loops_in};
 ghost use Rattle.cfg_build.specs.Numbers.{first_number};
 ghost use Rattle.cfg_build.specs.Passing.{IsPassing, FollowingMakesFlows};
 ghost use Rattle.cfg_build.specs.Placed.{AllCanFollow, CanFollow, places_in};
-ghost use Rattle.cfg_build.specs.Sizes.{IsWithin, TooMuch, nodes_of};
-ghost use Rattle.cfg_build.specs.Turns as turns;
+ghost use Rattle.cfg_build.specs.Sizes.{IsWithin, TooMuch};
 
 use crate::draft::Draft;
-use crate::looping::main_loops;
+use crate::fitting::is_fitting;
+use crate::looping::loops_in;
 use crate::numbering::{exit_of, first_of, numbers_of, owners_of};
 use crate::opening::add_opening;
-use crate::placing::{Places, Whole, add_places};
+use crate::placing::{Places, Range, Whole, add_places, node_of};
+use crate::ranging::{is_placed, main_of, ranges_of};
 use crate::sizes::few_nodes;
-use crate::turns::loops_at;
 use bv_term::Terms;
-use c_graph::{FnGraph, FnGraphs, NodeId, function_graphs_from};
+use c_graph::{FnGraph, FnGraphs, LoopAt, NodeId, function_graphs_from};
 use c_rules::Examined;
 use c_terms::Words;
 use c_typed::Typed;
 use code_layout::{Layout, widths_of};
 use code_moves::Ground;
-use code_tests::{Range, is_fitting, is_placed, main_of, ranges_of};
 use lv_base::{Memory, SourceFail};
+use slot_code::Instruction;
 use slot_compiler::{compiled, slots_in};
 use std::alloc::Global;
 
@@ -111,9 +108,6 @@ fn graphs_of(
     ground: &Ground<'_>,
     words: &mut Words,
 ) -> Result<Graphs, Memory>
-    requires few { nodes_of whole.now.code.now ≤ 65536 }
-    requires numbers { AreFew whole.now.numbers.now }
-    requires opens { OpensFew (setting_of ground.now) }
     ensures made { Stands (setting_of ground.now) words.old → IfOk result (λ r. (r.graphs.items ≡ []) ⊎ (Grows words.old words.new
         × of.FirstGraphs whole.now.code.now whole.now.numbers.now whole.now.ranges.now main (setting_of ground.now) words.new.terms (length whole.now.ranges.now) r.graphs.items r.exits.items)) }
     ensures whole { Stands (setting_of ground.now) words.old → AllCanFollow whole.now ground.now.layout.now main
@@ -124,7 +118,7 @@ fn graphs_of(
         let Some(range) = range_at(whole.ranges, number) else {
             return Ok(Graphs::new(alloc));
         };
-        let places = places_of(whole, range, main);
+        let places = places_of(whole, range, main)?;
         let Some(graph) = graph_of(alloc, typed, &places, main, ground, words)? else {
             return Ok(Graphs::new(alloc));
         };
@@ -148,8 +142,6 @@ fn graph_of(
     ground: &Ground<'_>,
     words: &mut Words,
 ) -> Result<Option<FnGraph>, Memory>
-    requires numbers { AreFew places.now.whole.numbers.now }
-    requires opens { OpensFew (setting_of ground.now) }
     ensures made { Stands (setting_of ground.now) words.old → IfOk result (λ o. IfSome o (λ r. Grows words.old words.new
         × of.GraphFollows (places.now.range.function == main) (plan_of places.now) (setting_of ground.now) words.new.terms r)) }
     ensures whole { Stands (setting_of ground.now) words.old → CanFollow places.now ground.now.layout.now (first_number main places.now.range.function) → IfOk result (λ o. IsSome o) }
@@ -168,7 +160,6 @@ fn own_graph(
     ground: &Ground<'_>,
     words: &mut Words,
 ) -> Result<Option<FnGraph>, Memory>
-    requires numbers { AreFew places.now.whole.numbers.now }
     ensures made { Stands (setting_of ground.now) words.old → IfOk result (λ o. IfSome o (λ r. Grows words.old words.new
         × of.GraphFollows false (plan_of places.now) (setting_of ground.now) words.new.terms r)) }
     ensures whole { Stands (setting_of ground.now) words.old → CanFollow places.now ground.now.layout.now 0 → IfOk result (λ o. IsSome o) }
@@ -188,12 +179,9 @@ fn main_graph(
     ground: &Ground<'_>,
     words: &mut Words,
 ) -> Result<Option<FnGraph>, Memory>
-    requires numbers { AreFew places.now.whole.numbers.now }
-    requires opens { OpensFew (setting_of ground.now) }
     ensures made { Stands (setting_of ground.now) words.old → IfOk result (λ o. IfSome o (λ r. Grows words.old words.new
         × of.GraphFollows true (plan_of places.now) (setting_of ground.now) words.new.terms r)) }
     ensures whole { Stands (setting_of ground.now) words.old → CanFollow places.now ground.now.layout.now 1 → IfOk result (λ o. IsSome o) }
-    ensures listed { IfOk result (λ o. IfSome o (λ r. r.loops ≡ turns.loops_of (plan_of places.now) (loops_in (slice_get (tree_of typed.now).functions main)))) }
 {
     let mut draft = Draft::new(alloc);
     add_opening(alloc, ground, words, &mut draft)?;
@@ -205,16 +193,52 @@ fn main_graph(
     Ok(Some(draft.into_graph(loops)))
 }
 
+// The offsets of the loops in the body of `main`.
+fn main_loops(alloc: Global, typed: &Typed, main: u32) -> Result<Vec<u32>, Memory> {
+    let mut found = Vec::new(alloc);
+    if let Some(function) = typed.functions().get(main as usize) {
+        loops_in(&function.body, &mut found)?;
+    }
+    Ok(found)
+}
+
 // The places of a function, with the node behind them.
-fn places_of<'a>(whole: &Whole<'a>, range: Range, main: u32) -> Places<'a>
-    requires few { nodes_of whole.now.code.now ≤ 65536 }
-    ensures { result ≡ places_in whole.now main range }
+fn places_of<'a>(whole: &Whole<'a>, range: Range, main: u32) -> Result<Places<'a>, Memory>
+    ensures { IfOk result (λ p. p ≡ places_in whole.now main range) }
 {
     let first = first_of(main, range.function);
-    let exit = exit_of(whole.code, first, range.entry, range.end);
-    Places {
+    let exit = exit_of(whole.code, first, range.entry, range.end)?;
+    Ok(Places {
         whole: *whole,
         range,
         exit,
+    })
+}
+
+// The place to which the turn at a place goes, if there is one, and it is of the loop at this offset.
+fn turn_at(places: &Places<'_>, place: usize, offset: u32) -> Option<usize> {
+    match places.whole.code.get(place).copied() {
+        Some(Instruction::Turn(at, goal)) => { if at == offset { Some(goal) } else { None } }
+        _ => None,
     }
+}
+
+// The node at which each visit of each loop stands: the one to which the turns of its keyword go.
+fn loops_at(alloc: Global, places: &Places<'_>, loops: &[u32]) -> Result<Vec<LoopAt>, Memory>
+    ensures { IfOk result (λ r. of.AreLoops (plan_of places.now) r.items) }
+{
+    let mut found = Vec::new(alloc);
+    let mut number = 0;
+    for place in places.range.entry..places.range.end {
+        if number >= loops.len() {
+            return Ok(found);
+        }
+        let at = loops[number];
+        if let Some(goal) = turn_at(places, place, at) {
+            let node = node_of(places, goal);
+            found.push(LoopAt { at, node })?;
+            number += 1;
+        }
+    }
+    Ok(found)
 }

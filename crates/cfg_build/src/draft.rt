@@ -1,6 +1,6 @@
 //! The graph of one function while it is made: nodes in the order of their numbers, and the edges from each as soon as it stands.
 
-ghost use Rattle.std.specs.Prelude.{◌≡◌, ◌<◌, ◌∷◌, [], IfOk};
+ghost use Rattle.std.specs.Prelude.{◌≡◌, ◌∷◌, [], IfOk};
 ghost use Rattle.c_graph.specs.declared.graph.Node.TheVariants as Node;
 ghost use Rattle.cfg_build.specs.Steps.{Adds, IsEmpty, edge, node_id, next_of};
 
@@ -39,26 +39,20 @@ impl Draft {
     }
 
     /// The number of the next node.
-    pub(crate) fn next(&self) -> NodeId
-        requires room { next_of self.now < 4294967296 }
-        ensures { result ≡ node_id (next_of self.now) }
+    pub(crate) fn next(&self) -> Result<NodeId, Memory>
+        ensures { IfOk result (λ n. n ≡ node_id (next_of self.now)) }
     {
-        NodeId(self.nodes.len() as u32)
-    }
-
-    /// How many nodes there are.
-    pub(crate) fn count(&self) -> usize
-        ensures { result ≡ next_of self.now }
-    {
-        self.nodes.len()
+        match u32::try_from(self.nodes.len()) {
+            Err(_) => Err(Memory),
+            Ok(number) => Ok(NodeId(number)),
+        }
     }
 
     pub(crate) fn node(&mut self, node: Node) -> Result<NodeId, Memory>
-        requires room { next_of self.old < 4294967296 }
         ensures number { IfOk result (λ n. n ≡ node_id (next_of self.old)) }
         ensures adds { IfOk result (λ n. Adds self.old self.new (node ∷ []) []) }
     {
-        let number = self.next();
+        let number = self.next()?;
         self.nodes.push(node)?;
         Ok(number)
     }
@@ -111,7 +105,6 @@ impl Draft {
         kind: ErrorKind,
         at: u32,
     ) -> Result<(), Memory>
-        requires room { next_of self.old < 4294967296 }
         ensures { IfOk result (λ u. Adds self.old self.new (Node.Error kind at ∷ []) (edge from (node_id (next_of self.old)) (first ∷ []) ∷ [])) }
     {
         let error = self.node(Node::Error(kind, at))?;

@@ -19,22 +19,24 @@
 //! go: there the store of each visit stands.
 //!
 //! **Contracts.** `specs/Steps` and `specs/Follows` say what stands for each instruction at its place, by the meaning of terms in every
-//! store, and `specs/Graphs` what the graph of each function is. Where the code of each function stands, that constants, kinds and
-//! numbers of elements fit their objects and that each call goes to the entry of a function is tried by `code_tests`. So the graphs of all functions follow the code, each from its function's entry on, and `main`'s is that of the
+//! store, and `specs/Graphs` what the graph of each function is. `specs/Ranges` says where the code of each function stands, and
+//! `specs/Fitting` that constants, kinds and numbers of elements fit their objects and that each call goes to the entry of a function;
+//! both are tested. So the graphs of all functions follow the code, each from its function's entry on, and `main`'s is that of the
 //! program's `main`; or there are none. `specs/Passing` says of which code graphs are made: there the tests pass and each place has its
-//! number; that the parts make graphs then is a law of function_graph_laws. Of the loops of `main` the graph lists those whose turns all
-//! go to one place, each with the node of that place (`specs/Turns`); that none is left out is not said.
+//! number; that the parts make graphs then is a law of function_graph_laws. Not said is which loops of `main` the graph lists.
 //! `specs/Sizes` says how many cells and nodes are too many: a limit is told only of a program that passes it.
 #![tactic(auto)]
 
 mod building;
 mod draft;
+mod fitting;
+mod keeping;
 mod looping;
 mod numbering;
 mod opening;
 mod placing;
+mod ranging;
 mod sizes;
 mod steps;
-mod turns;
 
 pub use building::build;

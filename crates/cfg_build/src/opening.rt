@@ -1,15 +1,13 @@
 //! The node at which `main` begins.
 
-ghost use Rattle.std.specs.Prelude.{◌≡◌, ◌<◌, ◌++◌, List, IfOk, Some, slice_get, slice_index, length};
+ghost use Rattle.std.specs.Prelude.{◌≡◌, ◌+◌, ◌++◌, List, IfOk, Some, slice_get, slice_index, length};
 ghost use Rattle.bv_term.specs.WellFormed.{IsArray};
 ghost use Rattle.lv_base.specs.Integers.{width_of};
 ghost use Rattle.c_terms.specs.Shown.{Grows};
 ghost use Rattle.code_layout.specs.Layout as lay;
 ghost use Rattle.code_moves.specs.Setting.{setting_of, Stands};
 ghost use Rattle.code_moves.specs.Deeds.{Deed, AreDeeds, Does};
-ghost use Rattle.c_typed.specs.declared.tree.Object as t;
-ghost use Rattle.cfg_build.specs.Few.{HasFewCells, OpensFew};
-ghost use Rattle.cfg_build.specs.Steps.{Built, next_of};
+ghost use Rattle.cfg_build.specs.Steps.{Built};
 ghost use Rattle.cfg_build.specs.Graphs as of;
 
 use crate::draft::Draft;
@@ -28,20 +26,17 @@ pub(crate) fn add_opening(
     words: &mut Words,
     draft: &mut Draft,
 ) -> Result<(), Memory>
-    requires room { next_of draft.old < 65536 }
-    requires few { OpensFew (setting_of ground.now) }
     ensures { Stands (setting_of ground.now) words.old → IfOk result (λ u. Grows words.old words.new × Built draft.old draft.new (of.Opening (setting_of ground.now) words.new.terms)) }
 {
     let from = draft.node(Node::Plain)?;
     let ops = opening(alloc, ground, words)?;
-    let to = draft.next();
+    let to = draft.next()?;
     draft.edge(from, to, ops)?;
     Ok(())
 }
 
 // Operations that give each element its first value.
 fn opening(alloc: Global, ground: &Ground<'_>, words: &mut Words) -> Result<Vec<Operation>, Memory>
-    requires few { OpensFew (setting_of ground.now) }
     ensures { Stands (setting_of ground.now) words.old → IfOk result (λ r. Does words.old words.new r.items (of.opens (setting_of ground.now) (length ground.now.objects.now))) }
 {
     let mut ops = Vec::new(alloc);
@@ -57,12 +52,13 @@ fn open_object(
     words: &mut Words,
     ops: &mut Vec<Operation>,
 ) -> Result<(), Memory>
-    requires there { number < length ground.now.objects.now }
-    requires few { OpensFew (setting_of ground.now) }
     ensures { (deeds : List Deed) → Stands (setting_of ground.now) words.old → AreDeeds words.old.terms ops.old.items deeds
         → IfOk result (λ u. Does words.old words.new ops.new.items (deeds ++ of.object_opens (setting_of ground.now) (slice_get ground.now.layout.now.firsts number) (slice_get ground.now.objects.now number))) }
 {
-    match ground.layout.first(number as u32) {
+    let Ok(index) = u32::try_from(number) else {
+        return Err(Memory);
+    };
+    match ground.layout.first(index) {
         None => Ok(()),
         Some(first) => open_at(first, number, ground, words, ops),
     }
@@ -76,7 +72,6 @@ fn open_at(
     words: &mut Words,
     ops: &mut Vec<Operation>,
 ) -> Result<(), Memory>
-    requires few { (o : t.Object) → slice_get ground.now.objects.now number ≡ Some o → HasFewCells first o }
     ensures { (deeds : List Deed) → Stands (setting_of ground.now) words.old → slice_get ground.now.layout.now.firsts number ≡ Some first → AreDeeds words.old.terms ops.old.items deeds
         → IfOk result (λ u. Does words.old words.new ops.new.items (deeds ++ of.object_opens (setting_of ground.now) (Some first) (slice_get ground.now.objects.now number))) }
 {
@@ -94,7 +89,6 @@ fn open_elements(
     words: &mut Words,
     ops: &mut Vec<Operation>,
 ) -> Result<(), Memory>
-    requires few { HasFewCells first object.now }
     ensures { (deeds : List Deed) → IsArray words.old.terms.cells first (lay.elements_of object.now) → slice_index words.old.terms.cells first ≡ width_of object.now.kind model
         → AreDeeds words.old.terms ops.old.items deeds
         → IfOk result (λ u. Does words.old words.new ops.new.items (deeds ++ of.first_sets first (width_of object.now.kind model) object.now (lay.elements_of object.now))) }
@@ -104,9 +98,19 @@ fn open_elements(
     for element in 0..count {
         let number = first_value(object, element);
         let value = words.constant_of(bits, number)?;
-        ops.push(Operation::Set(first + element, value))?;
+        let cell = cell_behind(first, element)?;
+        ops.push(Operation::Set(cell, value))?;
     }
     Ok(())
+}
+
+fn cell_behind(first: u32, element: u32) -> Result<u32, Memory>
+    ensures { IfOk result (λ n. n ≡ first + element) }
+{
+    match first.checked_add(element) {
+        None => Err(Memory),
+        Some(cell) => Ok(cell),
+    }
 }
 
 // The value that an element of an object has before `main`.

@@ -1,24 +1,35 @@
 //! The nodes and edges of a function's places.
 
-ghost use Rattle.std.specs.Prelude.{◌≡◌, ◌↔◌, ◌+◌, ◌<◌, ℕ, IfOk, IfSome, IsTrue, Some, slice_get};
+ghost use Rattle.std.specs.Prelude.{◌≡◌, ◌↔◌, ℕ, IfOk, IfSome, IsTrue, Some, slice_get};
 ghost use Rattle.c_terms.specs.Shown.{Grows};
 ghost use Rattle.code_moves.specs.Setting.{setting_of, Stands};
 ghost use Rattle.slot_code.specs.declared.flat.Instruction.{Instruction};
 ghost use Rattle.cfg_build.specs.Steps.{Built, next_of, node_id};
 ghost use Rattle.cfg_build.specs.Placed.{CanCall, CanFollow, CanStand, IsCalled};
-ghost use Rattle.cfg_build.specs.Few.{AreFew};
 ghost use Rattle.cfg_build.specs.Follows as of;
 ghost use Rattle.cfg_build.specs.Follows.{plan_of, Begins, LiesBelow, Exit, Follows, PlacesFollow, StandsAt};
 
 use crate::draft::Draft;
+use crate::keeping::keeps;
 use crate::steps::{add_moves, add_skip_equal, add_skip_zero, add_way};
 use c_graph::{Node, NodeId};
 use c_terms::Words;
+use code_layout::behind;
 use code_moves::Ground;
-use code_tests::{Range, keeps};
 use lv_base::Memory;
 use slot_code::Instruction;
 use std::alloc::Global;
+
+/// The code of one function, the places from its first on up to its end, and its slots.
+#[derive(Clone, Copy)]
+pub(crate) struct Range {
+    pub(crate) function: u32,
+    pub(crate) entry: usize,
+    pub(crate) end: usize,
+    /// The slot that holds the place to return to; its other slots stand behind it, below a bound.
+    pub(crate) slot: usize,
+    pub(crate) bound: usize,
+}
 
 /// The code of a whole program, and where everything in it stands.
 #[derive(Clone, Copy)]
@@ -52,26 +63,6 @@ pub(crate) fn node_of(places: &Places<'_>, place: usize) -> NodeId
     match places.whole.numbers.get(place) {
         None => places.exit,
         Some(number) => NodeId(*number),
-    }
-}
-
-// The node of the place behind another. One that no number names is none of this function's.
-fn node_behind(places: &Places<'_>, place: usize) -> NodeId
-    ensures { result ≡ of.node_of (plan_of places.now) (place + 1) }
-{
-    match place.checked_add(1) {
-        None => places.exit,
-        Some(behind) => node_of(places, behind),
-    }
-}
-
-// The node of the place behind another, and so many left out.
-fn node_beyond(places: &Places<'_>, place: usize, skip: u32) -> NodeId
-    ensures { result ≡ of.node_of (plan_of places.now) (place + 1 + skip) }
-{
-    match place.checked_add(1 + skip as usize) {
-        None => places.exit,
-        Some(beyond) => node_of(places, beyond),
     }
 }
 
@@ -123,7 +114,6 @@ fn add_call(
     ground: &Ground<'_>,
     draft: &mut Draft,
 ) -> Result<bool, Memory>
-    requires room { next_of draft.old < 4294967296 }
     ensures built { IfOk result (λ b. IsTrue b → Built draft.old draft.new (of.Calls (plan_of places.now) (setting_of ground.now) goal slot next)) }
     ensures whole { IsCalled places.now.whole ground.now.layout.now places.now.range goal slot → IfOk result (λ b. IsTrue b) }
 {
@@ -139,7 +129,6 @@ fn add_call(
 
 // The node of a place at which a run ends.
 fn add_last(node: Node, draft: &mut Draft) -> Result<bool, Memory>
-    requires room { next_of draft.old < 4294967296 }
     ensures built { IfOk result (λ b. Built draft.old draft.new (of.Last node)) }
     ensures whole { IfOk result (λ b. IsTrue b) }
 {
@@ -157,12 +146,12 @@ fn add_place(
     words: &mut Words,
     draft: &mut Draft,
 ) -> Result<bool, Memory>
-    requires room { next_of draft.old < 4294967293 }
     ensures built { Stands (setting_of ground.now) words.old
         → IfOk result (λ b. IsTrue b → Grows words.old words.new × Built draft.old draft.new (Follows (plan_of places.now) (setting_of ground.now) words.new.terms place instruction)) }
     ensures whole { CanCall places.now.whole ground.now.layout.now places.now.range instruction → IfOk result (λ b. IsTrue b) }
 {
-    let next = node_behind(places, place);
+    let following = behind(place, 1)?;
+    let next = node_of(places, following);
     match instruction {
         Instruction::Fail(kind, at) => add_last(Node::Error(kind, at), draft),
         Instruction::Stop => add_last(Node::End, draft),
@@ -172,7 +161,7 @@ fn add_place(
             Ok(true)
         }
         Instruction::Jump(skip) => {
-            add_way(draft, node_beyond(places, place, skip))?;
+            add_way(draft, node_of(places, behind(following, skip as usize)?))?;
             Ok(true)
         }
         Instruction::Turn(_, goal) => {
@@ -180,12 +169,12 @@ fn add_place(
             Ok(true)
         }
         Instruction::SkipZero(slot, skip) => {
-            let to = node_beyond(places, place, skip);
+            let to = node_of(places, behind(following, skip as usize)?);
             add_skip_zero(slot, next, to, ground, words, draft)?;
             Ok(true)
         }
         Instruction::SkipEqual(slot, value, skip) => {
-            let to = node_beyond(places, place, skip);
+            let to = node_of(places, behind(following, skip as usize)?);
             add_skip_equal(slot, value, next, to, ground, words, draft)?;
             Ok(true)
         }
@@ -196,12 +185,12 @@ fn add_place(
     }
 }
 
-fn is_number_of(places: &Places<'_>, place: usize, node: usize) -> bool
-    ensures { IsTrue result ↔ (slice_get places.now.whole.numbers.now place ≡ Some node) }
+fn is_number_of(places: &Places<'_>, place: usize, node: NodeId) -> bool
+    ensures { IsTrue result ↔ (slice_get places.now.whole.numbers.now place ≡ Some node.0) }
 {
     match places.whole.numbers.get(place) {
         None => false,
-        Some(number) => *number as usize == node,
+        Some(number) => *number == node.0,
     }
 }
 
@@ -214,7 +203,6 @@ fn add_next(
     words: &mut Words,
     draft: &mut Draft,
 ) -> Result<bool, Memory>
-    requires few { AreFew places.now.whole.numbers.now }
     ensures built { Stands (setting_of ground.now) words.old
         → IfOk result (λ b. IsTrue b → Grows words.old words.new × Built draft.old draft.new (StandsAt (plan_of places.now) (setting_of ground.now) words.new.terms place)) }
     ensures whole { (x : Instruction) → CanStand places.now ground.now.layout.now place (next_of draft.old) x → IfOk result (λ b. IsTrue b) }
@@ -222,10 +210,11 @@ fn add_next(
     let Some(instruction) = places.whole.code.get(place).copied() else {
         return Ok(false);
     };
-    if !is_number_of(places, place, draft.count()) {
+    let number = draft.next()?;
+    if !is_number_of(places, place, number) {
         return Ok(false);
     }
-    if !keeps(&places.range, place, instruction) {
+    if !keeps(&places.range, place, instruction)? {
         return Ok(false);
     }
     add_place(alloc, places, place, instruction, ground, words, draft)
@@ -236,7 +225,8 @@ fn add_exit(places: &Places<'_>, draft: &mut Draft) -> Result<bool, Memory>
     ensures built { IfOk result (λ b. IsTrue b → Built draft.old draft.new (Exit (plan_of places.now))) }
     ensures whole { places.now.exit ≡ node_id (next_of draft.old) → IfOk result (λ b. IsTrue b) }
 {
-    if draft.count() != places.exit.0 as usize {
+    let number = draft.next()?;
+    if number.0 != places.exit.0 {
         return Ok(false);
     }
     draft.node(Node::End)?;
@@ -253,14 +243,13 @@ pub(crate) fn add_places(
     words: &mut Words,
     draft: &mut Draft,
 ) -> Result<bool, Memory>
-    requires few { AreFew places.now.whole.numbers.now }
     ensures built { Stands (setting_of ground.now) words.old
         → IfOk result (λ b. IsTrue b → Grows words.old words.new × Built draft.old draft.new (PlacesFollow (plan_of places.now) (setting_of ground.now) words.new.terms)) }
     ensures whole { Stands (setting_of ground.now) words.old → CanFollow places.now ground.now.layout.now (next_of draft.old) → IfOk result (λ b. IsTrue b) }
 {
     let count = places.range.end.saturating_sub(places.range.entry);
     for number in 0..count {
-        let place = places.range.entry + number;
+        let place = behind(places.range.entry, number)?;
         if !add_next(alloc, places, place, ground, words, draft)? {
             return Ok(false);
         }

@@ -4,9 +4,9 @@ ghost use Rattle.std.specs.Prelude.{◌≡◌, ◌≤◌, length, min, MatchResu
 ghost use Rattle.code_layout.specs.Limits.{IsOver};
 ghost use Rattle.cfg_build.specs.Sizes as s;
 
+use crate::fitting::is_promoted;
 use c_terms::{is_signed, tests_of};
 use code_moves::operation_of;
-use code_tests::is_promoted;
 use lv_base::SourceFail;
 use slot_code::Instruction;
 

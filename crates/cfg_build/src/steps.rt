@@ -1,6 +1,6 @@
 //! The nodes and edges of one instruction.
 
-ghost use Rattle.std.specs.Prelude.{◌≡◌, ◌==◌, ◌<◌, ◌∷◌, [], List, ℕ, IfOk};
+ghost use Rattle.std.specs.Prelude.{◌≡◌, ◌==◌, ◌∷◌, [], List, ℕ, IfOk};
 ghost use Rattle.c_graph.specs.declared.graph.Node.TheVariants as Node;
 ghost use Rattle.lv_base.specs.Integers.{residue};
 ghost use Rattle.bv_term.specs.Numbers.{truth};
@@ -48,7 +48,6 @@ fn offset_of(instruction: Instruction) -> u32
 
 /// A node from which one edge leads on.
 pub(crate) fn add_way(draft: &mut Draft, to: NodeId) -> Result<(), Memory>
-    requires room { next_of draft.old < 4294967296 }
     ensures { IfOk result (λ u. Built draft.old draft.new (Way to)) }
 {
     let from = draft.node(Node::Plain)?;
@@ -64,7 +63,6 @@ fn add_branch(
     to: NodeId,
     other: NodeId,
 ) -> Result<(), Memory>
-    requires room { next_of draft.old < 4294967296 }
     ensures { (f : List ℕ → ℕ) → Tells words.old.terms test 1 f
         → IfOk result (λ u. Grows words.old words.new × Built draft.old draft.new (Fork words.new.terms f to other)) }
 {
@@ -84,7 +82,6 @@ pub(crate) fn add_skip_zero(
     words: &mut Words,
     draft: &mut Draft,
 ) -> Result<(), Memory>
-    requires room { next_of draft.old < 4294967296 }
     ensures { Stands (setting_of ground.now) words.old
         → IfOk result (λ u. Grows words.old words.new × Built draft.old draft.new (Fork words.new.terms (λ store. nonzero (slot_value (setting_of ground.now) store slot)) next to)) }
 {
@@ -104,7 +101,6 @@ pub(crate) fn add_skip_equal(
     words: &mut Words,
     draft: &mut Draft,
 ) -> Result<(), Memory>
-    requires room { next_of draft.old < 4294967296 }
     ensures { Stands (setting_of ground.now) words.old
         → IfOk result (λ u. Grows words.old words.new × Built draft.old draft.new (Fork words.new.terms (λ store. truth (slot_value (setting_of ground.now) store slot == residue 64 value)) to next)) }
 {
@@ -122,7 +118,6 @@ fn add_check(
     fails: Fails,
     at: u32,
 ) -> Result<TermId, Memory>
-    requires room { next_of draft.old < 4294967296 }
     ensures passes { (f : List ℕ → ℕ) → Tells words.old.terms fails.when 1 f
         → IfOk result (λ t. Grows words.old words.new × IsTurned words.new.terms t fails.when) }
     ensures adds { IfOk result (λ t. Adds draft.old draft.new (Node.Error fails.kind at ∷ []) (edge from (node_id (next_of draft.old)) (Operation.Assume fails.when ∷ []) ∷ [])) }
@@ -164,7 +159,6 @@ fn checked_once(
     words: &mut Words,
     draft: &mut Draft,
 ) -> Result<(), Memory>
-    requires room { next_of draft.old < 4294967295 }
     ensures { (f : List ℕ → ℕ) → Stands (setting_of ground.now) words.old → Tells words.old.terms fails.when 1 f
         → IfOk result (λ u. Grows words.old words.new × Built draft.old draft.new (Behind (setting_of ground.now) words.new.terms instruction next (Tests.One fails))) }
 {
@@ -187,7 +181,6 @@ fn checked_twice(
     words: &mut Words,
     draft: &mut Draft,
 ) -> Result<(), Memory>
-    requires room { next_of draft.old < 4294967293 }
     ensures { (f h : List ℕ → ℕ) → Stands (setting_of ground.now) words.old → Tells words.old.terms first.when 1 f → Tells words.old.terms second.when 1 h
         → IfOk result (λ u. Grows words.old words.new × Built draft.old draft.new (Behind (setting_of ground.now) words.new.terms instruction next (Tests.Two first second))) }
 {
@@ -212,7 +205,6 @@ pub(crate) fn add_moves(
     words: &mut Words,
     draft: &mut Draft,
 ) -> Result<(), Memory>
-    requires room { next_of draft.old < 4294967293 }
     ensures { Stands (setting_of ground.now) words.old
         → IfOk result (λ u. Grows words.old words.new × Built draft.old draft.new (Checked (setting_of ground.now) words.new.terms instruction next)) }
 {

@@ -18,7 +18,7 @@ use Rattle.slot_laws.specs.Laws.{Falls}
 use Rattle.slot_laws.proofs.Running.{ranks_fall}
 use Rattle.code_moves.specs.Setting.{Setting}
 use Rattle.cfg_build.specs.Steps.{node_id, edge, Way}
-use Rattle.code_tests.specs.Keeping.{is_inside}
+use Rattle.cfg_build.specs.Keeping.{is_inside}
 use Rattle.cfg_build.specs.Follows.{Calls, node_of}
 use Rattle.function_runs.specs.Runs.{Along, Move, Return, Spot, spot, node_in, MovesBy, RunsBy}
 use Rattle.code_move_laws.specs.Steps.{IsPlain}

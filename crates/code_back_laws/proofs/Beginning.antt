@@ -25,8 +25,8 @@ use Rattle.code_move_laws.specs.Ways.{objects_of}
 use Rattle.code_move_laws.proofs.Laying.{laid}
 use Rattle.code_move_laws.proofs.Operating.{deeds-are-done}
 use Rattle.cfg_build.specs.Steps.{node_id, edge}
-use Rattle.code_tests.specs.Ranges.{AreRanges}
-use Rattle.code_tests.specs.Fitting.{IsEntry}
+use Rattle.cfg_build.specs.Ranges.{AreRanges}
+use Rattle.cfg_build.specs.Fitting.{IsEntry}
 use Rattle.cfg_build.specs.Graphs.{GraphFollows, ProgramFollows, opens, program_code, program_setting}
 use Rattle.function_runs.specs.Runs.{Along, spot, MovesBy}
 use Rattle.code_flow_laws.specs.Followed.{IsOpened, links_in}

@@ -5,7 +5,7 @@ use Rattle.std.proofs.lemmas.Option.{same_Some}
 use Rattle.slot_code.specs.declared.flat.Instruction.{Instruction}
 use Rattle.slot_code.specs.declared.flat.Instruction.TheVariants as i
 use Rattle.slot_code.specs.Values.{Link, link_of}
-use Rattle.code_tests.specs.Ranges.{range_of, AreRanges}
+use Rattle.cfg_build.specs.Ranges.{range_of, AreRanges}
 use Rattle.cfg_build.specs.Follows.{Begins}
 use Rattle.code_fit_laws.specs.Ranges.{Range, IsRangeIn, IsAt, function_at}
 use Rattle.code_fit_laws.proofs.Calling.{Among, Called}

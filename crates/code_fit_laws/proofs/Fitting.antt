@@ -19,7 +19,7 @@ use Rattle.slot_code.specs.Slots.{slots_in}
 use Rattle.slot_code.specs.Values.{Link, link_of, number_of, parameters_of, bind_code, call_code, is_needed, kept_code, value_code, values_code, drops_code, goal_code, effect_code, test_code}
 use Rattle.slot_code.specs.Statements.{Mark, Name, aLabel, aCase, aDefault, cases_code, loop_code, return_code, return_value, marks_of, step_code, steps_code}
 use Rattle.slot_code.specs.Programs.{Code, body_end, label_place, function_code, with_function, code_behind, code_of}
-use Rattle.code_tests.specs.Fitting.{IsFit, AreFit}
+use Rattle.cfg_build.specs.Fitting.{IsFit, AreFit}
 
 zero_any : InAny (pos 0)
 zero_any = (omega (arith, ints), omega (arith, ints))

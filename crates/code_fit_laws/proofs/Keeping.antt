@@ -11,7 +11,7 @@ use Rattle.slot_code.specs.declared.flat.Instruction.{Instruction}
 use Rattle.slot_code.specs.declared.flat.Instruction.TheVariants as i
 use Rattle.slot_code.specs.Values.{Link, link_of, number_of, count_of, parameters_of, bind_code, call_code, is_needed, value_code, values_code, drops_code, goal_code, effect_code, test_code}
 use Rattle.slot_code.specs.Statements.{Mark, Name, aLabel, aCase, aDefault, or_place, default_in, cases_code, loop_code, jump_from, return_code}
-use Rattle.code_tests.specs.Keeping.{is_inside}
+use Rattle.cfg_build.specs.Keeping.{is_inside}
 use Rattle.code_fit_laws.specs.Ranges.{Range}
 use Rattle.code_fit_laws.proofs.Marking.{Within, UpTo, default_within}
 use Rattle.code_fit_laws.proofs.Staying.{K, Stay, Good, there, joined, inside, jump_stays, skip_stays, constant_stays, nothing, one, more, both, three, both_stays, either_stays, choice_stays, loop_stays}

@@ -12,9 +12,9 @@ use Rattle.slot_code.specs.declared.flat.Instruction.{Instruction}
 use Rattle.slot_code.specs.Slots.{slots_in}
 use Rattle.slot_code.specs.Values.{Link}
 use Rattle.slot_code.specs.Programs.{Code, with_function, code_behind, code_of}
-use Rattle.code_tests.specs.Ranges.{range_of, AreRanges}
+use Rattle.cfg_build.specs.Ranges.{range_of, AreRanges}
 use Rattle.code_fit_laws.specs.Ranges.{Range, IsRangeIn, no_ranges, with_ranges}
-use Rattle.code_tests.specs.Ranges.{HasLink, AllLinked}
+use Rattle.cfg_build.specs.Numbers.{HasLink, AllLinked}
 use Rattle.code_fit_laws.proofs.Standing.{AllStand}
 
 -- ---- Numbers of functions

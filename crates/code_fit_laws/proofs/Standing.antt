@@ -10,8 +10,8 @@ use Rattle.slot_code.specs.Slots.{slots_of, slots_in}
 use Rattle.slot_code.specs.Values.{Link}
 use Rattle.slot_code.specs.Statements.{steps_code}
 use Rattle.slot_code.specs.Programs.{Code, body_end, label_place, function_code, with_function, code_behind, code_of}
-use Rattle.code_tests.specs.Keeping.{stays, filled_by, is_own, keeps}
-use Rattle.code_tests.specs.Ranges.{range_of}
+use Rattle.cfg_build.specs.Keeping.{stays, filled_by, is_own, keeps}
+use Rattle.cfg_build.specs.Ranges.{range_of}
 use Rattle.code_fit_laws.specs.Ranges.{Range, IsRangeIn, IsAt}
 use Rattle.code_fit_laws.proofs.Calling.{Calls, calls_at, function_calls}
 use Rattle.code_fit_laws.proofs.Staying.{Over, K, stay_at}

@@ -8,7 +8,7 @@ use Rattle.slot_code.specs.declared.flat.Instruction.{Instruction}
 use Rattle.slot_code.specs.declared.flat.Instruction.TheVariants as i
 use Rattle.slot_code.specs.Values.{both_code, either_code, kept_code, choice_code}
 use Rattle.slot_code.specs.Statements.{jump_from, loop_code}
-use Rattle.code_tests.specs.Keeping.{is_inside, stays, filled_by}
+use Rattle.cfg_build.specs.Keeping.{is_inside, stays, filled_by}
 use Rattle.code_fit_laws.specs.Ranges.{Range}
 
 -- the slot stands behind this one

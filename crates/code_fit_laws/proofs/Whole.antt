@@ -8,7 +8,7 @@ use Rattle.code_layout.specs.Layout.{slot_cell}
 use Rattle.cfg_build.specs.Graphs.{program_code, program_setting}
 use Rattle.code_back_laws.proofs.Unread.{returns-are-unread}
 use Rattle.code_fit_laws.specs.Ranges.{Range, links_of, IsRangeOf, IsAt, program_ranges, function_at}
-use Rattle.code_tests.specs.Ranges.{ProgramRanges}
+use Rattle.cfg_build.specs.Ranges.{ProgramRanges}
 use Rattle.slot_code.specs.declared.flat.Instruction.TheVariants as i
 use Rattle.code_fit_laws.specs.Fit.{CodeIsFit, CallsAreEntries, CodeKeeps, CallsBegin, RangesAreThere, RangesAreOf, TypedCodePasses}
 use Rattle.code_fit_laws.proofs.Fitting.{code_fits}

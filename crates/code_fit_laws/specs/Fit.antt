@@ -7,13 +7,13 @@ use Rattle.call_order.specs.Order.{IsOrder, callees}
 use Rattle.slot_code.specs.declared.flat.Instruction.{Instruction}
 use Rattle.slot_code.specs.declared.flat.Instruction.TheVariants as i
 use Rattle.code_layout.specs.Layout.{slot_cell}
-use Rattle.code_tests.specs.Fitting.{AreFit, CallsEnter}
-use Rattle.code_tests.specs.Keeping.{keeps}
+use Rattle.cfg_build.specs.Fitting.{AreFit, CallsEnter}
+use Rattle.cfg_build.specs.Keeping.{keeps}
 use Rattle.cfg_build.specs.Follows.{Begins}
-use Rattle.code_tests.specs.Ranges.{ProgramRanges}
+use Rattle.cfg_build.specs.Ranges.{ProgramRanges}
 use Rattle.cfg_build.specs.Graphs.{program_code, program_setting}
 use Rattle.code_fit_laws.specs.Ranges.{Range, links_of, IsRangeOf, IsAt, program_ranges, function_at}
-use Rattle.code_tests.specs.Ranges.{AllLinked}
+use Rattle.cfg_build.specs.Numbers.{AllLinked}
 use Rattle.cfg_build.specs.Passing.{IsPassing}
 
 -- ---- The laws

@@ -5,7 +5,7 @@ use Rattle.slot_code.specs.declared.flat.Instruction.{Instruction}
 use Rattle.slot_code.specs.Slots.{slots_in}
 use Rattle.slot_code.specs.Programs.{code_of}
 use Rattle.slot_code.specs.Values.{Link}
-use Rattle.code_tests.specs.Ranges.{range_of}
+use Rattle.cfg_build.specs.Ranges.{range_of}
 use Rattle.cfg_build.specs.Graphs.{program_code}
 
 -- a function without a place

@@ -15,7 +15,7 @@ use Rattle.code_moves.specs.Setting.{Setting}
 use Rattle.code_move_laws.specs.Mirrors.{Mirrors}
 use Rattle.code_move_laws.proofs.Stores.{unread-put}
 use Rattle.code_flow_laws.proofs.Ranging.{Range}
-use Rattle.code_tests.specs.Keeping.{is_inside}
+use Rattle.cfg_build.specs.Keeping.{is_inside}
 use Rattle.cfg_build.specs.Follows.{Calls, node_of, LiesBelow}
 use Rattle.function_runs.specs.Runs.{Into, Back, Return, Spot, spot, return_to}
 use Rattle.code_flow_laws.proofs.Graphs.{IsNode, FunctionOf, function-of, first-of, first_of, entry-of, within}

@@ -16,7 +16,7 @@ use Rattle.typed_range_laws.specs.Ways.{Way, write_kept}
 use Rattle.code_moves.specs.Setting.{Setting}
 use Rattle.code_flow_laws.proofs.Ranging.{Range}
 use Rattle.cfg_build.specs.Steps.{Checked}
-use Rattle.code_tests.specs.Keeping.{is_inside, stays, filled_by}
+use Rattle.cfg_build.specs.Keeping.{is_inside, stays, filled_by}
 use Rattle.cfg_build.specs.Follows.{Plan, Follows, node_of}
 use Rattle.code_move_laws.specs.Steps.{IsPlain}
 

@@ -11,7 +11,7 @@ use Rattle.c_graph.specs.Functions.{FnFlow}
 use Rattle.code_moves.specs.Setting.{Setting}
 use Rattle.code_flow_laws.proofs.Ranging.{Range}
 use Rattle.cfg_build.specs.Steps.{node_id}
-use Rattle.code_tests.specs.Keeping.{is_inside}
+use Rattle.cfg_build.specs.Keeping.{is_inside}
 use Rattle.cfg_build.specs.Follows.{Plan, FirstFollow, PlacesFollow, node_of, numbered}
 use Rattle.cfg_build.specs.Graphs.{GraphFollows, FirstGraphs}
 use Rattle.code_flow_laws.proofs.Inside.{Inside, PlaceIn, get-left, inside-all, inside-first, inside-second, place-among, below-last}

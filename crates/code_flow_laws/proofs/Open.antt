@@ -4,7 +4,7 @@ use Rattle.std.proofs.lemmas.Bool.{and_parts, ltb-true}
 use Rattle.slot_code.specs.Slots.{get, put}
 use Rattle.slot_laws.proofs.Lying.{put_same, put_other}
 use Rattle.code_flow_laws.proofs.Ranging.{Range}
-use Rattle.code_tests.specs.Keeping.{is_inside, is_own}
+use Rattle.cfg_build.specs.Keeping.{is_inside, is_own}
 use Rattle.cfg_build.specs.Follows.{LiesBelow}
 use Rattle.function_runs.specs.Runs.{Return}
 use Rattle.code_flow_laws.proofs.Graphs.{IsNode}

@@ -1,6 +1,6 @@
 -- Where a function's code stands, by the name of its type.
 use Rattle.slot_code.specs.Values.{Link}
-use Rattle.code_tests.specs.Ranges.{range_of}
+use Rattle.cfg_build.specs.Ranges.{range_of}
 
 abbrev pub type_of : (A : Type 0) → A → Type 0
 type_of A x = A

@@ -29,8 +29,8 @@ use Rattle.layout_laws.specs.Serve.{Serves}
 use Rattle.slot_laws.specs.Laws.{IsShaped}
 use Rattle.code_flow_laws.proofs.Ranging.{Range}
 use Rattle.cfg_build.specs.Steps.{node_id, edge, Way, Fork}
-use Rattle.code_tests.specs.Fitting.{AreFit}
-use Rattle.code_tests.specs.Keeping.{is_inside, stays, is_own, filled_by, keeps}
+use Rattle.cfg_build.specs.Fitting.{AreFit}
+use Rattle.cfg_build.specs.Keeping.{is_inside, stays, is_own, filled_by, keeps}
 use Rattle.cfg_build.specs.Follows.{Plan, Follows, Last, node_of}
 use Rattle.cfg_build.specs.Graphs.{FirstGraphs}
 use Rattle.function_runs.specs.Runs.{Spot, spot, node_at}

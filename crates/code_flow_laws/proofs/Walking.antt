@@ -19,7 +19,7 @@ use Rattle.slot_code.specs.Machine.{Machine, machine, Next, Goes, Over, goes, ac
 use Rattle.typed_range_laws.specs.Ways.{Way}
 use Rattle.code_moves.specs.Setting.{Setting}
 use Rattle.code_moves.specs.Values.{slot_value}
-use Rattle.code_tests.specs.Keeping.{is_inside}
+use Rattle.cfg_build.specs.Keeping.{is_inside}
 use Rattle.function_runs.specs.Runs.{Spot, node_at}
 use Rattle.code_layout.specs.Reading.{reads}
 use Rattle.layout_laws.specs.Serve.{HasSlot}

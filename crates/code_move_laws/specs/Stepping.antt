@@ -12,7 +12,7 @@ use Rattle.slot_code.specs.Machine.{Machine, Next, Goes, Over}
 use Rattle.slot_laws.specs.Laws.{IsShaped}
 use Rattle.code_moves.specs.Setting.{Setting}
 use Rattle.cfg_build.specs.Steps.{node_id, Checked}
-use Rattle.code_tests.specs.Fitting.{IsFit}
+use Rattle.cfg_build.specs.Fitting.{IsFit}
 use Rattle.layout_laws.specs.Serve.{Serves}
 use Rattle.code_move_laws.specs.Mirrors.{IsLaid, Mirrors}
 use Rattle.code_move_laws.specs.Ways.{objects_of}

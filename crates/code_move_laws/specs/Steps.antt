@@ -11,7 +11,7 @@ use Rattle.code_moves.specs.Setting.{Setting}
 use Rattle.code_moves.specs.Values.{failures_of}
 use Rattle.code_moves.specs.Moves.{moves_of}
 use Rattle.cfg_build.specs.Steps.{offset_of}
-use Rattle.code_tests.specs.Fitting.{IsFit}
+use Rattle.cfg_build.specs.Fitting.{IsFit}
 use Rattle.layout_laws.specs.Serve.{Serves}
 use Rattle.code_move_laws.specs.Mirrors.{IsLaid, Mirrors}
 use Rattle.code_move_laws.specs.Doing.{Reaches}

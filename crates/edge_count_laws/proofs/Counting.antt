@@ -16,7 +16,7 @@ use Rattle.slot_code.specs.declared.flat.Instruction.{Instruction}
 use Rattle.slot_code.specs.declared.flat.Instruction.TheVariants as i
 use Rattle.slot_code.specs.Values.{Link}
 use Rattle.code_moves.specs.Setting.{Setting}
-use Rattle.code_tests.specs.Ranges.{range_of}
+use Rattle.cfg_build.specs.Ranges.{range_of}
 use Rattle.cfg_build.specs.Steps.{Checked, Fork, Way, checked_edges, checked_nodes}
 use Rattle.cfg_build.specs.Follows.{Calls, Exit, FirstFollow, Follows, Joined, Last, PlacesFollow, Plan, StandsAt}
 use Rattle.cfg_build.specs.Graphs.{FirstGraphs, GraphFollows, Opening, ProgramFollows, program_code, program_setting}

@@ -27,7 +27,7 @@ use Rattle.code_move_laws.proofs.Laying.{laid}
 use Rattle.code_move_laws.proofs.Trimming.{converting-agrees}
 use Rattle.code_move_laws.proofs.Suiting.{graph-way-suits}
 use Rattle.cfg_build.specs.Steps.{node_id}
-use Rattle.code_tests.specs.Keeping.{is_inside}
+use Rattle.cfg_build.specs.Keeping.{is_inside}
 use Rattle.cfg_build.specs.Follows.{node_of}
 use Rattle.cfg_build.specs.Graphs.{ProgramFollows, program_code, program_setting}
 use Rattle.function_runs.specs.Runs.{Along, Spot, Return, spot, RunsBy, FunctionsRunTo}

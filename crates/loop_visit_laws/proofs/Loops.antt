@@ -4,7 +4,7 @@ use Rattle.std.proofs.lemmas.Bool.{and_from, and_parts, le-leb, lt-ltb}
 use Rattle.std.proofs.lemmas.Option.{same_Some}
 use Rattle.slot_code.specs.declared.flat.Instruction.{Instruction}
 use Rattle.slot_code.specs.declared.flat.Instruction.TheVariants as i
-use Rattle.code_tests.specs.Keeping.{is_inside, stays, is_own, filled_by, keeps}
+use Rattle.cfg_build.specs.Keeping.{is_inside, stays, is_own, filled_by, keeps}
 use Rattle.cfg_build.specs.Graphs.{program_code, program_setting}
 use Rattle.code_flow_laws.proofs.Graphs.{function-of, place-of, is-node, node-of}
 use Rattle.cfg_build.specs.Steps.{node_id}

@@ -8,7 +8,7 @@ use Rattle.slot_code.specs.declared.flat.Instruction.{Instruction}
 use Rattle.slot_code.specs.declared.flat.Instruction.TheVariants as i
 use Rattle.slot_laws.specs.Laws.{IsOrder}
 use Rattle.slot_turn_laws.specs.Turns.{NoCallAt}
-use Rattle.code_tests.specs.Keeping.{is_inside}
+use Rattle.cfg_build.specs.Keeping.{is_inside}
 use Rattle.cfg_build.specs.Follows.{Plan, node_of}
 use Rattle.cfg_build.specs.Graphs.{ProgramFollows, program_code, program_setting}
 use Rattle.cfg_build.specs.Steps.{node_id}

@@ -12,22 +12,19 @@ use Rattle.slot_code.specs.Programs as p
 use Rattle.slot_code.specs.Slots.{slots_in}
 use Rattle.slot_values.specs.Linked.{links_of}
 use Rattle.slot_compiler.specs.Seen.{code_of}
-use Rattle.code_tests.specs.Ranges.{AreRanges, ProgramRanges}
-use Rattle.code_tests.specs.Fitting.{AreFit, CallsEnter}
+use Rattle.cfg_build.specs.Ranges.{AreRanges, ProgramRanges}
+use Rattle.cfg_build.specs.Fitting.{AreFit, CallsEnter}
 use Rattle.bv_term.specs.WellFormed.{IsTable}
 use Rattle.c_graph.specs.Shape.{widths_of}
 use Rattle.c_graph.specs.Functions.{FnFlow, Flows, AreFlows}
 use Rattle.c_graph.specs.Parts.{flows_of}
-use Rattle.code_tests.specs.declared.ranging.Range.{Range}
+use Rattle.cfg_build.specs.declared.placing.Range.{Range}
 use Rattle.cfg_build.specs.declared.placing.Whole.{Whole}
-use Rattle.cfg_build.specs.Few.{AreFew}
-use Rattle.cfg_build.specs.Sizes.{IsWithin, graph_nodes, nodes_of}
-use Rattle.cfg_build.proofs.Bounds.{numbers-few, opens-few}
-use Rattle.cfg_build.specs.Numbers.{numbers_to, owners_to}
-use Rattle.code_tests.specs.Ranges.{AllLinked}
+use Rattle.cfg_build.specs.Sizes.{IsWithin, graph_nodes}
+use Rattle.cfg_build.specs.Numbers.{AllLinked, numbers_to, owners_to}
 use Rattle.cfg_build.specs.Placed.{AllCanFollow}
 use Rattle.cfg_build.specs.Graphs.{FirstGraphs, ProgramFollows, program_code, program_setting}
-use Rattle.code_tests.proofs.Linking.{entry-below}
+use Rattle.cfg_build.proofs.Linking.{entry-below}
 use Rattle.cfg_build.proofs.Passing.{LaidOut, all-can-follow, must-follow, some-function, few-functions, program-whole, ranges-back}
 use Rattle.cfg_build.proofs.Graphing.{Tested, IsFitting, program-follows, either-follows, setting-is, stands-by, stand-both, stand-by, ranges-stand, fit-stand}
 use Rattle.cfg_build.proofs.building.build.Goals as goal
@@ -152,18 +149,3 @@ returns-clause-whole c =
     subst (λ (z : List FnFlow). ProgramFollows t order (at z m) × AreFlows (at z m)) (sym second) (subst (λ (k : ℕ). ProgramFollows t order (at gs k) × AreFlows (at gs k)) (sym main_is) both) in
     let answered : c.in_ok-function_graphs_from.field-0 ≡ at js m = c.in_ok-function_graphs_from.ensures.whole moved.1 in
     subst (λ (z : Flows). ProgramFollows t order z) (sym answered) moved.0
-
-pub numbers_of-numbers-requires-few : goal.numbers_of-numbers-requires-few
-numbers_of-numbers-requires-few c = subst (λ (xs : List Instruction). nodes_of xs ≤ 65536) c.deref-3.ensures.value (omega (arith, c.in_ok-few_nodes.ensures))
-
-pub graphs_of-requires-few : goal.graphs_of-requires-few
-graphs_of-requires-few c = subst (λ (xs : List Instruction). nodes_of xs ≤ 65536) (c.deref-3.ensures.value ∙ sym c.deref-4.ensures.value) (omega (arith, c.in_ok-few_nodes.ensures))
-
-pub graphs_of-requires-numbers : goal.graphs_of-requires-numbers
-graphs_of-requires-numbers c =
-    let few = subst (λ (xs : List Instruction). nodes_of xs ≤ 65536) c.deref-3.ensures.value (omega (arith, c.in_ok-few_nodes.ensures)) in
-    subst AreFew (sym (c.deref-5.ensures.value ∙ c.in_ok-numbers.ensures)) (numbers-few _ _ _ _ few)
-
-pub graphs_of-requires-opens : goal.graphs_of-requires-opens
-graphs_of-requires-opens c =
-    opens-few c.objects-objects.result.now c.model-model.result c.in_ok-layout.layout c.deref-2.result.now c.in_ok-slots.slots c.in_ok-layout.ensures.value c.in_ok-layout.ensures.few

@@ -1,10 +1,9 @@
-use Rattle.std.proofs.Common.{arith, rules}
+use Rattle.std.proofs.Common.{rules}
 use Rattle.std.specs.Prelude.{IsTrue}
 use Rattle.code_moves.specs.Setting.{setting_of}
 use Rattle.code_moves.proofs.Standing.{stand-later}
 use Rattle.cfg_build.specs.Follows.{plan_of}
-use Rattle.cfg_build.proofs.Graphing.{graph-of, main-built, next-none}
-use Rattle.cfg_build.proofs.Turning.{loops-are}
+use Rattle.cfg_build.proofs.Graphing.{graph-of, main-built}
 use Rattle.cfg_build.proofs.building.main_graph.Goals as goal
 
 pub returns-clause-made : goal.returns-clause-made
@@ -13,7 +12,4 @@ returns-clause-made c = λ h.
     let t : IsTrue c.in_ok-add_places.field-0 = search rules in
     let b = c.in_ok-add_places.ensures.built (stand-later _ _ _ a.0 h) t in
     let k = main-built _ _ _ _ _ _ (plan_of c.args.places.now) (setting_of c.args.ground.now) a b in
-    (k.0, graph-of _ _ _ (plan_of c.args.places.now) _ _ c.new-draft.ensures k.1 (loops-are _ _ _ c.in_ok-loops.ensures) c.into_graph.ensures)
-
-pub add_opening-requires-room : goal.add_opening-requires-room
-add_opening-requires-room c = let n = next-none _ c.new-draft.ensures in omega (arith, n)
+    (k.0, graph-of _ _ _ (plan_of c.args.places.now) _ _ c.new-draft.ensures k.1 c.in_ok-loops.ensures c.into_graph.ensures)

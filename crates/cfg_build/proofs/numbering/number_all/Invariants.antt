@@ -1,10 +1,8 @@
-use Rattle.std.specs.Prelude.{◌≡◌, ◌+◌, ◌++◌}
-use Rattle.cfg_build.specs.Sizes.{nodes_of}
-use Rattle.cfg_build.specs.Numbers.{numbers_from, code_between, last_number}
+use Rattle.std.specs.Prelude.{◌≡◌, ◌++◌}
+use Rattle.cfg_build.specs.Numbers.{numbers_from, code_between}
 use Rattle.cfg_build.proofs.numbering.number_all.Given as goal
 
 -- the numbers so far and those of the places that are left
 abbrev pub invariant-loop-place : goal.invariant-loop-place
 invariant-loop-place l =
-    (l.numbers.items ++ numbers_from l.number (code_between l.code l.place l.end) ≡ l.initial.numbers.items ++ numbers_from l.first (code_between l.code l.entry l.end))
-    × (l.number + nodes_of (code_between l.code l.place l.end) ≡ last_number l.code l.first l.entry l.end)
+    l.numbers.items ++ numbers_from l.number (code_between l.code l.place l.end) ≡ l.initial.numbers.items ++ numbers_from l.first (code_between l.code l.entry l.end)

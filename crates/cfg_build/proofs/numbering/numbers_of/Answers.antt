@@ -1,8 +1,7 @@
-use Rattle.std.proofs.Common.{◌≡◌, suc, ◌+◌, ◌++◌, ◌≤◌, ◌<◌, length, List, sym, Some, slice_get, subst, arith, rules}
+use Rattle.std.proofs.Common.{◌≡◌, suc, ◌+◌, ◌++◌, ◌≤◌, length, List, Some, slice_get, subst, arith, rules}
 use Rattle.slot_code.specs.declared.flat.Instruction.{Instruction}
-use Rattle.cfg_build.specs.Sizes.{nodes_of}
-use Rattle.cfg_build.specs.Numbers.{first_number, last_number, numbers_from, code_between}
-use Rattle.cfg_build.proofs.Numbers.{last-fits, numbers-linked, numbers-whole}
+use Rattle.cfg_build.specs.Numbers.{numbers_from, code_between}
+use Rattle.cfg_build.proofs.Numbers.{numbers-linked, numbers-whole}
 use Rattle.cfg_build.proofs.numbering.numbers_of.Goals as goal
 
 pub loop-number-preserved : goal.loop-number-preserved
@@ -24,9 +23,3 @@ returns c =
     let links = c.args.code.now.links.items in
     let past : length links ≤ c.loop-number.number = search rules in
     numbers-whole c.args.code.now.instructions.items c.args.main (length c.args.code.now.instructions.items) links c.loop-number.number c.loop-number.numbers.items past c.loop-number.invariant
-
-pub number_all-requires-few : goal.number_all-requires-few
-number_all-requires-few c =
-    let few = subst (λ (xs : List Instruction). nodes_of xs ≤ 65536) (sym c.deref.ensures.value) c.requires.few in
-    subst (λ k. last_number c.deref.result.now k c.in-Some.link.entry c.entry_at-end.result < 4294967296) (sym c.first_of-first.ensures)
-    (last-fits c.deref.result.now c.args.main c.in-Some.link.function c.in-Some.link.entry c.entry_at-end.result few)

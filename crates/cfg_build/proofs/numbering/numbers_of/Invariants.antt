@@ -1,6 +1,6 @@
 use Rattle.std.specs.Prelude.{◌≡◌, length, take, slice_get}
 use Rattle.slot_values.specs.Linked.{links_of}
-use Rattle.code_tests.specs.Ranges.{entry_or}
+use Rattle.cfg_build.specs.Ranges.{entry_or}
 use Rattle.cfg_build.specs.Numbers.{numbers_to}
 use Rattle.cfg_build.proofs.numbering.numbers_of.Given as goal
 

@@ -1,4 +1,4 @@
-use Rattle.std.proofs.Common.{arith, refl, ap, ◌∙◌, ◌∷◌, []}
+use Rattle.std.proofs.Common.{refl, ap, ◌∙◌, ◌∷◌, []}
 use Rattle.c_graph.specs.declared.graph.NodeId.{NodeId}
 use Rattle.cfg_build.specs.Steps.{edge, node_id, next_of}
 use Rattle.cfg_build.proofs.Adding.{adds-twice, edges-equal, next-more}
@@ -13,12 +13,9 @@ returns c = λ h.
         nodes = _;
         edges = _;
         adds = edges-equal _ _ _ _ _
-            (ap (λ (from : NodeId). edge from c.next-to.result c.in_ok-ops.ops.items ∷ []) c.in_ok-from.ensures.number
-            ∙ ap (λ (to : NodeId). edge (node_id n) to c.in_ok-ops.ops.items ∷ []) (c.next-to.ensures ∙ ap node_id (next-more _ _ _ _ c.in_ok-from.ensures.adds)))
+            (ap (λ (from : NodeId). edge from c.in_ok-to.to c.in_ok-ops.ops.items ∷ []) c.in_ok-from.ensures.number
+            ∙ ap (λ (to : NodeId). edge (node_id n) to c.in_ok-ops.ops.items ∷ []) (c.in_ok-to.ensures ∙ ap node_id (next-more _ _ _ _ c.in_ok-from.ensures.adds)))
             (adds-twice _ _ _ _ _ _ _ c.in_ok-from.ensures.adds c.in_ok-edge.ensures);
         form = record { ops = c.in_ok-ops.ops.items; does = m.does; nodes_are = refl; edges_are = refl };
       },
     )
-
-pub next-to-requires-room : goal.next-to-requires-room
-next-to-requires-room c = let n = next-more _ _ _ _ c.in_ok-from.ensures.adds in omega (arith, n, c.requires.room)

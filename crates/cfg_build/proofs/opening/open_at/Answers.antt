@@ -16,7 +16,3 @@ returns-in-Some c = λ ds h f d.
     let e : Some c.in-Some.object.now ≡ slice_get c.args.ground.now.objects.now c.args.number = some-there _ _ _ (ltb-true c.args.number (length c.args.ground.now.objects.now) (sym c.in-Some.ensures.lookup.0)) c.in-Some.ensures.lookup.1 in
     let lies = h.lies.elements c.args.number c.args.first c.in-Some.object.now (sym e) f in
     does-equal _ _ _ _ _ _ (ap (λ (o : Option Object). ds ++ object_opens (setting_of c.args.ground.now) (Some c.args.first) o) e) (c.open_elements.ensures ds lies.0 lies.1 d)
-
-pub open_elements-requires-few : goal.open_elements-requires-few
-open_elements-requires-few c =
-    c.requires.few c.in-Some.object.now (sym (some-there _ _ _ (ltb-true c.args.number (length c.args.ground.now.objects.now) (sym c.in-Some.ensures.lookup.0)) c.in-Some.ensures.lookup.1))

@@ -29,12 +29,13 @@ loop-element-preserved c = λ ds a v d.
     let e : suc n ≡ n + 1 = omega arith in
     let grown = grows-twice _ _ _ b.grows (z []).grows in
     let count : n < elements_of o = omega (arith, c.elements_of-count.ensures) in
-    let wide : IsWide c.constant_of.new.self.terms.cells (c.args.first + n) w =
-    subst (λ (cs : List ℕ). IsWide cs (c.args.first + n) w) (sym grown.extends.0) (omega (arith, a.1, count), a.2 n count ∙ v ∙ sym c.width-bits.ensures.width) in
+    let wide : IsWide c.constant_of.new.self.terms.cells c.in_ok-cell.cell w =
+    subst (λ (cs : List ℕ). IsWide cs c.in_ok-cell.cell w) (sym grown.extends.0)
+    (subst (λ (k : ℕ). IsWide c.args.words.now.terms.cells k w) (sym c.in_ok-cell.ensures) (omega (arith, a.1, count), a.2 n count ∙ v ∙ sym c.width-bits.ensures.width)) in
     record {
       grows = grown;
       does = subst (λ (xs : List Deed). AreDeeds c.constant_of.new.self.terms c.push.new.self.items xs) (append_assoc ds before (at ∷ []) ∙ ap (λ (k : ℕ). ds ++ first_sets c.args.first w o k) e)
-          (pushed c.constant_of.new.self.terms _ _ (ds ++ before) _ at c.in_ok-push.ensures.items (deeds-later _ _ _ (ds ++ before) (z []).grows b.does) (refl, (w, shown), set-fits _ _ w _ _ wide shown));
+          (pushed c.constant_of.new.self.terms _ _ (ds ++ before) _ at c.in_ok-push.ensures.items (deeds-later _ _ _ (ds ++ before) (z []).grows b.does) (c.in_ok-cell.ensures, (w, shown), set-fits _ _ w _ _ wide shown));
     }
 
 pub returns : goal.returns

@@ -19,7 +19,7 @@ loop-number-preserved c = λ h.
     let b = c.loop-number.invariant h in
     let t : IsTrue c.in_ok-add_next.field-0 = search rules in
     let f : suc n ≡ n + 1 = omega arith in
-    place-more _ _ _ _ _ _ (plan_of c.args.places.now) (setting_of c.args.ground.now) n _ _ b (c.in_ok-add_next.ensures.built (stand-later _ _ _ b.0 h) t) refl f
+    place-more _ _ _ _ _ _ (plan_of c.args.places.now) (setting_of c.args.ground.now) n _ _ b (c.in_ok-add_next.ensures.built (stand-later _ _ _ b.0 h) t) c.in_ok-place.ensures f
 
 pub returns-clause-built : goal.returns-clause-built
 returns-clause-built c = λ h.
@@ -33,7 +33,7 @@ returns-then-not-branch-clause-whole c = λ h f.
     let b = c.loop-number.invariant h in
     let lt : n < p.range.end - p.range.entry = omega (arith, c.loop-number-test.true, c.saturating_sub-count.ensures) in
     let count = next-follows c.args.draft.now c.loop-number.draft (plan_of p) (setting_of c.args.ground.now) c.loop-number.words.terms n b.1 in
-    let x = can-stand p c.args.ground.now.layout.now (next_of c.args.draft.now) n (p.range.entry + n) (next_of c.loop-number.draft) f lt refl count in
+    let x = can-stand p c.args.ground.now.layout.now (next_of c.args.draft.now) n c.in_ok-place.place (next_of c.loop-number.draft) f lt c.in_ok-place.ensures count in
     let stands : IsTrue c.in_ok-add_next.field-0 = c.in_ok-add_next.ensures.whole x.0 x.1 in
     let fails : c.in_ok-add_next.field-0 ≡ false = search rules in
     sym fails ∙ stands

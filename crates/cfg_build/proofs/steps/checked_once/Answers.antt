@@ -1,10 +1,10 @@
-use Rattle.std.proofs.Common.{arith, refl, ap, ◌∙◌, ◌∷◌, [], ◌++◌, List}
+use Rattle.std.proofs.Common.{refl, ap, ◌∙◌, ◌∷◌, [], ◌++◌, List}
 use Rattle.c_graph.specs.declared.graph.Operation.{Operation}
 use Rattle.c_graph.specs.declared.graph.Operation.TheVariants.{Assume}
 use Rattle.c_terms.proofs.Putting.{grows-twice}
 use Rattle.code_moves.proofs.Standing.{stand-later}
 use Rattle.code_moves.proofs.Doing.{tells-later}
-use Rattle.cfg_build.proofs.Adding.{next-more, turned-later, once}
+use Rattle.cfg_build.proofs.Adding.{turned-later, once}
 use Rattle.cfg_build.proofs.steps.checked_once.Goals as goal
 
 pub returns : goal.returns
@@ -29,6 +29,3 @@ returns c = λ f h t.
         };
       },
     )
-
-pub add_check-passed-requires-room : goal.add_check-passed-requires-room
-add_check-passed-requires-room c = let n = next-more _ _ _ _ c.in_ok-from.ensures.adds in omega (arith, n, c.requires.room)

@@ -1,10 +1,10 @@
-use Rattle.std.proofs.Common.{arith, refl, ap, ◌∙◌, ◌∷◌, [], ◌++◌, List}
+use Rattle.std.proofs.Common.{refl, ap, ◌∙◌, ◌∷◌, [], ◌++◌, List}
 use Rattle.c_graph.specs.declared.graph.Operation.{Operation}
 use Rattle.c_graph.specs.declared.graph.Operation.TheVariants.{Assume}
 use Rattle.c_terms.proofs.Putting.{grows-twice}
 use Rattle.code_moves.proofs.Standing.{stand-later}
 use Rattle.code_moves.proofs.Doing.{tells-later}
-use Rattle.cfg_build.proofs.Adding.{next-more, turned-later, twice}
+use Rattle.cfg_build.proofs.Adding.{turned-later, twice}
 use Rattle.cfg_build.proofs.steps.checked_twice.Goals as goal
 
 pub returns : goal.returns
@@ -34,20 +34,3 @@ returns c = λ f1 f2 h t1 t2.
         };
       },
     )
-
-pub add_check-passed-requires-room : goal.add_check-passed-requires-room
-add_check-passed-requires-room c = let n = next-more _ _ _ _ c.in_ok-from.ensures.adds in omega (arith, n, c.requires.room)
-
-pub node-between-requires-room : goal.node-between-requires-room
-node-between-requires-room c =
-    let n = next-more _ _ _ _ c.in_ok-from.ensures.adds in
-    let m = next-more _ _ _ _ c.in_ok-passed.ensures.adds in
-    omega (arith, n, m, c.requires.room)
-
-pub add_check-last-requires-room : goal.add_check-last-requires-room
-add_check-last-requires-room c =
-    let n = next-more _ _ _ _ c.in_ok-from.ensures.adds in
-    let m = next-more _ _ _ _ c.in_ok-passed.ensures.adds in
-    let k = next-more _ _ _ _ c.in_ok-between.ensures.adds in
-    let l = next-more _ _ _ _ c.in_ok-edge_if.ensures in
-    omega (arith, n, m, k, l, c.requires.room)

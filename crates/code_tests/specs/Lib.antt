@@ -1,4 +1,0 @@
-pub mod Fitting
-pub mod Beginnings
-pub mod Keeping
-pub mod Ranges
