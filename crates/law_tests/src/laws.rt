@@ -152,7 +152,6 @@ fn runs_over_graphs_that_come_back() {
     inline_back_laws::met_errors_come_back();
     inline_back_laws::inlined_errors_come_back();
     edge_count_laws::built_is_sparse();
-    graph_shape_laws::built_is_shaped();
 }
 
 #[test]
