@@ -1,5 +1,5 @@
 -- Errors and visits kept by a graph with joined chains, and by one graph after another.
-use Rattle.std.proofs.Common.{Result, Ok, Err, IfOk, ◌≡◌, ◌⊎◌, inl, inr, List, [], ◌++◌, length, refl, sym, ap, ◌∙◌, subst, arith, slice_get, append_assoc, append-nil}
+use Rattle.std.proofs.Common.{Bool, ℕ, Result, Ok, Err, IfOk, ◌≡◌, ◌⊎◌, inl, inr, List, [], ◌++◌, length, refl, sym, ap, ◌∙◌, subst, arith, slice_get, append_assoc, append-nil}
 use Rattle.bv_term.specs.WellFormed.{Table}
 use Rattle.c_graph.specs.declared.graph.Cell.{Cell}
 use Rattle.c_graph.specs.declared.graph.Edge.{Edge}
@@ -12,7 +12,7 @@ use Rattle.edge_chains.specs.Joining.{IsJoined}
 use Rattle.edge_chain_laws.specs.Keeping.{with_edges}
 use Rattle.edge_chain_back_laws.proofs.Unjoining.{chain_paths_come_back}
 use Rattle.join_laws.specs.Keeping.{KeepsErrors}
-use Rattle.join_laws.specs.Visits.{KeepsStores, KeepsVisits}
+use Rattle.join_laws.specs.Visits.{KeepsMarked, KeepsStores, KeepsVisits}
 use Rattle.join_laws.proofs.Errors.{chains_keep}
 use Rattle.join_laws.proofs.Visits.{chains_keep_loops}
 use Rattle.block_join.specs.Joined.{ChainsReturn, HasMore, IsChained, Stays}
@@ -102,6 +102,14 @@ stores-visit g h stores draws k l after there run = (after, (stores draws k l af
 
 pub visits-on : (g b h : Flow) → b.loops ≡ g.loops → KeepsVisits g b → KeepsStores b h → KeepsVisits g h
 visits-on g b h loops first second draws k l after there run =
+    let (end, (mid, agree)) = first draws k l after there run in
+    (end, (second draws k l end (ap (λ (x : List LoopAt). slice_get x k) loops ∙ there) mid, agree))
+
+pub stores-marked : (marks : ℕ → ℕ → Bool) (g h : Flow) → KeepsStores g h → KeepsMarked marks g h
+stores-marked marks g h stores draws k l after there run = (after, (stores draws k l after there run, inr (λ c lt marked. refl)))
+
+pub marked-on : (marks : ℕ → ℕ → Bool) (g b h : Flow) → b.loops ≡ g.loops → KeepsMarked marks g b → KeepsStores b h → KeepsMarked marks g h
+marked-on marks g b h loops first second draws k l after there run =
     let (end, (mid, agree)) = first draws k l after there run in
     (end, (second draws k l end (ap (λ (x : List LoopAt). slice_get x k) loops ∙ there) mid, agree))
 

@@ -2,11 +2,14 @@
 ghost use Rattle.std.specs.Prelude.{IfOk, IsTrue};
 ghost use Rattle.program_graphs.specs.Returning.{ComesBack};
 ghost use Rattle.join_laws.specs.Keeping.{KeepsErrors};
-ghost use Rattle.join_laws.specs.Visits.{KeepsVisits};
+ghost use Rattle.join_laws.specs.Visits.{KeepsMarked, KeepsVisits};
+ghost use Rattle.walk_states.specs.Known.{plan_of};
 ghost use Rattle.block_join.specs.Joined.{BlocksReturn, Stays};
+ghost use Rattle.block_join.specs.Living.{live_at};
 
 use crate::chains::{copied_edge, with_chains};
 use crate::emission::{Draft, Plan};
+use crate::live::LiveCells;
 use crate::terms::Truths;
 use block_follow::follows_rule;
 use block_plan::{Blocks, Reads, Units, Ways, begins, blocks_of, live_units, number_of, ways_at};
@@ -26,6 +29,27 @@ pub fn join_blocks(alloc: Global, graph: Graph) -> Result<Graph, Memory>
     ensures visits { IfOk result (λ h. KeepsVisits graph h) }
     ensures back { IfOk result (λ h. ComesBack graph h) }
 {
+    let Joined { graph, live: _ } = join_blocks_live(alloc, graph)?;
+    Ok(graph)
+}
+
+/// A graph of blocks, and what is known of the cells of the graph that it was made of.
+#[derive(Drop)]
+pub struct Joined {
+    /// The graph of blocks.
+    pub graph: Graph,
+    /// The cells that hold the same in both at the nodes of loops.
+    pub live: LiveCells,
+}
+
+/// The graph of [`join_blocks`], with the cells that hold at the nodes of loops what they hold in the first graph.
+pub fn join_blocks_live(alloc: Global, graph: Graph) -> Result<Joined, Memory>
+    ensures stays { IfOk result (λ j. Stays graph j.graph) }
+    ensures keeps { IfOk result (λ j. KeepsErrors graph j.graph) }
+    ensures visits { IfOk result (λ j. KeepsVisits graph j.graph) }
+    ensures marked { IfOk result (λ j. KeepsMarked (live_at j.live) graph j.graph) }
+    ensures back { IfOk result (λ j. ComesBack graph j.graph) }
+{
     let made = attempted(alloc, &graph)?;
     let Attempt {
         graph: blocked,
@@ -34,9 +58,19 @@ pub fn join_blocks(alloc: Global, graph: Graph) -> Result<Graph, Memory>
     } = made;
     let are_same = have_same_runs(alloc, &graph, &blocked, &known, &members)?;
     if are_same {
-        with_chains(alloc, blocked)
+        let graph = with_chains(alloc, blocked)?;
+        let known = Some(known);
+        Ok(Joined {
+            graph,
+            live: LiveCells { known },
+        })
     } else {
-        with_chains(alloc, graph)
+        let graph = with_chains(alloc, graph)?;
+        let known = None;
+        Ok(Joined {
+            graph,
+            live: LiveCells { known },
+        })
     }
 }
 
@@ -51,6 +85,7 @@ fn have_same_runs(
     ensures stays { IfOk result (λ b. IsTrue b → Stays graph.now blocked.now) }
     ensures keeps { IfOk result (λ b. IsTrue b → KeepsErrors graph.now blocked.now) }
     ensures visits { IfOk result (λ b. IsTrue b → KeepsVisits graph.now blocked.now) }
+    ensures marked { IfOk result (λ b. IsTrue b → KeepsMarked (plan_of known.now).live graph.now blocked.now) }
     ensures back { IfOk result (λ b. IsTrue b → BlocksReturn graph.now blocked.now) }
 {
     let _entry = graph.entry();

@@ -28,6 +28,8 @@
 mod chains;
 mod emission;
 mod join;
+mod live;
 mod terms;
 
-pub use join::join_blocks;
+pub use join::{Joined, join_blocks, join_blocks_live};
+pub use live::LiveCells;

@@ -49,6 +49,7 @@ inlined p offsets total flows out = record {
       let (x, there) = get-there (nodes_in p c.function) v.0 lt in
       let both : Some (plain_if (goal_of p offsets c v.0 x) x) ≡ Some (Error kind offset) = sym (stands p offsets total flows out c v x at there) ∙ s in
       there ∙ ap (λ (y : Node). Some y) (plain-error (goal_of p offsets c v.0 x) x kind offset (same_Some (plain_if (goal_of p offsets c v.0 x) x) (Error kind offset) both));
+  loops = refl;
   cells = refl;
   terms = refl;
 }

@@ -1,5 +1,5 @@
 -- What it means that one graph is made of function graphs, each call being a copy.
-use Rattle.std.specs.Prelude.{ℕ, ◌≡◌, ◌⊎◌, List, [], Option, None, Some, slice_get}
+use Rattle.std.specs.Prelude.{ℕ, ◌≡◌, ◌⊎◌, List, [], Option, None, Some, map, slice_get}
 use Rattle.lv_base.specs.declared.fault.ErrorKind.{ErrorKind}
 use Rattle.c_graph.specs.declared.graph.NodeId.{NodeId}
 use Rattle.c_graph.specs.declared.graph.Node.{Node}
@@ -80,6 +80,7 @@ module _ (p : Flows) (copies : List Copied) (number : Copied → NodeId → Node
 -- goes on nowhere. Each edge of a function stands in each copy of it. A call leads to the entry of a copy of the called function that
 -- goes on where the call does; the exit of a copy leads there. An error node of a function is the same error node in each copy.
 -- The graph has no other edges, each node of each copy has a number of its own, and what stands there as an error is one in the function.
+-- Its loops are those of main, at the nodes of main's copy.
 pub record IsInlining (p : Flows) (g : Flow) : Type 0 where
   pub copies : List Copied
   pub number : Copied → NodeId → NodeId
@@ -105,6 +106,7 @@ pub record IsInlining (p : Flows) (g : Flow) : Type 0 where
   pub own_errors :
       (c : Copied) (v : NodeId) (kind : ErrorKind) (at : ℕ) → Among copies c → IsNodeOf (nodes_in p c.function) v
       → slice_get g.nodes (number c v).0 ≡ Some (Error kind at) → slice_get (nodes_in p c.function) v.0 ≡ Some (Error kind at)
+  pub loops : g.loops ≡ map (λ l. record { at = l.at; node = number main.0 l.node }) (loops_of (slice_get p.graphs p.main))
   pub cells : g.cells ≡ p.cells
   pub terms : g.terms ≡ p.terms
 

@@ -1,5 +1,5 @@
 -- The graphs of a program's functions that follow its flat code.
-use Rattle.std.specs.Prelude.{ℕ, zero, suc, ◌+◌, ◌==◌, ◌≡◌, ◌<◌, Bool, true, false, List, [], ◌∷◌, ◌++◌, length, Option, None, Some, ℤ, pos, slice_get, All}
+use Rattle.std.specs.Prelude.{ℕ, zero, suc, ◌+◌, ◌==◌, ◌≡◌, ◌<◌, ◌≤◌, Bool, true, false, List, [], ◌∷◌, ◌++◌, length, Option, None, Some, ℤ, pos, slice_get, All}
 use Rattle.lv_base.specs.Integers.{residue, width_of}
 use Rattle.bv_term.specs.WellFormed.{Table}
 use Rattle.c_typed.specs.declared.tree.Object.{Object}
@@ -13,6 +13,8 @@ use Rattle.c_graph.specs.declared.graph.Edge.{Edge}
 use Rattle.c_graph.specs.declared.graph.LoopAt.{LoopAt}
 use Rattle.c_graph.specs.Functions.{FnFlow, Flows}
 use Rattle.slot_code.specs.declared.flat.Instruction.{Instruction}
+use Rattle.slot_code.specs.declared.flat.Instruction.TheVariants as i
+use Rattle.loop_turns.specs.Turning.{OnlyTurn}
 use Rattle.slot_code.specs.Programs.{code_of}
 use Rattle.slot_code.specs.Slots.{slots_in}
 use Rattle.c_typed.specs.Parts.{Parts, tree_of}
@@ -64,9 +66,19 @@ pub record Opening (g : Setting) (table : Table) (n : ℕ) (nodes : List Node) (
 
 -- ---- The graph of a function
 
--- each loop's node is that of some place
+-- A loop of a function: at one of its places stands a turn of the loop, all turns of the loop in the whole code go to one place, and the
+-- loop's node is that of this place. No call stands at its offset.
+pub record IsLoop (p : Plan) (l : LoopAt) : Type 0 where
+  pub goal : ℕ
+  pub place : ℕ
+  pub not_before : p.range.entry ≤ place
+  pub not_behind : place < p.range.end
+  pub turns : slice_get p.code place ≡ Some (i.Turn l.at goal)
+  pub only : OnlyTurn p.code l.at goal
+  pub node : l.node ≡ node_of p goal
+
 abbrev pub AreLoops : Plan → List LoopAt → Type 0
-AreLoops p loops = All (λ l. (place : ℕ) × (l.node ≡ node_of p place)) loops
+AreLoops p loops = All (IsLoop p) loops
 
 -- nodes and edges of a form from number 0 on, and loops
 abbrev pub IsGraph : (ℕ → List Node → List Edge → Type 0) → Plan → FnFlow → Type 0

@@ -1,9 +1,11 @@
 //! The graphs of functions, place by place.
 
-ghost use Rattle.std.specs.Prelude.{◌≡◌, ◌==◌, ◌⊎◌, [], length, true, false, slice_get, IfErr, IfOk, IfSome, IsSome, IsTrue};
+ghost use Rattle.std.specs.Prelude.{◌≡◌, ◌==◌, ◌⊎◌, [], length, true, false, slice_get, IfErr, IfOk, IfSome, IsSome, IsTrue, Some};
 ghost use Rattle.c_graph.specs.Parts.{error_flows};
 ghost use Rattle.c_terms.specs.Shown.{Grows};
 ghost use Rattle.code_moves.specs.Setting.{setting_of, Stands};
+ghost use Rattle.slot_code.specs.declared.flat.Instruction.TheVariants as i;
+ghost use Rattle.loop_turns.specs.Turning.{OnlyTurn};
 ghost use Rattle.cfg_build.specs.Follows.{plan_of};
 ghost use Rattle.cfg_build.specs.Graphs as of;
 ghost use Rattle.cfg_build.specs.Numbers.{first_number};
@@ -26,6 +28,7 @@ use c_terms::Words;
 use c_typed::Typed;
 use code_layout::{Layout, widths_of};
 use code_moves::Ground;
+use loop_turns::TurnGoals;
 use lv_base::{Memory, SourceFail};
 use slot_code::Instruction;
 use slot_compiler::{compiled, slots_in};
@@ -216,17 +219,30 @@ fn places_of<'a>(whole: &Whole<'a>, range: Range, main: u32) -> Result<Places<'a
 }
 
 // The place to which the turn at a place goes, if there is one, and it is of the loop at this offset.
-fn turn_at(places: &Places<'_>, place: usize, offset: u32) -> Option<usize> {
+fn turn_at(places: &Places<'_>, place: usize, offset: u32) -> Option<usize>
+    ensures { IfSome result (λ goal. slice_get places.now.whole.code.now place ≡ Some (i.Turn offset goal)) }
+{
     match places.whole.code.get(place).copied() {
         Some(Instruction::Turn(at, goal)) => { if at == offset { Some(goal) } else { None } }
         _ => None,
     }
 }
 
+// The place to which all turns of a loop go, if one of them stands at this place.
+fn loop_goal(places: &Places<'_>, goals: &TurnGoals<'_>, place: usize, offset: u32) -> Option<usize>
+    ensures turns { IfSome result (λ goal. slice_get places.now.whole.code.now place ≡ Some (i.Turn offset goal)) }
+    ensures only { IfSome result (λ goal. OnlyTurn goals.now offset goal) }
+{
+    let goal = turn_at(places, place, offset)?;
+    let only = goals.only(offset)?;
+    if goal == only { Some(goal) } else { None }
+}
+
 // The node at which each visit of each loop stands: the one to which the turns of its keyword go.
 fn loops_at(alloc: Global, places: &Places<'_>, loops: &[u32]) -> Result<Vec<LoopAt>, Memory>
     ensures { IfOk result (λ r. of.AreLoops (plan_of places.now) r.items) }
 {
+    let goals = TurnGoals::new(alloc, places.whole.code)?;
     let mut found = Vec::new(alloc);
     let mut number = 0;
     for place in places.range.entry..places.range.end {
@@ -234,7 +250,7 @@ fn loops_at(alloc: Global, places: &Places<'_>, loops: &[u32]) -> Result<Vec<Loo
             return Ok(found);
         }
         let at = loops[number];
-        if let Some(goal) = turn_at(places, place, at) {
+        if let Some(goal) = loop_goal(places, &goals, place, at) {
             let node = node_of(places, goal);
             found.push(LoopAt { at, node })?;
             number += 1;

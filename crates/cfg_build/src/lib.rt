@@ -16,14 +16,14 @@
 //! number, but for the turns of loops and of gotos that go back.
 //!
 //! **Loops.** `main`'s graph lists its `while` and `for` loops in the order of their offsets, each with the node to which its turns
-//! go: there the store of each visit stands.
+//! go: there the store of each visit stands. That all turns at a loop's offset go there, and that no call stands at it, is tested.
 //!
 //! **Contracts.** `specs/Steps` and `specs/Follows` say what stands for each instruction at its place, by the meaning of terms in every
 //! store, and `specs/Graphs` what the graph of each function is. `specs/Ranges` says where the code of each function stands, and
 //! `specs/Fitting` that constants, kinds and numbers of elements fit their objects and that each call goes to the entry of a function;
 //! both are tested. So the graphs of all functions follow the code, each from its function's entry on, and `main`'s is that of the
 //! program's `main`; or there are none. `specs/Passing` says of which code graphs are made: there the tests pass and each place has its
-//! number; that the parts make graphs then is a law of function_graph_laws. Not said is which loops of `main` the graph lists.
+//! number; that the parts make graphs then is a law of function_graph_laws. Not said is that the graph lists all loops of `main`.
 //! `specs/Sizes` says how many cells and nodes are too many: a limit is told only of a program that passes it.
 #![tactic(auto)]
 

@@ -202,7 +202,7 @@ fn-flow T functions p graph h few entry loops =
       edges = all-of (EdgeFits graph.nodes T) graph.edges (each-by (Leads T (length graph.nodes) 0 graph.nodes) (EdgeFits graph.nodes T) graph.edges (λ e l. edge-fits T graph.nodes e l) h.part.edges);
       entry_goes_on = on graph.entry;
       targets_go_on = λ k d lt. on (slice_index_or graph.edges k d).to;
-      loops = λ k d lt. (let l = loops k d lt in subst (λ (v : NodeId). v.0 < length graph.nodes) (sym l.1) (h.nodes.places l.0));
+      loops = λ k d lt. (let l = loops k d lt in subst (λ (v : NodeId). v.0 < length graph.nodes) (sym l.node) (h.nodes.places l.goal));
     }
   where
     on : (v : NodeId) → GoesOn graph.nodes graph.edges v

@@ -16,7 +16,7 @@ use Rattle.block_laws.proofs.Lists.{false-true, set-other}
 use Rattle.block_laws.proofs.Blocks.{both-true, plain-error}
 use Rattle.block_laws.proofs.Runs.{follows-to}
 use Rattle.edge_chain_laws.proofs.Along.{chains_keep_visits}
-use Rattle.join_laws.specs.Visits.{BlocksKeepLoops, ChainsKeepLoops, Depends, IsGoal, IsNeeded, IsPath, ReadsCell, ReadsFirst, SetsCell}
+use Rattle.join_laws.specs.Visits.{BlocksKeepLive, BlocksKeepLoops, ChainsKeepLoops, Depends, IsGoal, IsNeeded, IsPath, ReadsCell, ReadsFirst, SetsCell}
 
 or-one : (a b : Bool) → a ≡ true → (a || b) ≡ true
 or-one true b e = refl
@@ -111,6 +111,12 @@ blocks_keep_loops g h plan flow wide is draws k l after there run =
         ],
       ),
     )
+
+pub blocks_keep_live : BlocksKeepLive
+blocks_keep_live g h plan flow wide is draws k l after there run =
+    let (cut, alive) = is.planned.loops k l there in
+    let (end, runs, arrived) = follows-to g h plan draws l.node after flow wide is run alive (inr cut) in
+    (end, (runs, arrived))
 
 pub chains_keep_loops : ChainsKeepLoops
 chains_keep_loops g edges is draws k l after there run = chains_keep_visits g edges draws k l after is there run

@@ -1,5 +1,5 @@
 -- Cells that are read from a node on before they are set, and visits of loops.
-use Rattle.std.specs.Prelude.{ℕ, ℤ, ◌<◌, ◌≡◌, ◌⊎◌, List, [], ◌∷◌, ◌++◌, length, Some, slice_get, slice_index, slice_set}
+use Rattle.std.specs.Prelude.{ℕ, ℤ, ◌<◌, ◌≡◌, ◌⊎◌, Bool, List, [], ◌∷◌, ◌++◌, length, Some, slice_get, slice_index, slice_set}
 use Rattle.bv_term.specs.declared.term.TermId.{TermId}
 use Rattle.bv_term.specs.WellFormed.{Table}
 use Rattle.bv_term.specs.Values.{value}
@@ -11,7 +11,7 @@ use Rattle.c_graph.specs.declared.graph.Operation.TheVariants.{Assume, Set, SetA
 use Rattle.c_graph.specs.Shape.{Flow, IsFlow}
 use Rattle.c_graph.specs.Runs.{RunsTo}
 use Rattle.block_rule.specs.Plans.{Plan, IsError}
-use Rattle.block_rule.specs.Blocked.{IsBlocked}
+use Rattle.block_rule.specs.Blocked.{Agree, IsBlocked}
 use Rattle.edge_chains.specs.Joining.{IsJoined}
 use Rattle.edge_chain_laws.specs.Keeping.{with_edges}
 
@@ -65,6 +65,13 @@ KeepsVisits g h =
     (draws : List ℤ) (k : ℕ) (l : LoopAt) (after : List ℕ) → slice_get g.loops k ≡ Some l → RunsTo g draws l.node after
     → (end : List ℕ) × (RunsTo h draws l.node end × AgreeAt g l.node.0 after end)
 
+-- Each run of the first graph to the node of a loop has one of the second to that node, which draws the same values. Unless an error stands
+-- there, its store holds the same in each cell of the first graph that is marked for the node.
+abbrev pub KeepsMarked : (ℕ → ℕ → Bool) → Flow → Flow → Type 0
+KeepsMarked marks g h =
+    (draws : List ℤ) (k : ℕ) (l : LoopAt) (after : List ℕ) → slice_get g.loops k ≡ Some l → RunsTo g draws l.node after
+    → (end : List ℕ) × (RunsTo h draws l.node end × (IsError g l.node.0 ⊎ Agree (length g.cells) (marks l.node.0) after end))
+
 -- each run of the first graph to the node of a loop has one of the second to that node, which draws the same values and ends in the same
 -- store
 abbrev pub KeepsStores : Flow → Flow → Type 0
@@ -72,6 +79,10 @@ KeepsStores g h = (draws : List ℤ) (k : ℕ) (l : LoopAt) (after : List ℕ) �
 
 abbrev pub BlocksKeepLoops : Type 0
 BlocksKeepLoops = (g h : Flow) (plan : Plan) → IsFlow g → IsFlow h → IsBlocked g h plan → KeepsVisits g h
+
+-- what the plan says to be read from a loop's node on is the same
+abbrev pub BlocksKeepLive : Type 0
+BlocksKeepLive = (g h : Flow) (plan : Plan) → IsFlow g → IsFlow h → IsBlocked g h plan → KeepsMarked plan.live g h
 
 abbrev pub ChainsKeepLoops : Type 0
 ChainsKeepLoops = (g : Flow) (edges : List Edge) → IsJoined g.nodes g.loops g.entry g.edges edges → KeepsStores g (with_edges g edges)

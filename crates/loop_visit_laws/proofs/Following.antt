@@ -82,7 +82,7 @@ module _ (t : Parts) (order : List ℕ) (p : Flows) (flows : AreFlows p) (f : Pr
     -- the machine stands at a turn of the loop, and the run at that place's node
     module _ (o : Machine) (goal : ℕ) (here : slice_get code o.place ≡ Some (i.Turn l.at goal)) (shown : (o.st).store ≡ values) (s : Spot) (h : Stands code f.numbers f.ranges g p know inputs o s) where
       goes : goal ≡ v.goal
-      goes = v.all o.place goal here
+      goes = v.only.all o.place goal here
 
       inside : is_inside h.range goal ≡ true
       inside = in_range code f.numbers f.ranges g p know inputs o s h (i.Turn l.at goal) here
@@ -151,7 +151,7 @@ loop-visits-follow t order p inputs l values typed ordered flows f v (turns, run
     ends : Ends (link_of p.main (links_in t order))
     ends =
         subst (λ (main : Option ℕ). Ends (main_link main (code_of (tree_of t) order))) f.main
-        (turns-as-tree (tree_of t) order typed ordered (λ op kind a b. converting t.model op kind a b) (converting-agrees t.model) (graph_way (program_setting t order)) (graph-way-suits (program_setting t order) is_laid) l.at v.uncalled [] inputs turns
+        (turns-as-tree (tree_of t) order typed ordered (λ op kind a b. converting t.model op kind a b) (converting-agrees t.model) (graph_way (program_setting t order)) (graph-way-suits (program_setting t order) is_laid) l.at v.only.uncalled [] inputs turns
         ∙ ap (spent_at l.at) run ∙ ap (λ (b : Bool). choose b (Some values) None) (eq-eqb l.at l.at refl))
 
     by-link : (o : Option Link) → link_of p.main (links_in t order) ≡ o → Ends o → (taken : ℕ) × (store : List ℕ) × FunctionsRunTo p (take taken inputs) (spot p.main l.node [] store) × Shows (program_setting t order) values store

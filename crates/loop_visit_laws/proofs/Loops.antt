@@ -9,8 +9,8 @@ use Rattle.cfg_build.specs.Graphs.{program_code, program_setting}
 use Rattle.code_flow_laws.proofs.Graphs.{function-of, place-of, is-node, node-of}
 use Rattle.cfg_build.specs.Steps.{node_id}
 use Rattle.cfg_build.specs.Follows.{node_of}
-use Rattle.slot_turn_laws.specs.Turns.{NoCallAt}
-use Rattle.loop_visit_laws.specs.Loops.{AllTurnTo, LoopsTurn}
+use Rattle.loop_turns.specs.Turning.{OnlyTurn}
+use Rattle.loop_visit_laws.specs.Loops.{LoopsTurn}
 
 pub loops-turn : LoopsTurn
 loops-turn t order p f q l m h =
@@ -30,8 +30,7 @@ loops-turn t order p f q l m h =
       main = m;
       goal = h.goal;
       inside = inside;
-      all = subst (λ (xs : List Instruction). AllTurnTo xs l.at h.goal) m.code h.all;
-      uncalled = subst (λ (xs : List Instruction). NoCallAt xs l.at) m.code h.uncalled;
+      only = subst (λ (xs : List Instruction). OnlyTurn xs l.at h.goal) m.code h.only;
       number = number;
       numbered = numbered;
       node = h.node ∙ named;

@@ -30,6 +30,11 @@ pub answer_comes_back :
 answer_comes_back t order p (Ok g) typed ordered flows follows is = (inlined_graphs_stand t order p g typed ordered flows follows is).1
 answer_comes_back t order p (Err e) typed ordered flows follows is = tt
 
+-- what is known of each graph with the copies holds of the answer
+pub answer_visits : (p : Flows) (Visits : Flow → Type 0) (r : Result Flow SourceFail) → ((g : Flow) → IsInlining p g → Visits g) → IfOk r (λ g. IsInlining p g) → IfOk r Visits
+answer_visits p Visits (Ok g) each is = each g is
+answer_visits p Visits (Err e) each is = tt
+
 -- ---- Refusals
 
 -- the graph that stands where parts make none has two nodes and no call

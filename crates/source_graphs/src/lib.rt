@@ -5,7 +5,10 @@ ghost use Rattle.std.specs.Prelude.{IfErr, IfOk};
 ghost use Rattle.c_typed.specs.Parts.{tree_of};
 ghost use Rattle.program_graphs.specs.Standing.{ErrorsFollow, StandsFor};
 ghost use Rattle.program_graphs.specs.Returning.{ErrorsComeBack};
+ghost use Rattle.cfg_build.specs.Graphs.{program_setting};
+ghost use Rattle.program_visits.specs.Visiting.{VisitsFollow};
 ghost use Rattle.source_graphs.specs.Refusals.{IsTooBig};
+ghost use Rattle.source_graphs.specs.Visits.{VisitsInBlocks};
 
 use block_join::join_blocks;
 use c_graph::Graph;
@@ -20,6 +23,7 @@ use lv_base::{Memory, Model, SourceFail};
 use lv_outside::{FileFail, Folder, Got, HostFolder};
 use run_replay::orders_agree;
 use source_graph_laws::joined_graphs_stand;
+use source_visit_laws::inlined_visits_follow;
 use std::alloc::{AllocError, Global};
 use std::rt::Files;
 
@@ -64,16 +68,19 @@ pub fn examined(alloc: Global, source: &[u8], model: Model) -> Result<Examined, 
 }
 
 /// The graph of a program with each call a copy, a node for each instruction: each run of the program that ends in an error has a run
-/// of the graph to that error, and each run of the graph to an error is one of the program. Fails with `Over` for limit 4 or 5.
+/// of the graph to that error, and each run of the graph to an error is one of the program. Each visit of a listed loop has a run to the
+/// loop's node, in a store that shows what the objects hold. Fails with `Over` for limit 4 or 5.
 pub fn whole_graph(alloc: Global, examined: &Examined) -> Result<Graph, SourceFail>
     ensures follow { IfOk result (ErrorsFollow (tree_of examined.now.typed)) }
     ensures back { IfOk result (ErrorsComeBack (tree_of examined.now.typed)) }
+    ensures visits { IfOk result (VisitsFollow (program_setting examined.now.typed examined.now.order) (tree_of examined.now.typed)) }
     ensures limits { IfErr result (IsTooBig examined.now.typed examined.now.order) }
 {
     orders_agree();
     typed_code_passes();
     following_makes_flows();
     built_is_sparse();
+    inlined_visits_follow();
     let typed = examined.typed();
     let _model = typed.model();
     let _order = examined.order();
@@ -83,9 +90,11 @@ pub fn whole_graph(alloc: Global, examined: &Examined) -> Result<Graph, SourceFa
 }
 
 /// The graph of a program's blocks: each run of the program that ends in an error has a run of the graph to that error, and each run of the
-/// graph to an error is one of the program. Fails with `Over` for limit 4 or 5, which the graph of its instructions passes.
+/// graph to an error is one of the program. Each visit of a listed loop has a run to the loop's node, in a store that shows what the objects
+/// hold in the cells that are needed there. Fails with `Over` for limit 4 or 5, which the graph of its instructions passes.
 pub fn blocks_of(alloc: Global, examined: &Examined) -> Result<Graph, SourceFail>
     ensures stands { IfOk result (λ g. StandsFor g (tree_of examined.now.typed)) }
+    ensures visits { IfOk result (VisitsInBlocks (program_setting examined.now.typed examined.now.order) (tree_of examined.now.typed)) }
     ensures limits { IfErr result (IsTooBig examined.now.typed examined.now.order) }
 {
     joined_graphs_stand();

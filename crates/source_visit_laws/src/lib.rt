@@ -4,8 +4,8 @@
 
 ghost use Rattle.source_visit_laws.specs.Laws.{InlinedVisitsFollow, VisitsHoldThere};
 
-/// Each visit of a loop of a typed program whose code the function graphs follow has a run of the graph with all calls inlined to the loop's
-/// node, which draws the same values, in a store that shows what the objects hold.
+/// Each visit of a listed loop of a typed program whose code the function graphs follow has a run of the graph with all calls inlined to the
+/// loop's node, which draws the same values, in a store that shows what the objects hold.
 pub fn inlined_visits_follow()
     ensures { InlinedVisitsFollow }
 {}

@@ -2,8 +2,10 @@ use Rattle.std.proofs.Common.{inl, subst}
 use Rattle.std.proofs.lemmas.Result.{err_from_is_err_and}
 use Rattle.c_typed.specs.Facts.{IsTyped}
 use Rattle.c_typed.specs.Parts.{tree_of}
+use Rattle.cfg_build.specs.Graphs.{program_setting}
+use Rattle.program_visits.specs.Visiting.{VisitsFollow}
 use Rattle.source_graphs.specs.Refusals.IsTooBig.{parts}
-use Rattle.source_graphs.proofs.Standing.{answer_comes_back, answer_follows, answer_refused}
+use Rattle.source_graphs.proofs.Standing.{answer_comes_back, answer_follows, answer_refused, answer_visits}
 use Rattle.source_graphs.proofs.whole_graph.Goals as goal
 
 pub returns-clause-follow : goal.returns-clause-follow
@@ -25,6 +27,17 @@ returns-clause-back c =
     answer_comes_back t order c.in_ok-graphs.graphs c.inline.result typed
     (c.orders_agree.ensures (tree_of t) order c.order-order.ensures.examined.ordered)
     c.main-main.ensures.flows follows (c.inline.ensures.whole (c.built_is_sparse.ensures t order c.in_ok-graphs.graphs (inl follows)))
+
+pub returns-clause-visits : goal.returns-clause-visits
+returns-clause-visits c =
+    let t = c.args.examined.now.typed in
+    let order = c.args.examined.now.order in
+    let typed : IsTyped (tree_of t) = subst (λ x. IsTyped (tree_of x)) c.typed-typed.ensures.value c.model-model.ensures.typed in
+    let follows = c.in_ok-graphs.ensures.whole c.following_makes_flows.ensures (c.typed_code_passes.ensures t order typed c.order-order.ensures.examined.ordered) in
+    let ordered = c.orders_agree.ensures (tree_of t) order c.order-order.ensures.examined.ordered in
+    answer_visits c.in_ok-graphs.graphs (VisitsFollow (program_setting t order) (tree_of t)) c.inline.result
+    (λ g is. c.inlined_visits_follow.ensures t order c.in_ok-graphs.graphs g typed ordered c.main-main.ensures.flows follows is)
+    (c.inline.ensures.whole (c.built_is_sparse.ensures t order c.in_ok-graphs.graphs (inl follows)))
 
 pub returns-clause-limits : goal.returns-clause-limits
 returns-clause-limits c =
