@@ -5,13 +5,14 @@
 
 PROGRAM is lazic; the parts are `damage`, `memory`, `outside`, `stack`, `made` and `mutated`, all of them where none is named. Whatever is
 done to it, the program ends by itself, with one line of the manual's forms on standard output and its status, and nothing on standard
-error; a damaged certificate is accepted only where it is the one that was written; want of memory changes no answer but to NO MEMORY; a
-made program's verdict agrees with its replays, and with what gcc's sanitizers say of it on random inputs where there is a gcc. It prints
-the tries by kind with their answers, and ends with status 1 where something is otherwise.
+error; no certificate of an insecure source is accepted, however one of a source like it is damaged; want of memory changes no answer but
+to NO MEMORY; a made program's verdict agrees with its replays, and with what gcc's sanitizers say of it on random inputs where there is a
+gcc. It prints the tries by kind with their answers, and ends with status 1 where something is otherwise.
 """
 import argparse
 import collections
 import concurrent.futures
+import hashlib
 import pathlib
 import random
 import re
@@ -58,6 +59,8 @@ SAFE = HEAD + """int main() {
 """
 # The same over cells of eight bits, since each byte of its certificate is tried.
 NARROW = SAFE.replace("  int ", "  unsigned char ")
+# A run of this one meets the error: its certificates are those of the other one with its hash.
+INSECURE = NARROW.replace("opened = 0; }", "opened = 1; }")
 UNSAFE = HEAD + """int main() {
   int x = __VERIFIER_nondet_int();
   int y = __VERIFIER_nondet_int();
@@ -79,7 +82,7 @@ lock = threading.Lock()
 
 def note(kind, answer):
     with lock:
-        found[kind][re.sub(r"\d+", "N", answer)] += 1
+        found[kind][re.sub(r"\d+", "N", re.sub(r"[0-9a-f]{64}", "HASH", answer))] += 1
 
 
 def complain(kind, what, source=None):
@@ -125,24 +128,30 @@ def damaged(content):
 
 
 def damage(program, args):
-    for name, source in (("safe", NARROW), ("unsafe", UNSAFE), ("calls", CALLS)):
+    for name, source, insecure in (("safe", NARROW, INSECURE), ("unsafe", UNSAFE, None), ("calls", CALLS, None)):
         with tempfile.TemporaryDirectory() as room:
-            file, cert, values = (f"{room}/{it}" for it in ("a.c", "cert", "run"))
+            file, other, cert, values = (f"{room}/{it}" for it in ("a.c", "b.c", "cert", "run"))
             pathlib.Path(file).write_text(source)
             answered("damage: verify", [program, "verify", file, "--cert", cert, "--run", values])
 
             def tried(number, verb, written, content):
                 bad = f"{written}{number}"
                 pathlib.Path(bad).write_bytes(content)
-                answer = answered(f"damage: {verb} {name}", [program, verb, file, bad])
+                checked = other if verb == "check insecure" else file
+                answer = answered(f"damage: {verb} {name}", [program, verb.split()[0], checked, bad])
                 pathlib.Path(bad).unlink()
-                if verb == "check" and answer and answer.line == "ACCEPTED":
-                    complain("damage", f"{name}: another certificate is accepted: {content[:60]!r}..")
+                if verb == "check insecure" and answer and answer.line == "ACCEPTED":
+                    complain("damage", f"{name}: a certificate of an insecure source is accepted: {content[:60]!r}..")
 
             for verb, written in (("check", cert), ("replay", values)):
                 if pathlib.Path(written).exists():
                     content = pathlib.Path(written).read_bytes()
                     in_all(args.jobs, tried, [(k, verb, written, it) for k, it in enumerate(damaged(content))])
+            if insecure and pathlib.Path(cert).exists():
+                pathlib.Path(other).write_text(insecure)
+                own, its = (hashlib.sha256(it.encode()).hexdigest().encode() for it in (source, insecure))
+                content = pathlib.Path(cert).read_bytes().replace(own, its)
+                in_all(args.jobs, tried, [(k, "check insecure", cert, it) for k, it in enumerate([content, *damaged(content)])])
 
 
 # ---- Want of memory

@@ -466,7 +466,7 @@ pub mod process {
     pub trait Abort {}
 }
 pub mod io {
-    pub use std::io::{Error, ErrorKind, Read, Result, Write};
+    pub use std::io::{Error, ErrorKind, IsTerminal, Read, Result, Write};
     pub fn writer<R>(_: &R) -> std::io::Stdout {
         std::io::stdout()
     }
@@ -517,7 +517,17 @@ pub mod time {
             self.0
         }
     }
-    pub use std::time::{Duration, Instant};
+    #[derive(Clone, Copy)]
+    pub struct Instant(std::time::Instant);
+    impl Instant {
+        pub fn now<R: ?Sized>(_: &R) -> Result<Instant, ()> {
+            Ok(Instant(std::time::Instant::now()))
+        }
+        pub fn elapsed<R: ?Sized>(&self, _: &R) -> Result<Duration, ()> {
+            Ok(self.0.elapsed())
+        }
+    }
+    pub use std::time::Duration;
 }
 pub mod thread {
     use super::{AllocError, HostRuntime, Vec};
@@ -548,6 +558,11 @@ pub trait AllocGlobal {
     }
 }
 impl AllocGlobal for HostRuntime {}
+impl HostRuntime {
+    pub fn stderr(&self) -> std::io::Stderr {
+        std::io::stderr()
+    }
+}
 pub trait Print {}
 impl Print for HostRuntime {}
 pub trait Eprint {}

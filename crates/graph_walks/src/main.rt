@@ -1,15 +1,18 @@
 //! `graph_walks ROUNDS FILE..` makes the graphs of each source under both data models: that of its flat code with each call a copy, and
 //! that of its blocks. It walks each graph so many times on values of chance, and compares how each walk ends with how the program's
 //! replay ends on the same values: the same error at the same offset behind the same number of values, or no error. It prints each
-//! difference, for each source and model how many there were, and at the end how many walks. It ends with status 1 where there is a
-//! difference or a source that has no graph.
+//! difference, for each source and model how many there were, and at the end how many walks. A graph that is larger than its source allows
+//! counts as a difference: more than 16 nodes for each token and function before calls are copies, or two saved cells for each token; or
+//! any cell, error or choice where `main` has no statement. It ends with status 1 where there is a difference or a source that has no graph.
 #![tactic(auto)]
 
 mod chance;
 mod comparing;
+mod sizes;
 mod walking;
 
 use crate::comparing::{Kept, Tally, compare};
+use crate::sizes::{are_small, is_bare};
 use block_join::join_blocks;
 use lv_base::{Model, SourceFail};
 use source_graphs::{LoadFail, examined, load, whole_graph};
@@ -40,6 +43,14 @@ fn sum(first: Tally, second: Tally) -> Tally {
     }
 }
 
+// A graph that is larger than it may be counts as a walk that ended in another way.
+fn tally_of(is_well: bool) -> Tally {
+    Tally {
+        walks: 0,
+        others: u64::from(!is_well),
+    }
+}
+
 // Walks both graphs of a source under a data model.
 fn walks_of<R: Print>(
     alloc: Global,
@@ -49,11 +60,14 @@ fn walks_of<R: Print>(
     rounds: u32,
 ) -> Result<Tally, SourceFail> {
     let examined = examined(alloc, source, model)?;
+    let small = are_small(alloc, source, &examined)?;
     let graph = whole_graph(alloc, &examined)?;
     let whole = compare(alloc, rt, &examined, &graph, Kept::All, rounds)?;
+    let bare = is_bare(alloc, source, &graph)?;
     let blocks = join_blocks(alloc, graph)?;
     let joined = compare(alloc, rt, &examined, &blocks, Kept::Errors, rounds)?;
-    Ok(sum(whole, joined))
+    let bare = bare && is_bare(alloc, source, &blocks)?;
+    Ok(sum(sum(whole, joined), tally_of(small && bare)))
 }
 
 // Tries a source under a data model, and prints how many walks ended in another way. A source that has no graph counts as one.
