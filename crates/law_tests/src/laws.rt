@@ -438,3 +438,17 @@ fn answers_to_requests() {
     request_answers::zero_is_certified();
     request_answers::unsafe_reaches();
 }
+
+// Of what witnesses state.
+#[test]
+fn laws_of_witnesses() {
+    witness_truth_laws::bits_are_read();
+    witness_truth_laws::written_has_value();
+    witness_truth_laws::written_is_true();
+    witness_truth_laws::text_is_written();
+    witness_text_laws::texts_are_read();
+    witness_text_laws::trees_are_shaped();
+    witness_visit_laws::inlined_cells_stand();
+    witness_visit_laws::invariants_are_true();
+    witness_visit_laws::marked_invariants_are_true();
+}

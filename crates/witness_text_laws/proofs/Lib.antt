@@ -1,0 +1,4 @@
+pub mod Forming
+pub mod Steps
+pub mod Digits
+pub mod Spelled

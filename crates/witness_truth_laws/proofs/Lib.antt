@@ -1,0 +1,9 @@
+pub mod Promoting
+pub mod Bits
+pub mod Reading
+pub mod Valuing
+pub mod Truths
+pub mod Naming
+pub mod Concluding
+pub mod Lines
+pub mod Wording

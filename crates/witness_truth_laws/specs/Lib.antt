@@ -1,0 +1,4 @@
+pub mod Written
+pub mod Trees
+pub mod Telling
+pub mod Laws

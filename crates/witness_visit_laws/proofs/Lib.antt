@@ -1,0 +1,3 @@
+pub mod Laying
+pub mod Seeing
+pub mod Stating
