@@ -50,7 +50,7 @@ def run(program, source):
 
 
 def largest(program, make):
-    """The most repetitions that pass all limits, up to 195,000."""
+    """The most repetitions that pass all limits, up to 195,000 and to one in 500, and what the program prints of the first that do not."""
     good, bad = 1, 2
     while bad < 195_000 and "refused" not in run(program, make(bad))[0]:
         good, bad = bad, 2 * bad
@@ -80,7 +80,7 @@ def main(program, *shapes):
         row += [blocks[it] for it in ("with-edges", "edges", "operations", "saved", "seconds")] + [str(memory)]
         print("| " + " | ".join(row) + " |")
         why = next((line for line in refused.splitlines() if line.startswith("refused")), "none")
-        print(f"one step more: {why}", file=sys.stderr)
+        print(f"{shape}, beyond: {why}", file=sys.stderr)
 
 
 main(*sys.argv[1:])

@@ -149,6 +149,9 @@ def damage(program, args):
                     in_all(args.jobs, tried, [(k, verb, written, it) for k, it in enumerate(damaged(content))])
             if insecure and pathlib.Path(cert).exists():
                 pathlib.Path(other).write_text(insecure)
+                answer = answered(f"damage: verify insecure {name}", [program, "verify", other])
+                if not answer or not answer.line.startswith("UNSAFE"):
+                    complain("damage", f"{name}: the insecure source is not unsafe")
                 own, its = (hashlib.sha256(it.encode()).hexdigest().encode() for it in (source, insecure))
                 content = pathlib.Path(cert).read_bytes().replace(own, its)
                 in_all(args.jobs, tried, [(k, "check insecure", cert, it) for k, it in enumerate([content, *damaged(content)])])
