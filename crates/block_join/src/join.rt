@@ -2,7 +2,7 @@
 ghost use Rattle.std.specs.Prelude.{IfOk, IsTrue};
 ghost use Rattle.program_graphs.specs.Returning.{ComesBack};
 ghost use Rattle.join_laws.specs.Keeping.{KeepsErrors};
-ghost use Rattle.join_laws.specs.Visits.{KeepsMarked, KeepsVisits};
+ghost use Rattle.join_laws.specs.Visits.{KeepsMarked, KeepsVisits, MarksNeeded};
 ghost use Rattle.walk_states.specs.Known.{plan_of};
 ghost use Rattle.block_join.specs.Joined.{BlocksReturn, Stays};
 ghost use Rattle.block_join.specs.Living.{live_at};
@@ -48,6 +48,7 @@ pub fn join_blocks_live(alloc: Global, graph: Graph) -> Result<Joined, Memory>
     ensures keeps { IfOk result (λ j. KeepsErrors graph j.graph) }
     ensures visits { IfOk result (λ j. KeepsVisits graph j.graph) }
     ensures marked { IfOk result (λ j. KeepsMarked (live_at j.live) graph j.graph) }
+    ensures needed { IfOk result (λ j. MarksNeeded (live_at j.live) graph) }
     ensures back { IfOk result (λ j. ComesBack graph j.graph) }
 {
     let made = attempted(alloc, &graph)?;
@@ -86,6 +87,7 @@ fn have_same_runs(
     ensures keeps { IfOk result (λ b. IsTrue b → KeepsErrors graph.now blocked.now) }
     ensures visits { IfOk result (λ b. IsTrue b → KeepsVisits graph.now blocked.now) }
     ensures marked { IfOk result (λ b. IsTrue b → KeepsMarked (plan_of known.now).live graph.now blocked.now) }
+    ensures needed { IfOk result (λ b. IsTrue b → MarksNeeded (plan_of known.now).live graph.now) }
     ensures back { IfOk result (λ b. IsTrue b → BlocksReturn graph.now blocked.now) }
 {
     let _entry = graph.entry();

@@ -16,7 +16,7 @@ use Rattle.block_laws.proofs.Lists.{false-true, set-other}
 use Rattle.block_laws.proofs.Blocks.{both-true, plain-error}
 use Rattle.block_laws.proofs.Runs.{follows-to}
 use Rattle.edge_chain_laws.proofs.Along.{chains_keep_visits}
-use Rattle.join_laws.specs.Visits.{BlocksKeepLive, BlocksKeepLoops, ChainsKeepLoops, Depends, IsGoal, IsNeeded, IsPath, ReadsCell, ReadsFirst, SetsCell}
+use Rattle.join_laws.specs.Visits.{BlocksKeepLive, BlocksKeepLoops, ChainsKeepLoops, PlansMarkNeeded, Depends, IsGoal, IsNeeded, IsPath, ReadsCell, ReadsFirst, SetsCell}
 
 or-one : (a b : Bool) → a ≡ true → (a || b) ≡ true
 or-one true b e = refl
@@ -117,6 +117,13 @@ blocks_keep_live g h plan flow wide is draws k l after there run =
     let (cut, alive) = is.planned.loops k l there in
     let (end, runs, arrived) = follows-to g h plan draws l.node after flow wide is run alive (inr cut) in
     (end, (runs, arrived))
+
+pub plans_mark_needed : PlansMarkNeeded
+plans_mark_needed g h plan is draws k l after there run c lt needed =
+    let (path, store, whole, along) = run in
+    let reached : plan.reached l.node.0 ≡ true = reached-along g plan is.planned path g.entry store draws l.node after is.planned.entry along in
+    let (way, (w, (ops, leads, goal, r))) = needed in
+    needed-live g plan is.planned c lt way l.node.0 w ops reached goal leads r
 
 pub chains_keep_loops : ChainsKeepLoops
 chains_keep_loops g edges is draws k l after there run = chains_keep_visits g edges draws k l after is there run

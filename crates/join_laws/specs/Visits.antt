@@ -1,5 +1,5 @@
 -- Cells that are read from a node on before they are set, and visits of loops.
-use Rattle.std.specs.Prelude.{ℕ, ℤ, ◌<◌, ◌≡◌, ◌⊎◌, Bool, List, [], ◌∷◌, ◌++◌, length, Some, slice_get, slice_index, slice_set}
+use Rattle.std.specs.Prelude.{ℕ, ℤ, ◌<◌, ◌≡◌, ◌⊎◌, Bool, true, List, [], ◌∷◌, ◌++◌, length, Some, slice_get, slice_index, slice_set}
 use Rattle.bv_term.specs.declared.term.TermId.{TermId}
 use Rattle.bv_term.specs.WellFormed.{Table}
 use Rattle.bv_term.specs.Values.{value}
@@ -72,6 +72,12 @@ KeepsMarked marks g h =
     (draws : List ℤ) (k : ℕ) (l : LoopAt) (after : List ℕ) → slice_get g.loops k ≡ Some l → RunsTo g draws l.node after
     → (end : List ℕ) × (RunsTo h draws l.node end × (IsError g l.node.0 ⊎ Agree (length g.cells) (marks l.node.0) after end))
 
+-- each cell of the graph that is needed at the node of a loop to which some run comes is marked for the node
+abbrev pub MarksNeeded : (ℕ → ℕ → Bool) → Flow → Type 0
+MarksNeeded marks g =
+    (draws : List ℤ) (k : ℕ) (l : LoopAt) (after : List ℕ) → slice_get g.loops k ≡ Some l → RunsTo g draws l.node after
+    → (c : ℕ) → c < length g.cells → IsNeeded g l.node.0 c → marks l.node.0 c ≡ true
+
 -- each run of the first graph to the node of a loop has one of the second to that node, which draws the same values and ends in the same
 -- store
 abbrev pub KeepsStores : Flow → Flow → Type 0
@@ -83,6 +89,10 @@ BlocksKeepLoops = (g h : Flow) (plan : Plan) → IsFlow g → IsFlow h → IsBlo
 -- what the plan says to be read from a loop's node on is the same
 abbrev pub BlocksKeepLive : Type 0
 BlocksKeepLive = (g h : Flow) (plan : Plan) → IsFlow g → IsFlow h → IsBlocked g h plan → KeepsMarked plan.live g h
+
+-- what is needed at a loop the plan says to be read from there on
+abbrev pub PlansMarkNeeded : Type 0
+PlansMarkNeeded = (g h : Flow) (plan : Plan) → IsBlocked g h plan → MarksNeeded plan.live g
 
 abbrev pub ChainsKeepLoops : Type 0
 ChainsKeepLoops = (g : Flow) (edges : List Edge) → IsJoined g.nodes g.loops g.entry g.edges edges → KeepsStores g (with_edges g edges)

@@ -5,7 +5,7 @@
 #![tactic(auto)]
 
 ghost use Rattle.join_laws.specs.Keeping.{BlocksKeep, ChainsKeep};
-ghost use Rattle.join_laws.specs.Visits.{BlocksKeepLive, BlocksKeepLoops, ChainsKeepLoops};
+ghost use Rattle.join_laws.specs.Visits.{BlocksKeepLive, BlocksKeepLoops, ChainsKeepLoops, PlansMarkNeeded};
 
 /// Each error that a run of a graph meets, a run of the graph of its blocks meets, with the same values.
 pub fn blocks_keep()
@@ -26,6 +26,11 @@ pub fn blocks_keep_loops()
 /// And the same in each cell that the plan says to be read from there on.
 pub fn blocks_keep_live()
     ensures { BlocksKeepLive }
+{}
+
+/// Each cell that is needed at a loop to which some run comes is one that the plan says to be read from there on.
+pub fn plans_mark_needed()
+    ensures { PlansMarkNeeded }
 {}
 
 /// Each visit of a loop by a run of a graph, a run of the graph with joined chains makes, with the same values and the same store.

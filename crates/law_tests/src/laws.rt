@@ -314,6 +314,7 @@ fn visits_of_loops() {
     source_visit_laws::visits_hold();
     join_laws::blocks_keep_loops();
     join_laws::blocks_keep_live();
+    join_laws::plans_mark_needed();
     join_laws::chains_keep_loops();
 }
 

@@ -1,7 +1,7 @@
 use Rattle.walk_states.specs.Known.{plan_of}
 use Rattle.block_back_laws.proofs.Runs.{block_paths_come_back}
 use Rattle.join_laws.proofs.Errors.{blocks_keep}
-use Rattle.join_laws.proofs.Visits.{blocks_keep_live, blocks_keep_loops}
+use Rattle.join_laws.proofs.Visits.{blocks_keep_live, blocks_keep_loops, plans_mark_needed}
 use Rattle.block_follow.proofs.Growing.{both, weaken}
 use Rattle.block_join.proofs.join.have_same_runs.Goals as goal
 
@@ -21,6 +21,12 @@ pub returns-clause-marked : goal.returns-clause-marked
 returns-clause-marked c =
     weaken c.follows_rule.result _ _
     (λ b is t. blocks_keep_live c.args.graph.now c.args.blocked.now (plan_of c.args.known.now) c.entry-entry.ensures.flow c.entry-start.ensures.flow (is t))
+    c.follows_rule.ensures.blocked
+
+pub returns-clause-needed : goal.returns-clause-needed
+returns-clause-needed c =
+    weaken c.follows_rule.result _ _
+    (λ b is t. plans_mark_needed c.args.graph.now c.args.blocked.now (plan_of c.args.known.now) (is t))
     c.follows_rule.ensures.blocked
 
 pub returns-clause-keeps : goal.returns-clause-keeps

@@ -1,3 +1,4 @@
+use Rattle.std.proofs.Common.{refl}
 use Rattle.join_laws.specs.Keeping.{KeepsErrors}
 use Rattle.join_laws.specs.Visits.{KeepsMarked, KeepsVisits}
 use Rattle.walk_states.specs.Known.{plan_of}
@@ -33,6 +34,9 @@ returns-in_ok-graph-clause-marked c =
     let first : KeepsMarked marks c.args.graph b = c.in_ok-are_same.ensures.marked c.if-are_same.true in
     marked-on marks c.args.graph b c.in_ok-graph.graph stays.loops first c.in_ok-graph.ensures.visits
 
+pub returns-in_ok-graph-clause-needed : goal.returns-in_ok-graph-clause-needed
+returns-in_ok-graph-clause-needed c = c.in_ok-are_same.ensures.needed c.if-are_same.true
+
 pub returns-in_ok-graph-clause-back : goal.returns-in_ok-graph-clause-back
 returns-in_ok-graph-clause-back c =
     let b = c.in_ok-made.made.graph in
@@ -44,6 +48,9 @@ returns-in_ok-graph-2-clause-visits c = stores-visit c.args.graph c.in_ok-graph-
 
 pub returns-in_ok-graph-2-clause-marked : goal.returns-in_ok-graph-2-clause-marked
 returns-in_ok-graph-2-clause-marked c = stores-marked _ c.args.graph c.in_ok-graph-2.graph c.in_ok-graph-2.ensures.visits
+
+pub returns-in_ok-graph-2-clause-needed : goal.returns-in_ok-graph-2-clause-needed
+returns-in_ok-graph-2-clause-needed c draws k l after there run cell lt needed = refl
 
 pub returns-in_ok-graph-2-clause-back : goal.returns-in_ok-graph-2-clause-back
 returns-in_ok-graph-2-clause-back c = chains-come c.args.graph c.in_ok-graph-2.graph c.in_ok-graph-2.ensures.back
