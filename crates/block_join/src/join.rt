@@ -5,7 +5,7 @@ ghost use Rattle.join_laws.specs.Keeping.{KeepsErrors};
 ghost use Rattle.join_laws.specs.Visits.{KeepsMarked, KeepsVisits, MarksNeeded};
 ghost use Rattle.walk_states.specs.Known.{plan_of};
 ghost use Rattle.block_join.specs.Joined.{BlocksReturn, Stays};
-ghost use Rattle.block_join.specs.Living.{live_at};
+ghost use Rattle.block_join.specs.Living.{live_at, MarksWithin};
 
 use crate::chains::{copied_edge, with_chains};
 use crate::emission::{Draft, Plan};
@@ -48,9 +48,11 @@ pub fn join_blocks_live(alloc: Global, graph: Graph) -> Result<Joined, Memory>
     ensures keeps { IfOk result (λ j. KeepsErrors graph j.graph) }
     ensures visits { IfOk result (λ j. KeepsVisits graph j.graph) }
     ensures marked { IfOk result (λ j. KeepsMarked (live_at j.live) graph j.graph) }
+    ensures within { IfOk result (λ j. MarksWithin (live_at j.live) graph.cells) }
     ensures needed { IfOk result (λ j. MarksNeeded (live_at j.live) graph) }
     ensures back { IfOk result (λ j. ComesBack graph j.graph) }
 {
+    let count = graph.cells().len();
     let made = attempted(alloc, &graph)?;
     let Attempt {
         graph: blocked,
@@ -63,14 +65,14 @@ pub fn join_blocks_live(alloc: Global, graph: Graph) -> Result<Joined, Memory>
         let known = Some(known);
         Ok(Joined {
             graph,
-            live: LiveCells { known },
+            live: LiveCells { count, known },
         })
     } else {
         let graph = with_chains(alloc, graph)?;
         let known = None;
         Ok(Joined {
             graph,
-            live: LiveCells { known },
+            live: LiveCells { count, known },
         })
     }
 }

@@ -1,18 +1,26 @@
 -- The witness of what was verified.
-use Rattle.std.proofs.Common.{◌≡◌, ◌∙◌, inl, inr, refl, sym, ap, subst, ℕ, ℤ, List, false}
+use Rattle.std.proofs.Common.{◌≡◌, ◌∙◌, inl, inr, refl, sym, ap, subst, ℕ, ℤ, List, Bool, false}
 use Rattle.std.specs.Prelude.{Option, Some, None}
 use Rattle.lv_base.specs.declared.kind.Model.{Model}
 use Rattle.lv_base.specs.declared.fault.ErrorKind.{ErrorKind}
 use Rattle.lv_base.specs.declared.fault.ErrorKind.TheVariants.{Reach, Overflow, Zero, Shift, Index, Missing}
 use Rattle.lv_base.specs.declared.place.Place.{Place}
 use Rattle.c_typed.specs.Tree.{Program}
+use Rattle.c_typed.specs.Parts.{Parts, tree_of}
+use Rattle.c_graph.specs.declared.graph.LoopAt.{LoopAt}
 use Rattle.c_graph.specs.Shape.{Flow, IsFlow}
+use Rattle.c_graph.specs.Runs.{Formulas}
+use Rattle.cert_check_laws.proofs.Accepted.{accepted_is_inductive}
+use Rattle.cfg_build.specs.Graphs.{program_setting}
+use Rattle.program_visits.specs.Visiting.{IsLoopOf}
 use Rattle.program_graphs.specs.Standing.{StandsFor}
 use Rattle.source_reading.specs.Reading.{IsReplay}
 use Rattle.source_verdicts.specs.declared.found.Found.{Found}
-use Rattle.source_verdicts.specs.Verified.{IsFound, IsVerified}
+use Rattle.source_verdicts.specs.Verified.{HoldsMap, IsFound, IsVerified}
 use Rattle.source_witnesses.specs.declared.stamp.Stamp.{Stamp}
 use Rattle.source_witnesses.specs.Witnesses.{safe_text, unsafe_text}
+use Rattle.witness_visit_laws.specs.Visited.{InvariantIsTrue, VisitsMarked}
+use Rattle.witness_visit_laws.proofs.Writing.{written-invariants-are-true}
 use Rattle.verdicts.specs.declared.verdict.Verdict.{Verdict}
 use Rattle.verdicts.specs.declared.verdict.Verdict.TheVariants.{Safe, Unsafe, OutOfUnits, OutOfLearn, Accepted, Rejected, Faulty, Over, ReadFault, NoMemory}
 use Rattle.request_answers.specs.Answers.{IsRefused, IsVerifyAnswer}
@@ -69,11 +77,22 @@ witness_behind model stamp v t given name bytes source e f h =
 
 -- ---- What was verified
 
-module _ (p : Program) (g : Flow) (model : Model) (source : List ℕ) (stamp : Stamp) (replay : IsReplay model source p) (stands : StandsFor g p) (flow : IsFlow g) where
-  safe_case : (name text : List ℕ) (f : Found) → IsFound p g source model (Safe text) f → IsWitnessOf name model source stamp (Safe text) (safe_witness_of name source replay.tree model g stamp f)
+module _ (t : Parts) (order : List ℕ) (g : Flow) (marks : ℕ → ℕ → Bool) (model : Model) (source : List ℕ) (stamp : Stamp) (replay : IsReplay model source (tree_of t)) (stands : StandsFor g (tree_of t))
+    (visits : VisitsMarked (program_setting t order) (tree_of t) marks g) (flow : IsFlow g) where
+  abbrev p : Program
+  p = tree_of t
+
+  -- the map of an accepted certificate is inductive, so that what is written of it is true
+  true_there : (text : List ℕ) (m : Formulas) → HoldsMap g source model text m → (l : LoopAt) → IsLoopOf g l → InvariantIsTrue replay.tree model source g marks m l
+  true_there text m held l there =
+      let a = held.proved.is.accepted in
+      written-invariants-are-true replay.tree model t order g marks m a.formulas source l replay.made replay.fits visits flow a.stored.fits
+      (accepted_is_inductive g held.proved.cert flow a) (a.stored.terms ∙ held.terms) (a.stored.at ∙ held.formulas) there
+
+  safe_case : (name text : List ℕ) (f : Found) → IsFound p g source model (Safe text) f → IsWitnessOf name model source stamp (Safe text) (safe_witness_of name source replay.tree model g marks stamp f)
   safe_case name text f found = (
-    safe_text name source replay.tree model g found.0 stamp,
-    ap (safe_witness_of name source replay.tree model g stamp) found.1,
+    safe_text name source replay.tree model g marks found.0 stamp,
+    ap (safe_witness_of name source replay.tree model g marks stamp) found.1,
     record {
       tree = replay.tree;
       read = replay.read;
@@ -82,9 +101,11 @@ module _ (p : Program) (g : Flow) (model : Model) (source : List ℕ) (stamp : S
       graph = g;
       stands = stands;
       flow = flow;
+      marks = marks;
       formulas = found.0;
       held = found.2;
       is = refl;
+      true_there = true_there text found.0 found.2;
     },
   )
 
@@ -107,7 +128,7 @@ module _ (p : Program) (g : Flow) (model : Model) (source : List ℕ) (stamp : S
   unsafe_case name place values text f Index found = refl
   unsafe_case name place values text f Missing found = refl
 
-  found_witness : (name : List ℕ) (v : Verdict) (f : Found) → IsFound p g source model v f → IsWitnessOf name model source stamp v (witness_of name source replay.tree model g stamp v f)
+  found_witness : (name : List ℕ) (v : Verdict) (f : Found) → IsFound p g source model v f → IsWitnessOf name model source stamp v (witness_of name source replay.tree model g marks stamp v f)
   found_witness name (Safe text) f found = safe_case name text f found
   found_witness name (Unsafe kind place values text) f found = unsafe_case name place values text f kind found
   found_witness name (OutOfUnits n) f found = refl
@@ -119,7 +140,7 @@ module _ (p : Program) (g : Flow) (model : Model) (source : List ℕ) (stamp : S
   found_witness name ReadFault f found = refl
   found_witness name NoMemory f found = refl
 
-  pub told_witness : (name : Option (List ℕ)) (told : Verdict × Found) (r : Verdict × Option (List ℕ)) → IsFound p g source model told.0 told.1 → IsTextOf name source replay.tree model g stamp told r → IsWitnessBy name model source stamp r.0 r.1
+  pub told_witness : (name : Option (List ℕ)) (told : Verdict × Found) (r : Verdict × Option (List ℕ)) → IsFound p g source model told.0 told.1 → IsTextOf name source replay.tree model g marks stamp told r → IsWitnessBy name model source stamp r.0 r.1
   told_witness None told r found h = h.1
   told_witness (Some name) told r found (inl h) =
       subst (λ (x : Verdict). IsWitnessOf name model source stamp x r.1) (sym h.0)
@@ -127,7 +148,7 @@ module _ (p : Program) (g : Flow) (model : Model) (source : List ℕ) (stamp : S
   told_witness (Some name) told r found (inr h) =
       subst (λ (x : Verdict). IsWitnessOf name model source stamp x r.1) (sym h.0) h.1
 
-  pub told_answer : (units learn : ℕ) (name : Option (List ℕ)) (told : Verdict × Found) (r : Verdict × Option (List ℕ)) → IsVerified p g source model units learn told.0 → IsTextOf name source replay.tree model g stamp told r → IsVerifyAnswer ⊥ model units learn source r.0
+  pub told_answer : (units learn : ℕ) (name : Option (List ℕ)) (told : Verdict × Found) (r : Verdict × Option (List ℕ)) → IsVerified p g source model units learn told.0 → IsTextOf name source replay.tree model g marks stamp told r → IsVerifyAnswer ⊥ model units learn source r.0
   told_answer units learn None told r is h = subst (λ (x : Verdict). IsVerifyAnswer ⊥ model units learn source x) (sym h.0) (verified p g replay stands flow is)
   told_answer units learn (Some name) told r is (inl h) = subst (λ (x : Verdict). IsVerifyAnswer ⊥ model units learn source x) (sym h.0) (verified p g replay stands flow is)
   told_answer units learn (Some name) told r is (inr h) = no_memory h.0

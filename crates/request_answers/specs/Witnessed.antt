@@ -8,25 +8,28 @@ use Rattle.lv_base.specs.declared.place.Place.{Place}
 use Rattle.c_tree.specs.Tree.{Items}
 use Rattle.c_meaning.specs.Program.{Reaches}
 use Rattle.c_typed.specs.Tree.{Program}
+use Rattle.c_graph.specs.declared.graph.LoopAt.{LoopAt}
 use Rattle.c_graph.specs.Shape.{Flow, IsFlow}
 use Rattle.c_graph.specs.Runs.{Formulas}
 use Rattle.program_graphs.specs.Standing.{StandsFor}
+use Rattle.program_visits.specs.Visiting.{IsLoopOf}
 use Rattle.source_reading.specs.Reading.{source_read, RunsAs}
 use Rattle.source_verdicts.specs.declared.found.Found.{Found}
 use Rattle.source_verdicts.specs.declared.found.Found.TheVariants as found
 use Rattle.source_verdicts.specs.Verified.{HoldsMap}
 use Rattle.source_witnesses.specs.declared.stamp.Stamp.{Stamp}
 use Rattle.source_witnesses.specs.Witnesses.{safe_text, unsafe_text}
+use Rattle.witness_visit_laws.specs.Visited.{InvariantIsTrue}
 use Rattle.request_words.specs.Asked.{Asked, Check, Verify, Generate}
 use Rattle.verdicts.specs.declared.verdict.Verdict.{Verdict}
 use Rattle.verdicts.specs.declared.verdict.Verdict.TheVariants.{Safe, Unsafe, OutOfUnits, OutOfLearn, Accepted, Rejected, Faulty, Over, ReadFault, NoMemory}
 
 -- ---- Which text it is
 
-abbrev pub safe_witness_of : List ℕ → List ℕ → Items → Model → Flow → Stamp → Found → Option (List ℕ)
-safe_witness_of name source tree model g stamp (found.OfMap m) = Some (safe_text name source tree model g m stamp)
-safe_witness_of name source tree model g stamp (found.AtOffset at) = None
-safe_witness_of name source tree model g stamp found.Nothing = None
+abbrev pub safe_witness_of : List ℕ → List ℕ → Items → Model → Flow → (ℕ → ℕ → Bool) → Stamp → Found → Option (List ℕ)
+safe_witness_of name source tree model g marks stamp (found.OfMap m) = Some (safe_text name source tree model g marks m stamp)
+safe_witness_of name source tree model g marks stamp (found.AtOffset at) = None
+safe_witness_of name source tree model g marks stamp found.Nothing = None
 
 abbrev pub offset_witness_of : List ℕ → List ℕ → Items → Model → Stamp → Found → Option (List ℕ)
 offset_witness_of name source tree model stamp (found.AtOffset at) = Some (unsafe_text name source tree model at stamp)
@@ -43,17 +46,17 @@ unsafe_witness_of name source tree model stamp Index f = None
 unsafe_witness_of name source tree model stamp Missing f = None
 
 -- the witness of a verdict, by what was found for it
-abbrev pub witness_of : List ℕ → List ℕ → Items → Model → Flow → Stamp → Verdict → Found → Option (List ℕ)
-witness_of name source tree model g stamp (Safe text) f = safe_witness_of name source tree model g stamp f
-witness_of name source tree model g stamp (Unsafe kind place values text) f = unsafe_witness_of name source tree model stamp kind f
-witness_of name source tree model g stamp (OutOfUnits n) f = None
-witness_of name source tree model g stamp (OutOfLearn n) f = None
-witness_of name source tree model g stamp Accepted f = None
-witness_of name source tree model g stamp (Rejected rejection) f = None
-witness_of name source tree model g stamp (Faulty fault place) f = None
-witness_of name source tree model g stamp (Over number count) f = None
-witness_of name source tree model g stamp ReadFault f = None
-witness_of name source tree model g stamp NoMemory f = None
+abbrev pub witness_of : List ℕ → List ℕ → Items → Model → Flow → (ℕ → ℕ → Bool) → Stamp → Verdict → Found → Option (List ℕ)
+witness_of name source tree model g marks stamp (Safe text) f = safe_witness_of name source tree model g marks stamp f
+witness_of name source tree model g marks stamp (Unsafe kind place values text) f = unsafe_witness_of name source tree model stamp kind f
+witness_of name source tree model g marks stamp (OutOfUnits n) f = None
+witness_of name source tree model g marks stamp (OutOfLearn n) f = None
+witness_of name source tree model g marks stamp Accepted f = None
+witness_of name source tree model g marks stamp (Rejected rejection) f = None
+witness_of name source tree model g marks stamp (Faulty fault place) f = None
+witness_of name source tree model g marks stamp (Over number count) f = None
+witness_of name source tree model g marks stamp ReadFault f = None
+witness_of name source tree model g marks stamp NoMemory f = None
 
 -- the name of the source, where a witness is asked for
 abbrev pub named_for : Option (List ℕ) → List ℕ → Option (List ℕ)
@@ -61,10 +64,10 @@ named_for None source = None
 named_for (Some witness) source = Some source
 
 -- A verdict is told with its witness where one is asked for, or memory runs out.
-abbrev pub IsTextOf : Option (List ℕ) → List ℕ → Items → Model → Flow → Stamp → Verdict × Found → Verdict × Option (List ℕ) → Type 0
-IsTextOf None source tree model g stamp told answer = (answer.0 ≡ told.0) × (answer.1 ≡ None)
-IsTextOf (Some name) source tree model g stamp told answer =
-    ((answer.0 ≡ told.0) × (answer.1 ≡ witness_of name source tree model g stamp told.0 told.1)) ⊎ ((answer.0 ≡ NoMemory) × (answer.1 ≡ None))
+abbrev pub IsTextOf : Option (List ℕ) → List ℕ → Items → Model → Flow → (ℕ → ℕ → Bool) → Stamp → Verdict × Found → Verdict × Option (List ℕ) → Type 0
+IsTextOf None source tree model g marks stamp told answer = (answer.0 ≡ told.0) × (answer.1 ≡ None)
+IsTextOf (Some name) source tree model g marks stamp told answer =
+    ((answer.0 ≡ told.0) × (answer.1 ≡ witness_of name source tree model g marks stamp told.0 told.1)) ⊎ ((answer.0 ≡ NoMemory) × (answer.1 ≡ None))
 
 -- ---- Which answers have one
 
@@ -92,6 +95,7 @@ has_witness NoMemory = false
 -- ---- What it says
 
 -- The witness of a source that is safe has the invariants of a map: that of the certificate, on a graph that stands for the source's tree.
+-- They are written over the cells that are marked, and each is true.
 pub record IsSafeWitness (name : List ℕ) (model : Model) (source : List ℕ) (stamp : Stamp) (text witness : List ℕ) : Type 0 where
   pub tree : Items
   pub read : source_read model source ≡ Ok tree
@@ -100,9 +104,11 @@ pub record IsSafeWitness (name : List ℕ) (model : Model) (source : List ℕ) (
   pub graph : Flow
   pub stands : StandsFor graph program
   pub flow : IsFlow graph
+  pub marks : ℕ → ℕ → Bool
   pub formulas : Formulas
   pub held : HoldsMap graph source model text formulas
-  pub is : witness ≡ safe_text name source tree model graph formulas stamp
+  pub is : witness ≡ safe_text name source tree model graph marks formulas stamp
+  pub true_there : (l : LoopAt) → IsLoopOf graph l → InvariantIsTrue tree model source graph marks formulas l
 
 -- The witness of a source that reaches an error has the place of the call that the values lead to, and the function around it.
 pub record IsUnsafeWitness (name : List ℕ) (model : Model) (source : List ℕ) (stamp : Stamp) (place : Place) (values : List ℤ) (witness : List ℕ) : Type 0 where

@@ -4,6 +4,9 @@ ghost use Rattle.lv_outside.specs.Counts.{Rose};
 ghost use Rattle.c_typed.specs.Parts.{tree_of};
 ghost use Rattle.source_reading.specs.Reading.{IsReplay};
 ghost use Rattle.program_graphs.specs.Standing.{StandsFor};
+ghost use Rattle.cfg_build.specs.Graphs.{program_setting};
+ghost use Rattle.block_join.specs.Living.{live_at};
+ghost use Rattle.witness_visit_laws.specs.Visited.{VisitsMarked};
 ghost use Rattle.task_gen.specs.Generated.{generated};
 ghost use Rattle.request_words.specs.Asked.{plain_learn, plain_model, plain_units};
 ghost use Rattle.request_words.specs.Views.{asked_by};
@@ -108,7 +111,7 @@ fn check_cert<R: Threads + Sync, F: Folder, G: Gate>(
     gate: &G,
 ) -> Verdict
     requires replay { IsReplay checking.model source.now (tree_of parts.now.examined.typed) }
-    requires stands { StandsFor parts.now.graph (tree_of parts.now.examined.typed) }
+    requires stands { StandsFor parts.now.blocks.graph (tree_of parts.now.examined.typed) }
     ensures answer { F.tells folder.old → IsCheckAnswer (Rose (F.read_faults folder.old) (F.read_faults folder.new)) checking.entry.model source.now (F.file folder.old checking.entry.cert.now) result }
     ensures read_fault { result ≡ Verdict.ReadFault → Rose (F.read_faults folder.old) (F.read_faults folder.new) }
     ensures tells { F.tells folder.old → F.tells folder.new }
@@ -116,12 +119,12 @@ fn check_cert<R: Threads + Sync, F: Folder, G: Gate>(
     ensures later { F.read_faults folder.old ≤ F.read_faults folder.new }
     ensures writes { F.write_faults folder.new ≡ F.write_faults folder.old }
 {
-    let _entry = parts.graph.entry();
+    let _entry = parts.blocks.graph.entry();
     match folder.read(alloc, checking.cert, MOST_BYTES) {
         Ok(Got::Bytes(bytes)) => judge(
             rt,
             alloc,
-            &parts.graph,
+            &parts.blocks.graph,
             source,
             checking.model,
             &bytes,
@@ -268,14 +271,16 @@ fn verify_loaded<R: Threads + Sync, G: Gate>(
     requires workers { (1 ≤ budget.workers) × (budget.workers ≤ 64) }
     requires moment { IsMoment stamp.moment }
     requires replay { IsReplay model source.now (tree_of parts.now.examined.typed) }
-    requires stands { StandsFor parts.now.graph (tree_of parts.now.examined.typed) }
+    requires stands { StandsFor parts.now.blocks.graph (tree_of parts.now.examined.typed) }
+    requires marked { VisitsMarked (program_setting parts.now.examined.typed parts.now.examined.order) (tree_of parts.now.examined.typed) (live_at parts.now.blocks.live) parts.now.blocks.graph }
     ensures answer { IsVerifyAnswer ⊥ model budget.units budget.learn source.now result.0 }
     ensures witness { IsWitnessBy (option_map (λ s. s.now) name.entry) model source.now stamp result.0 result.1 }
     ensures silent { has_witness result.0 ≡ false → result.1 ≡ None }
     ensures no_fault { result.0 ≡ Verdict.ReadFault → ⊥ }
 {
-    let _entry = parts.graph.entry();
-    let (examined, graph) = (&parts.examined, &parts.graph);
+    let _entry = parts.blocks.graph.entry();
+    let (examined, graph) = (&parts.examined, &parts.blocks.graph);
     let told = verify(rt, alloc, examined, graph, source, model, budget, gate);
-    with_witness(alloc, name, source, model, &parts.graph, told, stamp)
+    let live = &parts.blocks.live;
+    with_witness(alloc, name, source, model, graph, live, told, stamp)
 }

@@ -3,27 +3,30 @@ ghost use Rattle.std.specs.Prelude.{◌≡◌, ◌≤◌, ◌^◌, length, Match
 ghost use Rattle.c_typed.specs.Parts.{tree_of};
 ghost use Rattle.source_reading.specs.Reading.{IsReplay};
 ghost use Rattle.program_graphs.specs.Standing.{StandsFor};
+ghost use Rattle.cfg_build.specs.Graphs.{program_setting};
+ghost use Rattle.block_join.specs.Living.{live_at};
+ghost use Rattle.witness_visit_laws.specs.Visited.{VisitsMarked};
 ghost use Rattle.request_answers.specs.Answers.{IsRefused, refused_for, limit_for};
 
-use c_graph::Graph;
+use block_join::Joined;
 use c_rules::Examined;
 use lv_base::{Model, SourceFail, place_of};
-use source_graphs::blocks_of;
+use source_graphs::joined_blocks;
 use source_reading::examined;
 use std::alloc::Global;
 use verdicts::Verdict;
 
-/// A typed tree, and the graph that was made of it.
+/// A typed tree, and the graph of the blocks that was made of it, with the cells that show what objects hold at the nodes of loops.
 #[derive(Drop)]
 pub(crate) struct Loaded {
     pub examined: Examined,
-    pub graph: Graph,
+    pub blocks: Joined,
 }
 
 /// The typed tree and the graph of a source, or the answer to it where it is refused.
 pub(crate) fn load_source(alloc: Global, source: &[u8], model: Model) -> Result<Loaded, Verdict>
     requires small { length source.now ≤ 2 ^ 20 }
-    ensures { MatchResult result (λ s. IsReplay model source.now (tree_of s.examined.typed) × StandsFor s.graph (tree_of s.examined.typed)) (λ v. IsRefused model source.now v) }
+    ensures { MatchResult result (λ s. IsReplay model source.now (tree_of s.examined.typed) × (StandsFor s.blocks.graph (tree_of s.examined.typed) × VisitsMarked (program_setting s.examined.typed s.examined.order) (tree_of s.examined.typed) (live_at s.blocks.live) s.blocks.graph)) (λ v. IsRefused model source.now v) }
 {
     match examined(alloc, source, model) {
         Ok(examined) => with_graph(alloc, source, model, examined),
@@ -38,10 +41,10 @@ fn with_graph(
     examined: Examined,
 ) -> Result<Loaded, Verdict>
     requires replay { IsReplay _model _source.now (tree_of examined.typed) }
-    ensures { MatchResult result (λ s. IsReplay _model _source.now (tree_of s.examined.typed) × StandsFor s.graph (tree_of s.examined.typed)) (λ v. IsRefused _model _source.now v) }
+    ensures { MatchResult result (λ s. IsReplay _model _source.now (tree_of s.examined.typed) × (StandsFor s.blocks.graph (tree_of s.examined.typed) × VisitsMarked (program_setting s.examined.typed s.examined.order) (tree_of s.examined.typed) (live_at s.blocks.live) s.blocks.graph)) (λ v. IsRefused _model _source.now v) }
 {
-    match blocks_of(alloc, &examined) {
-        Ok(graph) => Ok(Loaded { examined, graph }),
+    match joined_blocks(alloc, &examined) {
+        Ok(blocks) => Ok(Loaded { examined, blocks }),
         Err(fail) => Err(limit(fail)),
     }
 }

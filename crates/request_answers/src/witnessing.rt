@@ -6,8 +6,10 @@ ghost use Rattle.moment_text.specs.Moments.{IsMoment};
 ghost use Rattle.c_tree.specs.Tree.{Items};
 ghost use Rattle.c_tree.specs.Denotes.{tree_of};
 ghost use Rattle.source_reading.specs.Reading.{source_read};
+ghost use Rattle.block_join.specs.Living.{live_at};
 ghost use Rattle.request_answers.specs.Witnessed.{has_witness, named_for, safe_witness_of, unsafe_witness_of, offset_witness_of, witness_of, is_reach, IsTextOf};
 
+use block_join::LiveCells;
 use c_graph::Graph;
 use c_tree::Unit;
 use lv_base::{ErrorKind, Memory, Model, Text};
@@ -35,16 +37,17 @@ fn of_safe(
     unit: &Unit,
     model: Model,
     graph: &Graph,
+    live: &LiveCells,
     found: &Found,
     stamp: Stamp,
 ) -> Result<Option<Text>, Memory>
     requires small { length source.now ≤ 2 ^ 20 }
     requires moment { IsMoment stamp.moment }
-    ensures { IfOk result (λ t. t ≡ safe_witness_of name.now source.now (tree_of unit.now) model graph.now stamp found.now) }
+    ensures { IfOk result (λ t. t ≡ safe_witness_of name.now source.now (tree_of unit.now) model graph.now (live_at live.now) stamp found.now) }
 {
     match found {
         Found::OfMap(map) => {
-            let text = safe_witness(alloc, name, source, unit, model, graph, map, stamp)?;
+            let text = safe_witness(alloc, name, source, unit, model, graph, live, map, stamp)?;
             Ok(Some(text))
         }
         Found::Nothing => Ok(None),
@@ -108,17 +111,18 @@ fn of_verdict(
     unit: &Unit,
     model: Model,
     graph: &Graph,
+    live: &LiveCells,
     verdict: &Verdict,
     found: &Found,
     stamp: Stamp,
 ) -> Result<Option<Text>, Memory>
     requires small { length source.now ≤ 2 ^ 20 }
     requires moment { IsMoment stamp.moment }
-    ensures text { IfOk result (λ t. t ≡ witness_of name.now source.now (tree_of unit.now) model graph.now stamp verdict.now found.now) }
+    ensures text { IfOk result (λ t. t ≡ witness_of name.now source.now (tree_of unit.now) model graph.now (live_at live.now) stamp verdict.now found.now) }
     ensures silent { has_witness verdict.now ≡ false → IfOk result (λ t. t ≡ None) }
 {
     match verdict {
-        Verdict::Safe(_) => of_safe(alloc, name, source, unit, model, graph, found, stamp),
+        Verdict::Safe(_) => of_safe(alloc, name, source, unit, model, graph, live, found, stamp),
         Verdict::Unsafe(kind, _, _, _) => {
             of_unsafe(alloc, name, source, unit, model, *kind, found, stamp)
         }
@@ -141,17 +145,18 @@ fn with_text(
     unit: &Unit,
     model: Model,
     graph: &Graph,
+    live: &LiveCells,
     told: (Verdict, Found),
     stamp: Stamp,
 ) -> (Verdict, Option<Text>)
     requires small { length source.now ≤ 2 ^ 20 }
     requires moment { IsMoment stamp.moment }
-    ensures text { IsTextOf (Some name.now) source.now (tree_of unit.now) model graph.now stamp told result }
+    ensures text { IsTextOf (Some name.now) source.now (tree_of unit.now) model graph.now (live_at live.now) stamp told result }
     ensures silent { has_witness result.0 ≡ false → result.1 ≡ None }
 {
     let (verdict, found) = told;
     match of_verdict(
-        alloc, name, source, unit, model, graph, &verdict, &found, stamp,
+        alloc, name, source, unit, model, graph, live, &verdict, &found, stamp,
     ) {
         Ok(text) => (verdict, text),
         Err(_) => (Verdict::NoMemory, None),
@@ -166,12 +171,13 @@ pub(crate) fn with_witness(
     source: &[u8],
     model: Model,
     graph: &Graph,
+    live: &LiveCells,
     told: (Verdict, Found),
     stamp: Stamp,
 ) -> (Verdict, Option<Text>)
     requires small { length source.now ≤ 2 ^ 20 }
     requires moment { IsMoment stamp.moment }
-    ensures text { (read : Items) → source_read model source.now ≡ Ok read → IsTextOf (option_map (λ s. s.now) name.entry) source.now read model graph.now stamp told result }
+    ensures text { (read : Items) → source_read model source.now ≡ Ok read → IsTextOf (option_map (λ s. s.now) name.entry) source.now read model graph.now (live_at live.now) stamp told result }
     ensures silent { has_witness result.0 ≡ false → result.1 ≡ None }
 {
     match name {
@@ -180,7 +186,7 @@ pub(crate) fn with_witness(
             (verdict, None)
         }
         Some(name) => match tree(alloc, source) {
-            Ok(unit) => with_text(alloc, name, source, &unit, model, graph, told, stamp),
+            Ok(unit) => with_text(alloc, name, source, &unit, model, graph, live, told, stamp),
             Err(_) => (Verdict::NoMemory, None),
         },
     }

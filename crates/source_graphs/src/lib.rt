@@ -7,10 +7,12 @@ ghost use Rattle.program_graphs.specs.Standing.{ErrorsFollow, StandsFor};
 ghost use Rattle.program_graphs.specs.Returning.{ErrorsComeBack};
 ghost use Rattle.cfg_build.specs.Graphs.{program_setting};
 ghost use Rattle.program_visits.specs.Visiting.{VisitsFollow};
+ghost use Rattle.block_join.specs.Living.{live_at};
+ghost use Rattle.witness_visit_laws.specs.Visited.{CellsStand, VisitsMarked};
 ghost use Rattle.source_graphs.specs.Refusals.{IsTooBig};
 ghost use Rattle.source_graphs.specs.Visits.{VisitsInBlocks};
 
-use block_join::join_blocks;
+use block_join::{Joined, join_blocks_live};
 use c_graph::Graph;
 use c_rules::Examined;
 use call_inline::inline;
@@ -26,6 +28,7 @@ use source_graph_laws::joined_graphs_stand;
 use source_visit_laws::inlined_visits_follow;
 use std::alloc::{AllocError, Global};
 use std::rt::Files;
+use witness_visit_laws::inlined_cells_stand;
 
 // The most bytes that a source may have.
 const MOST_BYTES: usize = 1 << 20;
@@ -69,11 +72,13 @@ pub fn examined(alloc: Global, source: &[u8], model: Model) -> Result<Examined, 
 
 /// The graph of a program with each call a copy, a node for each instruction: each run of the program that ends in an error has a run
 /// of the graph to that error, and each run of the graph to an error is one of the program. Each visit of a listed loop has a run to the
-/// loop's node, in a store that shows what the objects hold. Fails with `Over` for limit 4 or 5.
+/// loop's node, in a store that shows what the objects hold, in cells that lie as the program's layout says. Fails with `Over` for limit 4
+/// or 5.
 pub fn whole_graph(alloc: Global, examined: &Examined) -> Result<Graph, SourceFail>
     ensures follow { IfOk result (ErrorsFollow (tree_of examined.now.typed)) }
     ensures back { IfOk result (ErrorsComeBack (tree_of examined.now.typed)) }
     ensures visits { IfOk result (VisitsFollow (program_setting examined.now.typed examined.now.order) (tree_of examined.now.typed)) }
+    ensures cells { IfOk result (λ g. CellsStand (program_setting examined.now.typed examined.now.order) g.cells) }
     ensures limits { IfErr result (IsTooBig examined.now.typed examined.now.order) }
 {
     orders_agree();
@@ -81,6 +86,7 @@ pub fn whole_graph(alloc: Global, examined: &Examined) -> Result<Graph, SourceFa
     following_makes_flows();
     built_is_sparse();
     inlined_visits_follow();
+    inlined_cells_stand();
     let typed = examined.typed();
     let _model = typed.model();
     let _order = examined.order();
@@ -97,10 +103,21 @@ pub fn blocks_of(alloc: Global, examined: &Examined) -> Result<Graph, SourceFail
     ensures visits { IfOk result (VisitsInBlocks (program_setting examined.now.typed examined.now.order) (tree_of examined.now.typed)) }
     ensures limits { IfErr result (IsTooBig examined.now.typed examined.now.order) }
 {
+    let Joined { graph, live: _ } = joined_blocks(alloc, examined)?;
+    Ok(graph)
+}
+
+/// The graph of [`blocks_of`], with the cells that show at a loop's node what the objects hold at each visit.
+pub fn joined_blocks(alloc: Global, examined: &Examined) -> Result<Joined, SourceFail>
+    ensures stands { IfOk result (λ j. StandsFor j.graph (tree_of examined.now.typed)) }
+    ensures visits { IfOk result (λ j. VisitsInBlocks (program_setting examined.now.typed examined.now.order) (tree_of examined.now.typed) j.graph) }
+    ensures marked { IfOk result (λ j. VisitsMarked (program_setting examined.now.typed examined.now.order) (tree_of examined.now.typed) (live_at j.live) j.graph) }
+    ensures limits { IfErr result (IsTooBig examined.now.typed examined.now.order) }
+{
     joined_graphs_stand();
     let graph = whole_graph(alloc, examined)?;
     let _entry = graph.entry();
-    match join_blocks(alloc, graph) {
+    match join_blocks_live(alloc, graph) {
         Ok(blocks) => Ok(blocks),
         Err(Memory) => Err(SourceFail::Memory),
     }

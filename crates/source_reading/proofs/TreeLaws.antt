@@ -1,5 +1,5 @@
 -- What the layers below answer of a source is what is read of it.
-use Rattle.std.proofs.Common.{inl, inr, ◌⊎◌, ◌≡◌, ℕ, List, refl, ◌∙◌, ap}
+use Rattle.std.proofs.Common.{inl, inr, ◌⊎◌, ◌≡◌, ℕ, List, [], ◌∷◌, refl, ◌∙◌, ap}
 use Rattle.std.specs.Prelude.{Some, None, Result, Ok, Err, IfOk, IfErr, MatchResult}
 use Rattle.lv_base.specs.declared.kind.Model.{Model}
 use Rattle.lv_base.specs.declared.fail.SourceFail.{SourceFail}
@@ -14,6 +14,13 @@ use Rattle.c_tree.specs.Symbols.{signs_of}
 use Rattle.c_tree.specs.Tree.{Items}
 use Rattle.c_parser.specs.StateView.{Answers}
 use Rattle.parse_machine.specs.Machine as ma
+use Rattle.c_run.specs.Breaking.{Broken}
+use Rattle.c_meaning.specs.Good.{Good, or_control}
+use Rattle.c_types.specs.Elaborated.{elaborated}
+use Rattle.c_types.specs.Laws.{SourceFits}
+use Rattle.elaboration_fit_laws.specs.Whole.{SourcesFit}
+use Rattle.elaboration_laws.specs.Read.{IsRead}
+use Rattle.elaboration_offset_laws.specs.Laws.{IsRight, SourcesHold}
 use Rattle.c_rules.specs.Parts.{Parts}
 use Rattle.c_typed.specs.Parts as typed
 use Rattle.source_checks.specs.Refusals.{source_refusal}
@@ -45,7 +52,22 @@ answers_read bytes tokens r fits h = parser_read bytes (ma.parse_of (signs_of to
 
 -- ---- sources
 
-pub accepted_read : (model : Model) (bytes : List ℕ) (tree : Items) (r : Result Parts SourceFail) → tree_read bytes ≡ Ok tree → IfOk r (λ _. source_refusal tree model ≡ None) → IfOk r (λ e. RunsAs (typed.tree_of e.typed) tree model) → IfErr r (λ fail. (fail ≡ source.Memory) ⊎ (source_refusal tree model ≡ Some fail)) → MatchResult r (λ e. IsReplay model bytes (typed.tree_of e.typed)) (λ fail. IsFail (source_read model bytes) fail)
-accepted_read model bytes tree (Ok e) is free runs refused = record { tree = tree; read = ap (checked model) is ∙ ap (λ o. unless o tree) free; runs = runs }
-accepted_read model bytes tree (Err fail) is free runs (inl e) = inl e
-accepted_read model bytes tree (Err fail) is free runs (inr e) = inr (ap (checked model) is ∙ ap (λ o. unless o tree) e)
+typing_right : (typing control : List Broken) → or_control typing control ≡ [] → typing ≡ []
+typing_right [] control h = refl
+typing_right (b ∷ bs) control h = cc
+
+-- what breaks no rule fits
+pub good_fits : (tree : Items) (model : Model) → SourcesHold → SourcesFit → IsRead tree model → Good tree model → SourceFits tree model
+good_fits tree model hold fit read good =
+    let right : IsRight tree model = typing_right _ _ good in
+    (fit tree model (hold read.tokens tree model read.spelled read.rises right) right).0
+
+pub accepted_read :
+    (model : Model) (bytes : List ℕ) (tree : Items) (r : Result Parts SourceFail) → tree_read bytes ≡ Ok tree → IfOk r (λ _. source_refusal tree model ≡ None)
+    → IfOk r (λ e. typed.tree_of e.typed ≡ elaborated tree model) → IfOk r (λ _. Good tree model) → (Good tree model → SourceFits tree model)
+    → IfOk r (λ e. RunsAs (typed.tree_of e.typed) tree model) → IfErr r (λ fail. (fail ≡ source.Memory) ⊎ (source_refusal tree model ≡ Some fail))
+    → MatchResult r (λ e. IsReplay model bytes (typed.tree_of e.typed)) (λ fail. IsFail (source_read model bytes) fail)
+accepted_read model bytes tree (Ok e) is free made good fits runs refused =
+    record { tree = tree; read = ap (checked model) is ∙ ap (λ o. unless o tree) free; made = made; fits = fits good; runs = runs }
+accepted_read model bytes tree (Err fail) is free made good fits runs (inl e) = inl e
+accepted_read model bytes tree (Err fail) is free made good fits runs (inr e) = inr (ap (checked model) is ∙ ap (λ o. unless o tree) e)

@@ -12,6 +12,8 @@ use Rattle.parse_machine.specs.Machine as ma
 use Rattle.c_meaning.specs.Program.{run}
 use Rattle.c_typed.specs.Tree.{Program}
 use Rattle.c_typed.specs.Run as typed
+use Rattle.c_types.specs.Elaborated.{elaborated}
+use Rattle.c_types.specs.Laws.{SourceFits}
 use Rattle.source_checks.specs.Refusals.{source_refusal}
 
 abbrev pub parsed_of : ma.Result → Result Items SourceFail
@@ -44,8 +46,10 @@ source_read model source = checked model (tree_read source)
 abbrev pub RunsAs : Program → Items → Model → Type 0
 RunsAs program tree model = (turns : ℕ) (inputs : List ℤ) → typed.run turns program inputs ≡ run turns tree model inputs
 
--- a typed tree that runs as the source
+-- the typed tree that is made of the source, which runs as it does
 pub record IsReplay (model : Model) (source : List ℕ) (program : Program) : Type 0 where
   pub tree : Items
   pub read : source_read model source ≡ Ok tree
+  pub made : program ≡ elaborated tree model
+  pub fits : SourceFits tree model
   pub runs : RunsAs program tree model

@@ -9,7 +9,9 @@ use c_parser::parse;
 use c_rules::Examined;
 use c_tokens::tokens_of;
 use c_tree::Unit;
+use elaboration_fit_laws::sources_fit;
 use elaboration_laws::sources_read;
+use elaboration_offset_laws::sources_hold;
 use lv_base::{Model, SourceFail};
 use source_checks::accepted;
 use std::alloc::Global;
@@ -23,6 +25,8 @@ pub fn examined(alloc: Global, source: &[u8], model: Model) -> Result<Examined, 
         (λ e. IsReplay model source.now (typed.tree_of e.typed))
         (λ fail. (fail ≡ SourceFail.Memory) ⊎ (source_read model source.now ≡ Err fail)) }
 {
+    sources_hold();
+    sources_fit();
     let unit = tree(alloc, source)?;
     accepted(alloc, &unit, model)
 }

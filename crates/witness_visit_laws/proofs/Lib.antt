@@ -1,3 +1,4 @@
 pub mod Laying
 pub mod Seeing
 pub mod Stating
+pub mod Writing

@@ -1,5 +1,5 @@
 -- The invariants of loops, at their visits.
-use Rattle.std.proofs.Common.{◌≡◌, ◌∙◌, inl, inr, ap, sym, subst, refl, ℕ, zero, suc, ◌<◌, List, [], ◌∷◌, ◌++◌, length, slice_index, slice_index_or, ℤ, pos, All, arith}
+use Rattle.std.proofs.Common.{◌≡◌, ◌∙◌, inl, inr, ap, sym, subst, refl, ℕ, zero, suc, ◌<◌, ◌+◌, Bool, true, false, List, [], ◌∷◌, ◌++◌, length, slice_index, slice_index_or, ℤ, pos, All, arith}
 use Rattle.std.specs.Prelude.{Option, Some, None, slice_get, map, take}
 use Rattle.std.proofs.lemmas.Option.{slice_get_within}
 use Rattle.lv_base.specs.declared.kind.Model.{Model}
@@ -18,6 +18,7 @@ use Rattle.c_types.specs.Laws.{SourceFits}
 use Rattle.c_types.proofs.Whole.{same_run}
 use Rattle.c_graph.specs.declared.graph.Cell.{Cell}
 use Rattle.c_graph.specs.declared.graph.LoopAt.{LoopAt}
+use Rattle.c_graph.specs.declared.graph.Origin.TheVariants.{Element, Saved}
 use Rattle.c_graph.specs.declared.graph.Node.{Node}
 use Rattle.c_graph.specs.declared.graph.Node.TheVariants.{Error}
 use Rattle.block_rule.specs.Plans.{IsError}
@@ -31,7 +32,7 @@ use Rattle.cfg_build.specs.Graphs.{program_setting}
 use Rattle.code_moves.specs.Setting.{Setting}
 use Rattle.loop_names.specs.Spellings.{spellings_of}
 use Rattle.program_visits.specs.Visiting.{Visits}
-use Rattle.source_witnesses.specs.Witnesses.{condition_of, expression_at}
+use Rattle.source_witnesses.specs.Witnesses.{condition_of, expression_at, shown_cell, shown_cells, shown_from}
 use Rattle.witness_expressions.specs.Names.{named}
 use Rattle.witness_places.specs.Loops.{main_loops}
 use Rattle.witness_truth_laws.specs.Written.{place_of, parts_of, Reads}
@@ -49,6 +50,46 @@ get-some (y ∷ xs) (suc k) x e = let r = get-some xs k x e in (omega (arith, r.
 
 all-at : {A : Type 0} (P : A → Type 0) (xs : List A) (k : ℕ) (x : A) → All P xs → slice_get xs k ≡ Some x → P x
 all-at P xs k x h e = let r = get-some xs k x e in subst P r.1 (h k x r.0)
+
+-- ---- Cells that are shown
+
+shown-width : (b : Bool) (c : Cell) → (shown_cell b c).width ≡ c.width
+shown-width true c = refl
+shown-width false c = refl
+
+shown-widths : (marks : ℕ → Bool) (n : ℕ) (cells : List Cell) → widths_of (shown_from marks n cells) ≡ widths_of cells
+shown-widths marks n [] = refl
+shown-widths marks n (c ∷ cs) =
+    ap (λ (w : ℕ). w ∷ widths_of (shown_from marks (suc n) cs)) (shown-width (marks n) c) ∙ ap (λ (ws : List ℕ). c.width ∷ ws) (shown-widths marks (suc n) cs)
+
+-- what has a name is as it was
+shown-element : (b mark : Bool) (c cell : Cell) (object element : ℕ) → mark ≡ b → shown_cell b c ≡ cell → cell.origin ≡ Element object element → (c ≡ cell) × (mark ≡ true)
+shown-element true mark c cell object element e is from = (is, e)
+shown-element false mark c cell object element e is from =
+    let both : Saved ≡ Element object element = ap (λ (x : Cell). x.origin) is ∙ from in absurd cc
+
+-- a cell that is an element of an object is marked, and is the cell of its number
+shown-there : (marks : ℕ → Bool) (n : ℕ) (cells : List Cell) (k : ℕ) (cell : Cell) (object element : ℕ) → slice_get (shown_from marks n cells) k ≡ Some cell
+    → cell.origin ≡ Element object element → (slice_get cells k ≡ Some cell) × (marks (n + k) ≡ true)
+shown-there marks n [] k cell object element e from = absurd cc
+shown-there marks n (c ∷ cs) zero cell object element e from =
+    let is : shown_cell (marks n) c ≡ cell = cc in
+    let here : n + 0 ≡ n = omega arith in
+    let r = shown-element (marks n) (marks n) c cell object element refl is from in
+    (ap (λ (x : Cell). Some x) r.0, ap marks here ∙ r.1)
+shown-there marks n (c ∷ cs) (suc k) cell object element e from =
+    let next : suc n + k ≡ n + suc k = omega arith in
+    let r = shown-there marks (suc n) cs k cell object element e from in
+    (r.0, ap marks (sym next) ∙ r.1)
+
+shown-at : (marks : ℕ → Bool) (cells : List Cell) (c : ℕ) (cell : Cell) (object element : ℕ) → slice_get (shown_cells marks cells) c ≡ Some cell
+    → cell.origin ≡ Element object element → (slice_get cells c ≡ Some cell) × (marks c ≡ true)
+shown-at marks cells c cell object element e from =
+    let here : 0 + c ≡ c = omega arith in
+    let r = shown-there marks 0 cells c cell object element e from in
+    (r.0, ap marks (sym here) ∙ r.1)
+
+-- ---- Invariants
 
 -- some store meets the formula of a loop's node, and tells the values of what stands in the cells that it reads
 pub record IsMet (env : Env) (model : Model) (cells : List Cell) (m : Formulas) (l : LoopAt) (values : List (List ℤ)) : Type 0 where
@@ -88,17 +129,19 @@ typed-objects : (items : Items) (t : Parts) → tree_of t ≡ elaborated items t
 typed-objects items t tree = ap (λ (p : typed_tree.Program). p.objects) tree
 
 pub invariants-are-true : InvariantsAreTrue
-invariants-are-true items t order g m source l tree fits stand is map holds there =
+invariants-are-true items t order g marks m source l tree fits stand is map holds there =
     let s : Setting = program_setting t order in
     let env : Env = env_of items t.model in
-    stated items t.model g.cells m l is map.cells map.formulas (λ inputs values visit.
+    let cells : List Cell = shown_cells (marks l.node.0) g.cells in
+    stated items t.model cells m l is (map.cells ∙ sym (shown-widths (marks l.node.0) 0 g.cells)) map.formulas (λ inputs values visit.
     let (after, whole, meets, shows) = holds inputs l values there (typed-visit items t inputs l.at values tree fits visit) in
     record {
       store = after;
       stored = subst (λ (ws : List ℕ). IsStore ws after) (sym map.cells) whole.fits;
       holds = meets;
       tells = λ formula e c cell object element o read known from named.
-          shown env s values after c object element cell o (typed-objects items t tree) fits.objects shows (stand c object element cell known from) named;
+          let old = (shown-at (marks l.node.0) g.cells c cell object element known from).0 in
+          shown env s values after c object element cell o (typed-objects items t tree) fits.objects shows (stand c object element cell old from) named;
     })
 
 -- ---- Graphs of blocks
@@ -133,22 +176,28 @@ none-meets g h others m flow inductive v store nodes (kind, (at, error)) meets =
     inductive.errors v kind at store (ap (λ (ns : List Node). slice_get ns v.0) nodes ∙ front ∙ error) meets.0 meets.1
 
 pub marked-invariants-are-true : MarkedInvariantsAreTrue
-marked-invariants-are-true items t order marks g h more others m source l tree fits stand cells nodes follow keeps flow is inductive reads there =
+marked-invariants-are-true items t order h marks m source l tree fits of flow is inductive there =
     let s : Setting = program_setting t order in
     let env : Env = env_of items t.model in
     let map : IsMapOf h m = inductive.map in
-    stated items t.model h.cells m l is map.cells map.formulas (λ inputs values visit.
-    let (taken, after, run, shows) = follow inputs l values there (typed-visit items t inputs l.at values tree fits visit) in
-    let (end, (runs, arrived)) = keeps (take taken inputs) there.0 l after there.1 run in
+    let g : Flow = of.whole in
+    let (more, cells) = of.stays.cells in
+    let (others, nodes) = of.stays.nodes in
+    let listed : slice_get g.loops there.0 ≡ Some l = ap (λ (ls : List LoopAt). slice_get ls there.0) (sym of.stays.loops) ∙ there.1 in
+    let seen : List Cell = shown_cells (marks l.node.0) h.cells in
+    stated items t.model seen m l is (map.cells ∙ sym (shown-widths (marks l.node.0) 0 h.cells)) map.formulas (λ inputs values visit.
+    let (taken, after, run, shows) = of.visits inputs l values (there.0, listed) (typed-visit items t inputs l.at values tree fits visit) in
+    let (end, (runs, arrived)) = of.keeps (take taken inputs) there.0 l after listed run in
     let met = reached h m flow inductive (take taken inputs) l.node end runs in
     record {
       store = end;
       stored = subst (λ (ws : List ℕ). IsStore ws end) (sym map.cells) met.0.fits;
       holds = met.1;
       tells = λ formula e c cell object element o read known from named.
-          let (less, marked) = reads l formula c there e read in
-          let old : slice_get g.cells c ≡ Some cell = sym (get-front g.cells more c less) ∙ sym (ap (λ (cs : List Cell). slice_get cs c) cells) ∙ known in
-          let told = shown env s values after c object element cell o (typed-objects items t tree) fits.objects shows (stand c object element cell old from) named in
+          let (there_still, marked) = shown-at (marks l.node.0) h.cells c cell object element known from in
+          let less : c < length g.cells = of.within l.node.0 c marked in
+          let old : slice_get g.cells c ≡ Some cell = sym (get-front g.cells more c less) ∙ sym (ap (λ (cs : List Cell). slice_get cs c) cells) ∙ there_still in
+          let told = shown env s values after c object element cell o (typed-objects items t tree) fits.objects shows (of.stand c object element cell old from) named in
           let same : slice_index after c ≡ slice_index end c = elim arrived [
             | inl error ↦ absurd (none-meets g h others m flow inductive l.node end nodes error met)
             | inr agree ↦ agree c less marked

@@ -14,7 +14,7 @@ pub fn invariants_are_true()
     ensures { InvariantsAreTrue }
 {}
 
-/// So it is of a map on a graph of blocks, where the formulas of loops read no cells but such that hold the same in both graphs.
+/// So it is of an inductive map on a graph of blocks, where the invariants are written over the cells that hold the same in both graphs.
 pub fn marked_invariants_are_true()
     ensures { MarkedInvariantsAreTrue }
 {}

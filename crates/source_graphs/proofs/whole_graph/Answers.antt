@@ -4,6 +4,7 @@ use Rattle.c_typed.specs.Facts.{IsTyped}
 use Rattle.c_typed.specs.Parts.{tree_of}
 use Rattle.cfg_build.specs.Graphs.{program_setting}
 use Rattle.program_visits.specs.Visiting.{VisitsFollow}
+use Rattle.witness_visit_laws.specs.Visited.{CellsStand}
 use Rattle.source_graphs.specs.Refusals.IsTooBig.{parts}
 use Rattle.source_graphs.proofs.Standing.{answer_comes_back, answer_follows, answer_refused, answer_visits}
 use Rattle.source_graphs.proofs.whole_graph.Goals as goal
@@ -37,6 +38,16 @@ returns-clause-visits c =
     let ordered = c.orders_agree.ensures (tree_of t) order c.order-order.ensures.examined.ordered in
     answer_visits c.in_ok-graphs.graphs (VisitsFollow (program_setting t order) (tree_of t)) c.inline.result
     (λ g is. c.inlined_visits_follow.ensures t order c.in_ok-graphs.graphs g typed ordered c.main-main.ensures.flows follows is)
+    (c.inline.ensures.whole (c.built_is_sparse.ensures t order c.in_ok-graphs.graphs (inl follows)))
+
+pub returns-clause-cells : goal.returns-clause-cells
+returns-clause-cells c =
+    let t = c.args.examined.now.typed in
+    let order = c.args.examined.now.order in
+    let typed : IsTyped (tree_of t) = subst (λ x. IsTyped (tree_of x)) c.typed-typed.ensures.value c.model-model.ensures.typed in
+    let follows = c.in_ok-graphs.ensures.whole c.following_makes_flows.ensures (c.typed_code_passes.ensures t order typed c.order-order.ensures.examined.ordered) in
+    answer_visits c.in_ok-graphs.graphs (λ g. CellsStand (program_setting t order) g.cells) c.inline.result
+    (λ g is. c.inlined_cells_stand.ensures t order c.in_ok-graphs.graphs g follows is)
     (c.inline.ensures.whole (c.built_is_sparse.ensures t order c.in_ok-graphs.graphs (inl follows)))
 
 pub returns-clause-limits : goal.returns-clause-limits
