@@ -1,7 +1,5 @@
 -- Errors and visits kept by a graph with joined chains, and by one graph after another.
-use Rattle.std.proofs.Common.{Bool, true, false, ℕ, ◌<◌, Result, Ok, Err, IfOk, ◌≡◌, ◌⊎◌, inl, inr, List, [], ◌++◌, length, refl, sym, ap, ◌∙◌, subst, arith, slice_get, append_assoc, append-nil}
-use Rattle.std.specs.Prelude.{nat_lt, ◌&&◌}
-use Rattle.std.proofs.lemmas.Bool.{ltb-true}
+use Rattle.std.proofs.Common.{ℕ, Result, Ok, Err, IfOk, ◌≡◌, ◌⊎◌, inl, inr, List, [], ◌++◌, length, refl, sym, ap, ◌∙◌, subst, arith, slice_get, append_assoc, append-nil}
 use Rattle.bv_term.specs.WellFormed.{Table}
 use Rattle.c_graph.specs.declared.graph.Cell.{Cell}
 use Rattle.c_graph.specs.declared.graph.Edge.{Edge}
@@ -14,12 +12,10 @@ use Rattle.edge_chains.specs.Joining.{IsJoined}
 use Rattle.edge_chain_laws.specs.Keeping.{with_edges}
 use Rattle.edge_chain_back_laws.proofs.Unjoining.{chain_paths_come_back}
 use Rattle.join_laws.specs.Keeping.{KeepsErrors}
-use Rattle.join_laws.specs.Visits.{KeepsMarked, KeepsStores, KeepsVisits}
+use Rattle.join_laws.specs.Visits.{KeepsStores, KeepsVisits}
 use Rattle.join_laws.proofs.Errors.{chains_keep}
 use Rattle.join_laws.proofs.Visits.{chains_keep_loops}
-use Rattle.block_join.specs.declared.live.LiveCells.{LiveCells}
 use Rattle.block_join.specs.Joined.{ChainsReturn, HasMore, IsChained, Stays}
-use Rattle.block_join.specs.Living.{live_at, live_by, MarksWithin}
 
 pub weaken : {A : Type 0} → {E : Type 0} → (r : Result A E) (P Q : A → Type 0) → ((x : A) → P x → Q x) → IfOk r P → IfOk r Q
 weaken (Ok x) P Q f h = f x h
@@ -108,33 +104,6 @@ pub visits-on : (g b h : Flow) → b.loops ≡ g.loops → KeepsVisits g b → K
 visits-on g b h loops first second draws k l after there run =
     let (end, (mid, agree)) = first draws k l after there run in
     (end, (second draws k l end (ap (λ (x : List LoopAt). slice_get x k) loops ∙ there) mid, agree))
-
-pub stores-marked : (marks : ℕ → ℕ → Bool) (g h : Flow) → KeepsStores g h → KeepsMarked marks g h
-stores-marked marks g h stores draws k l after there run = (after, (stores draws k l after there run, inr (λ c lt marked. refl)))
-
-pub marked-on : (marks : ℕ → ℕ → Bool) (g b h : Flow) → b.loops ≡ g.loops → KeepsMarked marks g b → KeepsStores b h → KeepsMarked marks g h
-marked-on marks g b h loops first second draws k l after there run =
-    let (end, (mid, agree)) = first draws k l after there run in
-    (end, (second draws k l end (ap (λ (x : List LoopAt). slice_get x k) loops ∙ there) mid, agree))
-
--- where fewer cells are marked
-pub fewer-marked : (marks fewer : ℕ → ℕ → Bool) (g h : Flow) → ((node c : ℕ) → fewer node c ≡ true → marks node c ≡ true) → KeepsMarked marks g h → KeepsMarked fewer g h
-fewer-marked marks fewer g h less keeps draws k l after there run =
-    let (end, (to, arrived)) = keeps draws k l after there run in
-    (end, (to, elim arrived [ inl error ↦ inl error | inr agree ↦ inr (λ c lt marked. agree c lt (less l.node.0 c marked)) ]))
-
-both-true : (a b : Bool) → (a && b) ≡ true → (a ≡ true) × (b ≡ true)
-both-true true true e = (refl, refl)
-both-true true false e = absurd cc
-both-true false b e = absurd cc
-
--- a live cell is one of the first graph, and one that the plan says to be read
-pub live-read : (l : LiveCells) (g h : Flow) → KeepsMarked (live_by l.known) g h → KeepsMarked (live_at l) g h
-live-read l g h = fewer-marked (live_by l.known) (live_at l) g h (λ node c live. (both-true (nat_lt c l.count) (live_by l.known node c) live).1)
-
-pub live-within : (l : LiveCells) (cells : List Cell) → l.count ≡ length cells → MarksWithin (live_at l) cells
-live-within l cells all node c live =
-    subst (λ (n : ℕ). c < n) all (ltb-true c l.count (both-true (nat_lt c l.count) (live_by l.known node c) live).0)
 
 pub kept-on : (g b h : Flow) → KeepsErrors g b → KeepsErrors b h → KeepsErrors g h
 kept-on g b h first second draws kind at met = second draws kind at (first draws kind at met)

@@ -1,3 +1,3 @@
 pub mod Keeping
 pub mod Coming
-pub mod Needing
+pub mod Marking

@@ -1,11 +1,11 @@
-use Rattle.std.proofs.Common.{refl}
+use Rattle.std.proofs.Common.{None, Some, ap, length, refl}
 use Rattle.join_laws.specs.Keeping.{KeepsErrors}
 use Rattle.join_laws.specs.Visits.{KeepsMarked, KeepsVisits}
 use Rattle.walk_states.specs.Known.{plan_of}
 use Rattle.block_join.specs.Joined.{BlocksReturn, Stays}
 use Rattle.block_join.proofs.Coming.{blocks-come, chains-come}
-use Rattle.block_join.proofs.Keeping.{kept-on, live-read, live-within, marked-on, stays-on, stores-marked, stores-visit, visits-on}
-use Rattle.block_join.proofs.Needing.{live-needed}
+use Rattle.block_join.proofs.Keeping.{kept-on, stays-on, stores-visit, visits-on}
+use Rattle.block_join.proofs.Marking.{live-needed, live-read, live-within, marked-on, stores-marked}
 use Rattle.block_join.proofs.join.join_blocks_live.Goals as goal
 
 pub returns-in_ok-graph-clause-stays : goal.returns-in_ok-graph-clause-stays
@@ -33,13 +33,15 @@ returns-in_ok-graph-clause-marked c =
     let marks = (plan_of c.in_ok-made.made.known).live in
     let stays : Stays c.args.graph b = c.in_ok-are_same.ensures.stays c.if-are_same.true in
     let first : KeepsMarked marks c.args.graph b = c.in_ok-are_same.ensures.marked c.if-are_same.true in
-    live-read _ c.args.graph c.in_ok-graph.graph (marked-on marks c.args.graph b c.in_ok-graph.graph stays.loops first c.in_ok-graph.ensures.visits)
+    live-read (record { count = length c.cells-count.result.now; known = Some c.in_ok-made.made.known }) c.args.graph c.in_ok-graph.graph (marked-on marks c.args.graph b c.in_ok-graph.graph stays.loops first c.in_ok-graph.ensures.visits)
 
 pub returns-in_ok-graph-clause-within : goal.returns-in_ok-graph-clause-within
-returns-in_ok-graph-clause-within c = live-within _ c.args.graph.cells (search rules)
+returns-in_ok-graph-clause-within c = live-within (record { count = length c.cells-count.result.now; known = Some c.in_ok-made.made.known }) c.args.graph.cells (ap length c.cells-count.ensures.value)
 
 pub returns-in_ok-graph-clause-needed : goal.returns-in_ok-graph-clause-needed
-returns-in_ok-graph-clause-needed c = live-needed _ c.args.graph (search rules) (c.in_ok-are_same.ensures.needed c.if-are_same.true)
+returns-in_ok-graph-clause-needed c =
+    live-needed (record { count = length c.cells-count.result.now; known = Some c.in_ok-made.made.known }) c.args.graph (ap length c.cells-count.ensures.value)
+    (c.in_ok-are_same.ensures.needed c.if-are_same.true)
 
 pub returns-in_ok-graph-clause-back : goal.returns-in_ok-graph-clause-back
 returns-in_ok-graph-clause-back c =
@@ -51,13 +53,15 @@ pub returns-in_ok-graph-2-clause-visits : goal.returns-in_ok-graph-2-clause-visi
 returns-in_ok-graph-2-clause-visits c = stores-visit c.args.graph c.in_ok-graph-2.graph c.in_ok-graph-2.ensures.visits
 
 pub returns-in_ok-graph-2-clause-marked : goal.returns-in_ok-graph-2-clause-marked
-returns-in_ok-graph-2-clause-marked c = live-read _ c.args.graph c.in_ok-graph-2.graph (stores-marked _ c.args.graph c.in_ok-graph-2.graph c.in_ok-graph-2.ensures.visits)
+returns-in_ok-graph-2-clause-marked c = live-read (record { count = length c.cells-count.result.now; known = None }) c.args.graph c.in_ok-graph-2.graph (stores-marked _ c.args.graph c.in_ok-graph-2.graph c.in_ok-graph-2.ensures.visits)
 
 pub returns-in_ok-graph-2-clause-within : goal.returns-in_ok-graph-2-clause-within
-returns-in_ok-graph-2-clause-within c = live-within _ c.args.graph.cells (search rules)
+returns-in_ok-graph-2-clause-within c = live-within (record { count = length c.cells-count.result.now; known = None }) c.args.graph.cells (ap length c.cells-count.ensures.value)
 
 pub returns-in_ok-graph-2-clause-needed : goal.returns-in_ok-graph-2-clause-needed
-returns-in_ok-graph-2-clause-needed c = live-needed _ c.args.graph (search rules) (λ draws k l after there run cell lt needed. refl)
+returns-in_ok-graph-2-clause-needed c =
+    live-needed (record { count = length c.cells-count.result.now; known = None }) c.args.graph (ap length c.cells-count.ensures.value)
+    (λ draws k l after there run cell lt needed. refl)
 
 pub returns-in_ok-graph-2-clause-back : goal.returns-in_ok-graph-2-clause-back
 returns-in_ok-graph-2-clause-back c = chains-come c.args.graph c.in_ok-graph-2.graph c.in_ok-graph-2.ensures.back
