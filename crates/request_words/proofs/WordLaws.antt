@@ -1,6 +1,6 @@
 -- Where one word or digit is none, the whole is none.
 use Rattle.std.proofs.Common.{◌≡◌, ℕ, List, [], ◌∷◌, None, Some, refl, ap, ◌∙◌}
-use Rattle.request_words.specs.declared.gathering.Command.{Command}
+use Rattle.request_words.specs.declared.commands.Command.{Command}
 use Rattle.request_words.specs.Values.{digit_added, number_behind}
 use Rattle.request_words.specs.Words.{Given, with_word, with_words}
 

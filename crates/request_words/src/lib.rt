@@ -7,11 +7,13 @@
 #![tactic(auto)]
 
 mod asking;
+mod commands;
 mod gathering;
 mod options;
 mod values;
 
 pub use asking::{Asked, Checking, LEARN, UNITS, Verifying, names_are_apart, request};
-pub use gathering::{Command, Given};
+pub use commands::Command;
+pub use gathering::{Given, Texts};
 pub use options::Choice;
 pub use values::{is_name, model_in, number_in, numbers_are_read, seed_in, seeds_are_read};
