@@ -58,11 +58,11 @@ given_is t = ap (λ (b : Bool). given_if b (values_given t)) (good_is t)
 -- ---- one more use
 
 -- the text of a slot, which stands at most once
-abbrev once : Option Text → Option Given → Option Given
+abbrev pub once : Option Text → Option Given → Option Given
 once None next = next
 once (Some text) next = None
 
-abbrev named : Option Text → Text → Given → Option Given
+abbrev pub named : Option Text → Text → Given → Option Given
 named before text next = if is_name_of text then once before (Some next) else None
 
 abbrev pub with_text : Slot → Text → Given → Option Given
