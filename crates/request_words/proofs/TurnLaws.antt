@@ -23,6 +23,19 @@ use Rattle.request_words.proofs.StepLaws.{Faulty, Fits, Flags, awaited_fault, by
 use Rattle.request_words.proofs.OwnLaws.{At, Stands, awaited_same, dashed_name, dashed_value, first_name, given_last, never_whole, none_as, second_name, second_too_many, some_as, stands_awaiting, stands_first, stands_kept, stands_same, stands_second, stands_unawaiting, step, step_as, step_none, third_name, unawaited, value_keeps}
 use Rattle.request_words.proofs.WordKinds.{IsDashed, Kind, alone, flags, joins, kind, plain, strange}
 
+-- a verification has one name at most
+abbrev pub Room : Command → Place → Type 0
+Room command none = Unit {0}
+Room command one = Unit {0}
+Room Check two = Unit {0}
+Room Verify two = ⊥
+
+next_room : (command : Command) (place : Place) (slot : Slot) → by_place command place ≡ Some slot → Room command (next_place place)
+next_room command none slot e = tt
+next_room Check one slot e = tt
+next_room Verify one slot e = absurd (cc)
+next_room command two slot e = absurd (cc)
+
 pub data Turned (command : Command) (uses : Uses) (last : Last) (place : Place) (word : Text) : Type 0 where
   fails : Faulty (turn_fault (shape command) [] (walk_at uses last place) word)
       → ((words : List Text) → whole command (with_words command (step command (given_last uses last) word) words) ≡ None) → Turned command uses last place word
@@ -30,7 +43,7 @@ pub data Turned (command : Command) (uses : Uses) (last : Last) (place : Place) 
       → turn_fault (shape command) [] (walk_at uses last place) word ≡ []
       → walked (rules command) [] (walk_at uses last place) word ≡ walk_at after next to
       → given_last after next ≡ step command (given_last uses last) word
-      → Stands to (given_last after next) → Turned command uses last place word
+      → Stands to (given_last after next) → (Room command place → Room command to) → Turned command uses last place word
 
 -- ---- what the parser does, by what the word is taken for
 
@@ -208,7 +221,7 @@ module _ (command : Command) (uses : Uses) (last : Last) (place : Place) (word :
         ∙ ap (λ (x : Held). use_fault false (rule (of choice)) (text ∷ []) x.rows) held ∙ use_passes (of choice) text (rows_of_uses after) fresh) refl)
         (walks_to command uses last place word _ _ met_now)
         (gives ∙ sym (step_by after same (λ g. with_value g choice text) (chosen e)))
-        (stands_same place _ _ (sym gives) (stands_kept place (given_at after) (with_text (of choice) text) (λ g. value_keeps g choice text) (stands_same place _ _ (sym same) stands)))
+        (stands_same place _ _ (sym gives) (stands_kept place (given_at after) (with_text (of choice) text) (λ g. value_keeps g choice text) (stands_same place _ _ (sym same) stands))) (λ room. room)
 
     joins_yes : is_option command choice ≡ true → Settled command uses last → Turned command uses last place word
     joins_yes e (blocked block empty) = fails (refuses_word command uses last place word (ap has_kind (fault_by e) ∙ faulty_first (settle_fault c false h) _ block))
@@ -237,7 +250,7 @@ module _ (command : Command) (uses : Uses) (last : Last) (place : Place) (word :
         (passes_word command uses last place word _ _ met_now (long_fault_is (choice_id choice) None long (Some (rule (of choice))) found ∙ clear) refl)
         (walks_to command uses last place word _ _ met_now)
         (some_as (given_at after) (λ g. record g { awaited = Some choice }) ∙ sym (step_by after same (λ g. Some (record g { awaited = Some choice })) (awaiting_as true e)))
-        (stands_awaiting place (given_at after) choice (stands_same place _ _ (sym same) stands))
+        (stands_awaiting place (given_at after) choice (stands_same place _ _ (sym same) stands)) (λ room. room)
 
     alone_turn : (t : Bool) → is_option command choice ≡ t → Turned command uses last place word
     alone_turn true e = alone_yes e (settle command uses last fits free)
@@ -285,7 +298,7 @@ module _ (command : Command) (uses : Uses) (last : Last) (place : Place) (word :
             ∙ step_as command (given_at after) word (with_text slot word) (λ g is. name_as g (unawaited after g is) ∙ name_gives command place slot e g word (stood g is)) in
         moves after (valued slot word) (next_place place) (place_fits command place slot e)
         (passes_word command uses last place word h w.value reads clean (name_here slot e ∙ clear))
-        (name_walks slot e after held) (sym gives) (stands_next command place slot e (given_at after) word stood)
+        (name_walks slot e after held) (sym gives) (stands_next command place slot e (given_at after) word stood) (λ room. next_room command place slot e)
 
   plain_word_is : plain_word c (waiting_at last) word h ≡ (h, w.value)
   plain_word_is = ap (λ (x : Waiting). plain_word c x word h) (idle_at last free)
@@ -367,7 +380,7 @@ module _ (command : Command) (uses : Uses) (choice : Choice) (place : Place) (wo
       (passes_word command uses (awaits choice) place word _ _ met_now clean refl)
       (walks_to command uses (awaits choice) place word _ _ met_now)
       (sym (awaited_step command (given_at uses) choice word))
-      (stands_kept place (given_at uses) (with_text (of choice) word) (λ g. value_keeps g choice word) (stands_unawaiting place (given_at uses) choice stands))
+      (stands_kept place (given_at uses) (with_text (of choice) word) (λ g. value_keeps g choice word) (stands_unawaiting place (given_at uses) choice stands)) (λ room. room)
 
   plain_value : long_of word ≡ None → short_of word ≡ None → Turned command uses (awaits choice) place word
   plain_value long short =
