@@ -5,7 +5,8 @@ use Rattle.std.specs.List.{list_any}
 use Rattle.std.specs.Option.{option_map_or}
 use Rattle.std.specs.Str.{bytes_eq}
 use Rattle.std.proofs.lemmas.Slice.Eq.{bytes_eq-Decides}
-use Rattle.clap.specs.Kinds.{Kinds, or_else}
+use Rattle.clap.specs.Kinds.{IsAmong, Kinds, or_else}
+use Rattle.clap.specs.declared.error.kind.ErrorKind.{ErrorKind}
 use Rattle.clap.specs.Walk.{Held, Row, Rule, Text, Walk, finished, first_of, has_row, nothing_held, settled, walk, walk_from, walked, with_default}
 use Rattle.clap.specs.Takes.{is_given}
 use Rattle.clap.specs.Simple.{App, Shape, argument_words, built, entered, is_simple, matches_of, names_of}
@@ -255,3 +256,21 @@ pub words_parsed : (command : Command) (words : List Text) → list_any is_end w
 words_parsed command words none_ends =
     words_from command words [] nothing none none_ends tt tt start_stands
     ∙ ap₂ (λ (k : Kinds) (rs : List Row). if has_kind k then None else given_by (texts_in rs)) (sym (fault_here command words)) (sym (rows_here command words))
+
+-- the same, of a command and words that are told
+pub parse_told : (command : Command) (words : List Text) (a : App) → a ≡ app_for command → list_any is_end words ≡ false → (rows : List Row) → rows ≡ matches_of a words → fault_of a words ≡ []
+    → given_by (texts_in rows) ≡ whole command (with_words command (Some nothing_given) words)
+parse_told command words a app none_ends rows found clear =
+    ap (λ (rs : List Row). given_by (texts_in rs)) (found ∙ ap (λ (x : App). matches_of x words) app)
+    ∙ ap (λ (k : Kinds). if has_kind k then None else given_by (texts_in (matches_of (app_for command) words))) (sym clear ∙ ap (λ (x : App). fault_of x words) app)
+    ∙ sym (words_parsed command words none_ends)
+
+some_kind : (k : ErrorKind) (kinds : Kinds) → IsAmong k kinds → has_kind kinds ≡ true
+some_kind k [] among = absurd among
+some_kind k (x ∷ kinds) among = refl
+
+pub parse_refused : (command : Command) (words : List Text) (a : App) → a ≡ app_for command → list_any is_end words ≡ false → (k : ErrorKind) → IsAmong k (fault_of a words)
+    → None ≡ whole command (with_words command (Some nothing_given) words)
+parse_refused command words a app none_ends k among =
+    ap (λ (t : Bool). if t then None else given_by (texts_in (matches_of (app_for command) words))) (sym (some_kind k (fault_of a words) among) ∙ ap (λ (x : App). has_kind (fault_of x words)) app)
+    ∙ sym (words_parsed command words none_ends)
