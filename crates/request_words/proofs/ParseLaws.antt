@@ -95,8 +95,8 @@ complete Verify place uses room stands =
     let t = texts_in (rows_of_uses uses) in
     whole_if Verify (has_good_texts t) (values_given t) ∙ by_good (has_good_texts t) (values_given t) (is_missing Verify (rows_of_uses uses))
     (λ e. let second : t.second ≡ None = no_second place room (values_given t) (stands (values_given t) e) in
-        one_name t.first t.second (Some (values_given t)) second
-        ∙ ap (λ (a : Bool). if (true && not a) || false then None else Some (values_given t)) (sym (given_is uses (codes "source"))))
+    one_name t.first t.second (Some (values_given t)) second
+    ∙ ap (λ (a : Bool). if (true && not a) || false then None else Some (values_given t)) (sym (given_is uses (codes "source"))))
 
 -- what is found at the end of the words, behind the fault of the words
 abbrev pub last_fault : Command → Held → Kinds
@@ -134,11 +134,11 @@ settled_end command uses last place room stands (blocked block empty) =
 settled_end command uses last place room stands (settles after clear held same) =
     let rows = rows_of_uses after in
     let ended : finished (rules command) (held_at uses last) ≡ rows =
-        ap (λ (h : Held). fold with_default h.rows (rules command)) held ∙ no_defaults rows (slots command) in
+    ap (λ (h : Held). fold with_default h.rows (rules command)) held ∙ no_defaults rows (slots command) in
     let kinds : has_kind (end_fault command [] (held_at uses last)) ≡ is_missing command rows =
-        ap (λ (k : Kinds). has_kind (or_else k (or_else (defaults_fault (settled (rules command) (held_at uses last)).rows (rules command)) (check_fault (shape command) (finished (rules command) (held_at uses last)) false)))) clear
-        ∙ ap (λ (k : Kinds). has_kind (or_else k (check_fault (shape command) (finished (rules command) (held_at uses last)) false))) (defaults_clear (settled (rules command) (held_at uses last)).rows (slots command))
-        ∙ ap (λ (rs : List Row). has_kind (check_fault (shape command) rs false)) ended ∙ missing_is command rows in
+    ap (λ (k : Kinds). has_kind (or_else k (or_else (defaults_fault (settled (rules command) (held_at uses last)).rows (rules command)) (check_fault (shape command) (finished (rules command) (held_at uses last)) false)))) clear
+    ∙ ap (λ (k : Kinds). has_kind (or_else k (check_fault (shape command) (finished (rules command) (held_at uses last)) false))) (defaults_clear (settled (rules command) (held_at uses last)).rows (slots command))
+    ∙ ap (λ (rs : List Row). has_kind (check_fault (shape command) rs false)) ended ∙ missing_is command rows in
     ap (whole command) (sym same) ∙ complete command place after room (stands_same place _ _ (sym same) stands)
     ∙ ap₂ (λ (t : Bool) (rs : List Row). if t then None else given_by (texts_in rs)) (sym kinds) (sym ended)
 

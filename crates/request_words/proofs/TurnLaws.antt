@@ -211,8 +211,8 @@ module _ (command : Command) (uses : Uses) (last : Last) (place : Place) (word :
     joins_at e after clear held same false fresh =
         let reads : met command uses last place word ≡ (reacted c (rule (of choice)) (text ∷ []) h, w.next w.idle) = met_by (choice_id choice) (Some text) long (Some (rule (of choice))) (rule_is e) in
         let now : reacted c (rule (of choice)) (text ∷ []) h ≡ held_at (with_use after (of choice) text) nothing =
-            ap (λ (x : Held). record (held_at uses nothing) { rows = used (rule (of choice)) (text ∷ []) x.rows }) held
-            ∙ ap (λ (rs : List Row). record (held_at uses nothing) { rows = rs }) (used_once (of choice) text after fresh) in
+        ap (λ (x : Held). record (held_at uses nothing) { rows = used (rule (of choice)) (text ∷ []) x.rows }) held
+        ∙ ap (λ (rs : List Row). record (held_at uses nothing) { rows = rs }) (used_once (of choice) text after fresh) in
         let met_now : met command uses last place word ≡ (held_at (with_use after (of choice) text) nothing, w.next w.idle) = reads ∙ ap (λ (x : Held). (x, w.next w.idle)) now in
         let gives : given_at (with_use after (of choice) text) ≡ option_and_then (with_text (of choice) text) (given_at after) = given_more after (of choice) text fresh in
         moves (with_use after (of choice) text) nothing place tt
@@ -244,8 +244,8 @@ module _ (command : Command) (uses : Uses) (last : Last) (place : Place) (word :
     alone_yes e (settles after clear held same) =
         let found = found_by_long command choice ∙ ap (λ (b : Bool). if b then Some (rule (of choice)) else None) e in
         let met_now : met command uses last place word ≡ (held_at after (awaits choice), w.next (w.option (choice_id choice))) =
-            met_by (choice_id choice) None long (Some (rule (of choice))) found
-            ∙ ap (λ (x : Held). (record x { pending = Some (choice_id choice, []) }, w.next (w.option (choice_id choice)))) held in
+        met_by (choice_id choice) None long (Some (rule (of choice))) found
+        ∙ ap (λ (x : Held). (record x { pending = Some (choice_id choice, []) }, w.next (w.option (choice_id choice)))) held in
         moves after (awaits choice) place e
         (passes_word command uses last place word _ _ met_now (long_fault_is (choice_id choice) None long (Some (rule (of choice))) found ∙ clear) refl)
         (walks_to command uses last place word _ _ met_now)
@@ -294,8 +294,8 @@ module _ (command : Command) (uses : Uses) (last : Last) (place : Place) (word :
     name_turn (Some slot) e (settles after clear held same) =
         let stood = stands_same place (given_last uses last) (given_at after) (sym same) stands in
         let gives : step command (given_last uses last) word ≡ option_and_then (with_text slot word) (given_at after) =
-            ap (λ (o : Option Given). step command o word) (sym same)
-            ∙ step_as command (given_at after) word (with_text slot word) (λ g is. name_as g (unawaited after g is) ∙ name_gives command place slot e g word (stood g is)) in
+        ap (λ (o : Option Given). step command o word) (sym same)
+        ∙ step_as command (given_at after) word (with_text slot word) (λ g is. name_as g (unawaited after g is) ∙ name_gives command place slot e g word (stood g is)) in
         moves after (valued slot word) (next_place place) (place_fits command place slot e)
         (passes_word command uses last place word h w.value reads clean (name_here slot e ∙ clear))
         (name_walks slot e after held) (sym gives) (stands_next command place slot e (given_at after) word stood) (λ room. next_room command place slot e)
@@ -374,8 +374,8 @@ module _ (command : Command) (uses : Uses) (choice : Choice) (place : Place) (wo
       → Turned command uses (awaits choice) place word
   value_turn reads clean =
       let met_now : met command uses (awaits choice) place word ≡ (held_at uses (valued (of choice) word), w.next w.idle) =
-          reads ∙ ap (λ (o : Option Rule). ((option_word o (choice_id choice) word k).0, w.next (option_word o (choice_id choice) word k).1)) (found_by_id command (of choice) fits)
-          ∙ ap (λ (b : Bool). (held_at uses (valued (of choice) word), w.next (if nat_lt (if b then 1 else 0) 1 then w.option (choice_id choice) else w.idle))) (same_id choice) in
+      reads ∙ ap (λ (o : Option Rule). ((option_word o (choice_id choice) word k).0, w.next (option_word o (choice_id choice) word k).1)) (found_by_id command (of choice) fits)
+      ∙ ap (λ (b : Bool). (held_at uses (valued (of choice) word), w.next (if nat_lt (if b then 1 else 0) 1 then w.option (choice_id choice) else w.idle))) (same_id choice) in
       moves uses (valued (of choice) word) place fits
       (passes_word command uses (awaits choice) place word _ _ met_now clean refl)
       (walks_to command uses (awaits choice) place word _ _ met_now)

@@ -14,9 +14,6 @@ use Rattle.request_words.proofs.WordWalk.{Slot, Uses, id_of, rule, use_row}
 abbrev pub rows_of_uses : Uses → List Row
 rows_of_uses uses = map use_row uses
 
-
-
-
 abbrev pub with_use : Uses → Slot → Text → Uses
 with_use uses slot text = uses ++ (slot, text) ∷ []
 

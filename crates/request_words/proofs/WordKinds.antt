@@ -44,13 +44,31 @@ is_not name m u l w c r t OfRun = r
 is_not name m u l w c r t OfWitness = t
 
 pub identified : (name : Text) → Known name
-identified name = elim (tested (choice_id OfModel) name) [ inl e ↦ known OfModel (sym e) | inr m ↦
-    elim (tested (choice_id OfUnits) name) [ inl e ↦ known OfUnits (sym e) | inr u ↦
-    elim (tested (choice_id OfLearn) name) [ inl e ↦ known OfLearn (sym e) | inr l ↦
-    elim (tested (choice_id OfWorkers) name) [ inl e ↦ known OfWorkers (sym e) | inr w ↦
-    elim (tested (choice_id OfCert) name) [ inl e ↦ known OfCert (sym e) | inr c ↦
-    elim (tested (choice_id OfRun) name) [ inl e ↦ known OfRun (sym e) | inr r ↦
-    elim (tested (choice_id OfWitness) name) [ inl e ↦ known OfWitness (sym e) | inr t ↦ unknown (is_not name m u l w c r t) ] ] ] ] ] ] ]
+identified name = elim (tested (choice_id OfModel) name) [
+  | inl e ↦ known OfModel (sym e)
+  | inr m ↦
+      elim (tested (choice_id OfUnits) name) [
+        | inl e ↦ known OfUnits (sym e)
+        | inr u ↦
+            elim (tested (choice_id OfLearn) name) [
+              | inl e ↦ known OfLearn (sym e)
+              | inr l ↦
+                  elim (tested (choice_id OfWorkers) name) [
+                    | inl e ↦ known OfWorkers (sym e)
+                    | inr w ↦
+                        elim (tested (choice_id OfCert) name) [
+                          | inl e ↦ known OfCert (sym e)
+                          | inr c ↦
+                              elim (tested (choice_id OfRun) name) [
+                                | inl e ↦ known OfRun (sym e)
+                                | inr r ↦
+                                    elim (tested (choice_id OfWitness) name) [ inl e ↦ known OfWitness (sym e) | inr t ↦ unknown (is_not name m u l w c r t) ]
+                              ]
+                        ]
+                  ]
+            ]
+      ]
+]
 
 named_known : (choice : Choice) → choice_named (45 ∷ 45 ∷ choice_id choice) ≡ Some choice
 named_known OfModel = refl

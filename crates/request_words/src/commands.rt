@@ -62,9 +62,7 @@ fn name<'a>(alloc: Global, id: &'a str) -> Arg<'a>
     ensures rule { rule_of result ≡ name_rule id.entry.now }
     ensures local { result.global ≡ false }
 {
-    Arg::new(alloc, id)
-        .required(true)
-        .action(ArgAction::Set)
+    Arg::new(alloc, id).required(true).action(ArgAction::Set)
 }
 
 fn option<'a>(alloc: Global, id: &'a str) -> Arg<'a>
