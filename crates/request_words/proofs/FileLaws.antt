@@ -3,7 +3,7 @@ use Rattle.std.proofs.Common.{◌≡◌, ℕ, List, [], ◌∷◌, Bool, true, f
 use Rattle.std.specs.Prelude.{Option, Some, None, ◌||◌, if◌then◌else◌, codes}
 use Rattle.std.specs.Str.{bytes_eq}
 use Rattle.request_words.specs.declared.options.Choice.{Choice}
-use Rattle.request_words.specs.declared.gathering.Command.TheVariants as command
+use Rattle.request_words.specs.declared.commands.Command.TheVariants as command
 use Rattle.request_words.specs.Words.{Given, nothing_given, with_words}
 use Rattle.request_words.specs.Asked.{Asked, Check, Verify, Generate, is_named, is_named_in, check_at, check_by, verify_with, verify_of, verify_at, verify_by, generate_at, generate_by, asked_of, IsApart, NamesAreApart}
 

@@ -1,3 +1,11 @@
 pub mod FileLaws
+pub mod GivenLaws
 pub mod NumberLaws
+pub mod OwnLaws
+pub mod ParseLaws
+pub mod StepLaws
+pub mod TurnLaws
+pub mod UseLaws
+pub mod WordKinds
 pub mod WordLaws
+pub mod WordWalk

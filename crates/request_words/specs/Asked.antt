@@ -4,7 +4,7 @@ use Rattle.std.specs.Str.{bytes_eq}
 use Rattle.lv_base.specs.declared.kind.Model.{Model}
 use Rattle.lv_base.specs.declared.kind.Model.TheVariants.{Ilp32}
 use Rattle.request_words.specs.declared.options.Choice.{Choice}
-use Rattle.request_words.specs.declared.gathering.Command.TheVariants as command
+use Rattle.request_words.specs.declared.commands.Command.TheVariants as command
 use Rattle.request_words.specs.Values.{seed_of}
 use Rattle.request_words.specs.Words.{Given, nothing_given, with_words}
 

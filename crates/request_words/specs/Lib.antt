@@ -1,5 +1,7 @@
+pub mod Apps
 pub mod Asked
 pub mod Options
+pub mod Texts
 pub mod Values
 pub mod Views
 pub mod Words

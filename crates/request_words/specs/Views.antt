@@ -1,11 +1,14 @@
 -- What the program's words give, without where they lie in memory.
+use Rattle.std.specs.Prelude.{None}
 use Rattle.std.specs.Option.{option_map}
 use Rattle.request_words.specs.declared.gathering.Given.{Given}
+use Rattle.request_words.specs.declared.gathering.Texts.{Texts}
 use Rattle.request_words.specs.declared.asking.Checking.{Checking}
 use Rattle.request_words.specs.declared.asking.Verifying.{Verifying}
 use Rattle.request_words.specs.declared.asking.Asked.{Asked}
 use Rattle.request_words.specs.declared.asking.Asked.TheVariants.{Check, Verify, Generate}
 use Rattle.request_words.specs.Words as w
+use Rattle.request_words.specs.Texts as t
 use Rattle.request_words.specs.Asked as a
 
 abbrev pub given_of : Given → w.Given
@@ -19,7 +22,20 @@ given_of given = record {
   cert = option_map (λ s. s.now) given.cert;
   run = option_map (λ s. s.now) given.run;
   witness = option_map (λ s. s.now) given.witness;
-  awaited = given.awaited;
+  awaited = None;
+}
+
+abbrev pub texts_of : Texts → t.Texts
+texts_of texts = record {
+  first = option_map (λ s. s.now) texts.first;
+  second = option_map (λ s. s.now) texts.second;
+  model = option_map (λ s. s.now) texts.model;
+  units = option_map (λ s. s.now) texts.units;
+  learn = option_map (λ s. s.now) texts.learn;
+  workers = option_map (λ s. s.now) texts.workers;
+  cert = option_map (λ s. s.now) texts.cert;
+  run = option_map (λ s. s.now) texts.run;
+  witness = option_map (λ s. s.now) texts.witness;
 }
 
 abbrev pub checking_of : Checking → a.Checking

@@ -4,8 +4,8 @@ use Rattle.std.specs.Option.{option_map}
 use Rattle.lv_base.specs.declared.kind.Model.{Model}
 use Rattle.request_words.specs.declared.options.Choice.{Choice}
 use Rattle.request_words.specs.declared.options.Choice.TheVariants.{OfModel, OfUnits, OfLearn, OfWorkers, OfCert, OfRun, OfWitness}
-use Rattle.request_words.specs.declared.gathering.Command.{Command}
-use Rattle.request_words.specs.declared.gathering.Command.TheVariants.{Check, Verify}
+use Rattle.request_words.specs.declared.commands.Command.{Command}
+use Rattle.request_words.specs.declared.commands.Command.TheVariants.{Check, Verify}
 use Rattle.request_words.specs.Values.{is_name_of, model_of, number_of}
 use Rattle.request_words.specs.Options.{choice_named, joined_of}
 

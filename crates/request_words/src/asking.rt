@@ -1,11 +1,14 @@
-ghost use Rattle.std.specs.Prelude.{◌≡◌, map, Some};
+ghost use Rattle.std.specs.Prelude.{◌≡◌, IfOk, map, Some};
 ghost use Rattle.std.specs.Option.{option_map};
 ghost use Rattle.request_words.specs.Views.{given_of, asked_by};
 ghost use Rattle.request_words.specs.Asked.{is_named, is_named_in, has_twice, check_by, generate_by, verify_by, verify_of, verify_with, asked_of, NamesAreApart};
+ghost use Rattle.request_words.specs.Words.{nothing_given, with_words};
 
-use crate::gathering::{Command, Given, gathered};
+use crate::commands::Command;
+use crate::gathering::{Given, gathered};
 use crate::values::seed_in;
-use lv_base::Model;
+use lv_base::{Memory, Model};
+use std::alloc::Global;
 
 /// The units where no option says how many.
 pub const UNITS: u64 = 100_000;
@@ -46,27 +49,45 @@ pub enum Asked<'a> {
 
 /// What the words ask for: the word `check` or `verify`, and behind it names and options in any order; or the word `generate`, and a
 /// seed behind it.
-pub fn request<'a>(words: &[&'a str]) -> Option<Asked<'a>>
-    ensures { option_map asked_by result ≡ asked_of (map (λ w. w.now) words.now) }
+///
+/// # Errors
+///
+/// `Memory` where there was none to take the words apart.
+pub fn request<'a>(alloc: Global, words: &'a [&'a str]) -> Result<Option<Asked<'a>>, Memory>
+    ensures { IfOk result (λ r. option_map asked_by r ≡ asked_of (map (λ w. w.now) words.entry.now)) }
 {
     match words.split_first() {
-        Some((command, behind)) if *command == "check" => {
-            whole_check(gathered(Command::Check, behind)?)
-        }
-        Some((command, behind)) if *command == "verify" => {
-            whole_verify(gathered(Command::Verify, behind)?)
-        }
-        Some((command, behind)) if *command == "generate" => whole_generate(behind),
-        _ => None,
+        Some((command, behind)) if *command == "check" => check_asked(alloc, behind),
+        Some((command, behind)) if *command == "verify" => verify_asked(alloc, behind),
+        Some((command, behind)) if *command == "generate" => Ok(whole_generate(behind)),
+        _ => Ok(None),
     }
 }
 
-// There are both names, and each option has its value.
+fn check_asked<'a>(alloc: Global, words: &'a [&'a str]) -> Result<Option<Asked<'a>>, Memory>
+    ensures { IfOk result (λ r. option_map asked_by r ≡ check_by (with_words Command.Check (Some nothing_given) (map (λ w. w.now) words.entry.now))) }
+{
+    match gathered(alloc, Command::Check, words)? {
+        Some(given) => Ok(whole_check(given)),
+        None => Ok(None),
+    }
+}
+
+fn verify_asked<'a>(alloc: Global, words: &'a [&'a str]) -> Result<Option<Asked<'a>>, Memory>
+    ensures { IfOk result (λ r. option_map asked_by r ≡ verify_by (with_words Command.Verify (Some nothing_given) (map (λ w. w.now) words.entry.now))) }
+{
+    match gathered(alloc, Command::Verify, words)? {
+        Some(given) => Ok(whole_verify(given)),
+        None => Ok(None),
+    }
+}
+
+// There are both names.
 fn whole_check<'a>(given: Given<'a>) -> Option<Asked<'a>>
     ensures { option_map asked_by result ≡ check_by (Some (given_of given.entry)) }
 {
-    match (given.first, given.second, given.awaited) {
-        (Some(source), Some(cert), None) => Some(Asked::Check(Checking {
+    match (given.first, given.second) {
+        (Some(source), Some(cert)) => Some(Asked::Check(Checking {
             source,
             cert,
             model: given.model.unwrap_or(Model::Ilp32),
@@ -76,12 +97,12 @@ fn whole_check<'a>(given: Given<'a>) -> Option<Asked<'a>>
     }
 }
 
-// There is one name, each option has its value, and the names differ.
+// There is one name, and the names differ.
 fn whole_verify<'a>(given: Given<'a>) -> Option<Asked<'a>>
     ensures { option_map asked_by result ≡ verify_by (Some (given_of given.entry)) }
 {
-    match (given.first, given.second, given.awaited) {
-        (Some(source), None, None) => verify_source(given, source),
+    match (given.first, given.second) {
+        (Some(source), None) => verify_source(given, source),
         _ => None,
     }
 }

@@ -1,22 +1,21 @@
-ghost use Rattle.std.specs.Prelude.{◌≡◌, map, Some};
+ghost use Rattle.std.specs.Prelude.{◌≡◌, ◌≤◌, IfOk, map, Some, codes, is_some, option_and_then};
+ghost use Rattle.std.specs.List.{list_any};
 ghost use Rattle.std.specs.Option.{option_map};
-ghost use Rattle.request_words.specs.Views.{given_of};
-ghost use Rattle.request_words.specs.Options.{choice_named, joined_of};
-ghost use Rattle.request_words.specs.Words.{nothing_given, is_option, awaiting, chosen_in, with_words};
-ghost use Rattle.request_words.specs.Words as spec;
+ghost use Rattle.std.specs.Str.{bytes_eq};
+ghost use Rattle.clap.specs.Words.{found_of, rows_of};
+ghost use Rattle.request_words.specs.Values.{is_name_of, model_of, number_of};
+ghost use Rattle.request_words.specs.Views.{given_of, texts_of};
+ghost use Rattle.request_words.specs.Words.{nothing_given, with_words};
+ghost use Rattle.request_words.specs.Texts.{given_by, has_good_texts, has_values, is_good, texts_in, values_given, whole};
 
-use crate::options::{Choice, joined, named};
+use crate::commands::{Command, parser_for};
 use crate::values::{is_name, model_in, number_in};
-use lv_base::Model;
+use clap::ArgMatches;
+use clap::error::ErrorKind;
+use lv_base::{Memory, Model};
+use std::alloc::Global;
 
-/// What the words begin with.
-#[derive(Clone, Copy)]
-pub enum Command {
-    Check,
-    Verify,
-}
-
-/// What the words gave so far, and the option whose value is the next word.
+/// What the words behind a command give.
 #[derive(Clone, Copy)]
 pub struct Given<'a> {
     pub first: Option<&'a str>,
@@ -28,232 +27,156 @@ pub struct Given<'a> {
     pub cert: Option<&'a str>,
     pub run: Option<&'a str>,
     pub witness: Option<&'a str>,
-    pub awaited: Option<Choice>,
 }
 
-/// What words behind the command give.
-pub(crate) fn gathered<'a>(command: Command, words: &[&'a str]) -> Option<Given<'a>>
-    ensures { option_map given_of result ≡ with_words command (Some nothing_given) (map (λ w. w.now) words.now) }
-{
-    let mut given = Given {
-        first: None,
-        second: None,
-        model: None,
-        units: None,
-        learn: None,
-        workers: None,
-        cert: None,
-        run: None,
-        witness: None,
-        awaited: None,
-    };
-    for word in words {
-        match with_word(command, given, word) {
-            Some(next) => given = next,
-            None => return None,
-        }
-    }
-    Some(given)
+/// The same, before anything is read of a value.
+#[derive(Clone, Copy)]
+pub struct Texts<'a> {
+    pub first: Option<&'a str>,
+    pub second: Option<&'a str>,
+    pub model: Option<&'a str>,
+    pub units: Option<&'a str>,
+    pub learn: Option<&'a str>,
+    pub workers: Option<&'a str>,
+    pub cert: Option<&'a str>,
+    pub run: Option<&'a str>,
+    pub witness: Option<&'a str>,
 }
 
-fn with_word<'a>(command: Command, given: Given<'a>, word: &'a str) -> Option<Given<'a>>
-    ensures { option_map given_of result ≡ spec.with_word command (given_of given.entry) word.now }
-{
-    match given.awaited {
-        Some(choice) => with_value(given, choice, word),
-        None => with_free(command, given, word),
-    }
-}
-
-// A word that is not the value of the option before it.
-fn with_free<'a>(command: Command, given: Given<'a>, word: &'a str) -> Option<Given<'a>>
-    ensures { option_map given_of result ≡ spec.with_free command (given_of given.entry) word.now (choice_named word.now) }
-{
-    match named(word) {
-        Some(choice) => awaits(command, given, choice),
-        None => with_joined(command, given, word),
-    }
-}
-
-fn awaits<'a>(command: Command, given: Given<'a>, choice: Choice) -> Option<Given<'a>>
-    ensures { option_map given_of result ≡ awaiting command (given_of given.entry) choice }
-{
-    if has_option(command, choice) {
-        Some(Given {
-            awaited: Some(choice),
-            ..given
-        })
-    } else {
-        None
-    }
-}
-
-// An option with its value in one word, or a name.
-fn with_joined<'a>(command: Command, given: Given<'a>, word: &'a str) -> Option<Given<'a>>
-    ensures { option_map given_of result ≡ spec.with_joined command (given_of given.entry) word.now (joined_of word.now) }
-{
-    match joined(word) {
-        Some((choice, value)) => chosen(command, given, choice, value),
-        None => with_name(given, word),
-    }
-}
-
-fn chosen<'a>(
+/// What the words behind a command give, where they give what it wants.
+///
+/// # Errors
+///
+/// `Memory` where there was none for the parser or its matches.
+pub(crate) fn gathered<'a>(
+    alloc: Global,
     command: Command,
-    given: Given<'a>,
-    choice: Choice,
-    value: &'a str,
-) -> Option<Given<'a>>
-    ensures { option_map given_of result ≡ chosen_in command (given_of given.entry) choice value.now }
+    words: &'a [&'a str],
+) -> Result<Option<Given<'a>>, Memory>
+    ensures { IfOk result (λ r. option_map given_of r ≡ whole command (with_words command (Some nothing_given) (map (λ w. w.now) words.entry.now))) }
 {
-    if has_option(command, choice) {
-        with_value(given, choice, value)
-    } else {
-        None
+    if has_end(words) {
+        return Ok(None);
     }
-}
-
-fn has_option(command: Command, choice: Choice) -> bool
-    ensures { result ≡ is_option command choice }
-{
-    match command {
-        Command::Verify => true,
-        Command::Check => match choice {
-            Choice::OfModel | Choice::OfWorkers => true,
-            Choice::OfUnits
-            | Choice::OfLearn
-            | Choice::OfCert
-            | Choice::OfRun
-            | Choice::OfWitness => false,
+    match parser_for(alloc, command)?.try_get_matches_from(words) {
+        Ok(matches) => Ok(given_in(texts_found(&matches))),
+        Err(error) => match error.kind() {
+            ErrorKind::OutOfMemory => Err(Memory),
+            _ => Ok(None),
         },
     }
 }
 
-// The value of an option, which stands at most once.
-fn with_value<'a>(given: Given<'a>, choice: Choice, value: &'a str) -> Option<Given<'a>>
-    ensures { option_map given_of result ≡ spec.with_value (given_of given.entry) choice value.now }
+// The parser would take what stands behind `--` for names.
+fn has_end(words: &[&str]) -> bool
+    ensures { result ≡ list_any (λ w. bytes_eq w.now (codes "--")) words.now }
 {
-    match choice {
-        Choice::OfModel => with_model(given, model_in(value.as_bytes())?),
-        Choice::OfUnits => with_units(given, number_in(value.as_bytes(), 10_000_000)?),
-        Choice::OfLearn => with_learn(given, number_in(value.as_bytes(), 100_000_000)?),
-        Choice::OfWorkers => with_workers(given, number_in(value.as_bytes(), 64)?),
-        Choice::OfCert => Some(with_cert(given, name_once(given.cert, value)?)),
-        Choice::OfRun => Some(with_run(given, name_once(given.run, value)?)),
-        Choice::OfWitness => Some(with_witness(given, name_once(given.witness, value)?)),
+    words.iter().any(|word| *word == "--")
+}
+
+fn texts_found<'a>(matches: &ArgMatches<'a>) -> Texts<'a>
+    ensures { texts_of result ≡ texts_in (rows_of (found_of matches.now)) }
+{
+    Texts {
+        first: matches.get_str("source"),
+        second: matches.get_str("certificate"),
+        model: matches.get_str("model"),
+        units: matches.get_str("units"),
+        learn: matches.get_str("learn"),
+        workers: matches.get_str("workers"),
+        cert: matches.get_str("cert"),
+        run: matches.get_str("run"),
+        witness: matches.get_str("witness"),
     }
 }
 
-fn with_model<'a>(given: Given<'a>, model: Model) -> Option<Given<'a>>
-    ensures { option_map given_of result ≡ spec.with_model (given_of given.entry) given.entry.model (Some model) }
+// Each text is a name or a value of its option.
+fn given_in<'a>(texts: Texts<'a>) -> Option<Given<'a>>
+    ensures { option_map given_of result ≡ given_by (texts_of texts.entry) }
 {
-    match given.model {
-        None => Some(Given {
-            model: Some(model),
-            awaited: None,
-            ..given
-        }),
-        Some(_) => None,
+    if are_good(texts) {
+        Some(values_of(texts))
+    } else {
+        None
     }
 }
 
-fn with_units<'a>(given: Given<'a>, number: u64) -> Option<Given<'a>>
-    ensures { option_map given_of result ≡ spec.with_units (given_of given.entry) given.entry.units (Some number) }
-{
-    match given.units {
-        None => Some(Given {
-            units: Some(number),
-            awaited: None,
-            ..given
-        }),
-        Some(_) => None,
-    }
-}
-
-fn with_learn<'a>(given: Given<'a>, number: u64) -> Option<Given<'a>>
-    ensures { option_map given_of result ≡ spec.with_learn (given_of given.entry) given.entry.learn (Some number) }
-{
-    match given.learn {
-        None => Some(Given {
-            learn: Some(number),
-            awaited: None,
-            ..given
-        }),
-        Some(_) => None,
-    }
-}
-
-fn with_workers<'a>(given: Given<'a>, number: u64) -> Option<Given<'a>>
-    ensures { option_map given_of result ≡ spec.with_workers (given_of given.entry) given.entry.workers (Some number) }
-{
-    match given.workers {
-        None => Some(Given {
-            workers: Some(number),
-            awaited: None,
-            ..given
-        }),
-        Some(_) => None,
-    }
-}
-
-// The name of a file that an option gives, which stands at most once.
-fn name_once<'a>(before: Option<&'a str>, name: &'a str) -> Option<&'a str>
-    ensures { option_map (λ s. s.now) result ≡ spec.name_once (option_map (λ s. s.now) before.entry) name.now }
-{
-    match before {
-        None if is_name(name) => Some(name),
-        _ => None,
-    }
-}
-
-fn with_cert<'a>(given: Given<'a>, name: &'a str) -> Given<'a>
-    ensures { given_of result ≡ spec.with_cert (given_of given.entry) name.now }
+fn values_of<'a>(texts: Texts<'a>) -> Given<'a>
+    ensures { given_of result ≡ values_given (texts_of texts.entry) }
 {
     Given {
-        cert: Some(name),
-        awaited: None,
-        ..given
+        first: texts.first,
+        second: texts.second,
+        model: model_at(texts.model),
+        units: number_at(texts.units, 10_000_000),
+        learn: number_at(texts.learn, 100_000_000),
+        workers: number_at(texts.workers, 64),
+        cert: texts.cert,
+        run: texts.run,
+        witness: texts.witness,
     }
 }
 
-fn with_run<'a>(given: Given<'a>, name: &'a str) -> Given<'a>
-    ensures { given_of result ≡ spec.with_run (given_of given.entry) name.now }
+fn are_good(texts: Texts) -> bool
+    ensures { result ≡ has_good_texts (texts_of texts.entry) }
 {
-    Given {
-        run: Some(name),
-        awaited: None,
-        ..given
+    let names = is_name_at(texts.first)
+        && (is_name_at(texts.second)
+            && (is_name_at(texts.cert) && (is_name_at(texts.run) && is_name_at(texts.witness))));
+    names && are_values(texts)
+}
+
+fn are_values(texts: Texts) -> bool
+    ensures { result ≡ has_values (texts_of texts.entry) }
+{
+    is_model_at(texts.model)
+        && (is_number_at(texts.units, 10_000_000)
+            && (is_number_at(texts.learn, 100_000_000) && is_number_at(texts.workers, 64)))
+}
+
+fn is_name_at(text: Option<&str>) -> bool
+    ensures { result ≡ is_good is_name_of (option_map (λ s. s.now) text.entry) }
+{
+    match text {
+        None => true,
+        Some(text) => is_name(text),
     }
 }
 
-fn with_witness<'a>(given: Given<'a>, name: &'a str) -> Given<'a>
-    ensures { given_of result ≡ spec.with_witness (given_of given.entry) name.now }
+fn is_model_at(text: Option<&str>) -> bool
+    ensures { result ≡ is_good (λ v. is_some (model_of v)) (option_map (λ s. s.now) text.entry) }
 {
-    Given {
-        witness: Some(name),
-        awaited: None,
-        ..given
+    match text {
+        None => true,
+        Some(text) => model_in(text.as_bytes()).is_some(),
     }
 }
 
-// A positional word, and no third.
-fn with_name<'a>(given: Given<'a>, word: &'a str) -> Option<Given<'a>>
-    ensures { option_map given_of result ≡ spec.with_name (given_of given.entry) word.now }
+fn is_number_at(text: Option<&str>, most: u64) -> bool
+    requires { most ≤ 4294967295 }
+    ensures { result ≡ is_good (λ v. is_some (number_of most v)) (option_map (λ s. s.now) text.entry) }
 {
-    if !is_name(word) {
-        return None;
+    match text {
+        None => true,
+        Some(text) => number_in(text.as_bytes(), most).is_some(),
     }
-    match (given.first, given.second) {
-        (None, _) => Some(Given {
-            first: Some(word),
-            awaited: None,
-            ..given
-        }),
-        (Some(_), None) => Some(Given {
-            second: Some(word),
-            awaited: None,
-            ..given
-        }),
-        (Some(_), Some(_)) => None,
+}
+
+fn model_at(text: Option<&str>) -> Option<Model>
+    ensures { result ≡ option_and_then model_of (option_map (λ s. s.now) text.entry) }
+{
+    match text {
+        None => None,
+        Some(text) => model_in(text.as_bytes()),
+    }
+}
+
+fn number_at(text: Option<&str>, most: u64) -> Option<u64>
+    requires { most ≤ 4294967295 }
+    ensures { result ≡ option_and_then (number_of most) (option_map (λ s. s.now) text.entry) }
+{
+    match text {
+        None => None,
+        Some(text) => number_in(text.as_bytes(), most),
     }
 }
