@@ -4,3 +4,4 @@ pub mod HeadlineLaws
 pub mod MeaningLaws
 pub mod ReachingLaws
 pub mod WordLaws
+pub mod WantLaws

@@ -1,0 +1,99 @@
+-- What is told where memory ran out over the words, whatever they ask for.
+use Rattle.std.proofs.Common.{◌≡◌, ◌≢◌, ◌⊎◌, ◌∙◌, inl, inr, refl, sym, ap, subst, ℕ, ◌==◌, Bool, true, false, if◌then◌else◌, List, ◌++◌, ℤ}
+use Rattle.std.specs.Prelude.{◌||◌, Option, Some, None}
+use Rattle.lv_outside.specs.Bytes.{GrewByFront}
+use Rattle.lv_outside.specs.Counts.{Rose}
+use Rattle.request_words.specs.Asked.{Asked, Check, Verify, Generate}
+use Rattle.verdicts.specs.Lines.{text_of}
+use Rattle.verdicts.specs.declared.verdict.Verdict.{Verdict}
+use Rattle.verdicts.specs.declared.verdict.Verdict.TheVariants.{NoMemory, ReadFault}
+use Rattle.request_answers.specs.Answers.{IsAnswer}
+use Rattle.request_answers.specs.Answers.IsCheckAnswer as check
+use Rattle.request_answers.specs.Answers.IsVerifyAnswer as verify
+use Rattle.request_answers.specs.Printed.{text_for}
+use Rattle.request_answers.specs.Stored.{File, IsOther, IsStored, IsUntouched, both_named, file_for, witness_file}
+use Rattle.request_answers.specs.Witnessed.{IsWitnessed, IsWitnessBy, named_for}
+use Rattle.source_witnesses.specs.declared.stamp.Stamp.{Stamp}
+use Rattle.lazic.specs.declared.report.Kept.{Kept}
+use Rattle.lazic.specs.declared.report.Kept.TheVariants as kept
+use Rattle.lazic.specs.Reaching.{ReachesAreTold}
+use Rattle.lazic.specs.Reaching.IsReachTold as reach
+use Rattle.lazic.specs.Told.{IsTold, ToldOf, kept_when}
+
+wants : (rose : Type 0) (asked : Asked) (file : List ℕ → List ℕ) → IsAnswer rose asked file NoMemory
+wants rose (Check c) file = check.no_memory refl
+wants rose (Verify w) file = verify.no_memory refl
+wants rose (Generate seed) file = verify.no_memory refl
+
+-- there is no witness
+unwitnessed : (asked : Asked) (file : List ℕ → List ℕ) (stamp : Stamp) → IsWitnessed asked file stamp NoMemory None
+unwitnessed (Check c) file stamp = refl
+unwitnessed (Verify w) file stamp = by_name (named_for w.witness w.source)
+  where
+    by_name : (name : Option (List ℕ)) → IsWitnessBy name w.model (file w.source) stamp NoMemory None
+    by_name None = refl
+    by_name (Some name) = refl
+unwitnessed (Generate seed) file stamp = refl
+
+-- and no file
+no_file : (asked : Asked) → file_for asked NoMemory ≡ None
+no_file (Check c) = refl
+no_file (Verify w) = refl
+no_file (Generate seed) = refl
+
+unnamed : (name : Option (List ℕ)) → both_named name None ≡ None
+unnamed None = refl
+unnamed (Some name) = refl
+
+no_witness : (asked : Asked) → witness_file asked None ≡ None
+no_witness (Check c) = refl
+no_witness (Verify w) = unnamed w.witness
+no_witness (Generate seed) = refl
+
+same_text : (asked : Asked) → text_for asked NoMemory ≡ text_of NoMemory
+same_text (Check c) = refl
+same_text (Verify w) = refl
+same_text (Generate seed) = refl
+
+keeps_nothing : (status : ℕ) → (status ≡ 14) ⊎ (status ≡ 15) → kept.Nothing ≡ kept_when status NoMemory
+keeps_nothing status has = sym (nothing ((status == 14) || (status == 15)))
+  where
+    nothing : (b : Bool) → (if b then kept.Nothing else kept.Nothing) ≡ kept.Nothing
+    nothing true = refl
+    nothing false = refl
+
+printed_text : (b : Bool) (asked : Asked) → (if b then text_of NoMemory else text_for asked NoMemory) ≡ text_of NoMemory
+printed_text true asked = refl
+printed_text false asked = same_text asked
+
+pub want_told :
+    (files_told text_told read_rose write_rose put_rose : Type 0) (stamp : Stamp) (asked : Asked) (old new : List ℕ → List ℕ) (text_before text_after : List ℕ) (status : ℕ) (k : Kept)
+    → (status ≡ 14) ⊎ (status ≡ 15) → k ≡ kept.Nothing → (status ≡ 14 → put_rose) → (text_told → status ≢ 14 → text_after ≡ text_before ++ text_of NoMemory)
+    → (text_told → status ≡ 14 → GrewByFront text_before text_after (text_of NoMemory)) → ((n : List ℕ) → new n ≡ old n)
+    → ToldOf files_told text_told read_rose write_rose put_rose old new text_before text_after status k stamp asked
+want_told files_told text_told read_rose write_rose put_rose stamp asked old new text_before text_after status k has nothing put printed cut same = (
+  NoMemory,
+  (
+    None,
+    record {
+      answer = λ known. wants read_rose asked old;
+      witnessed = λ known. unwitnessed asked old stamp;
+      silent = λ none. refl;
+      told = elim has [ inl e ↦ inl e | inr e ↦ inr (inl e) ];
+      keeps = nothing ∙ keeps_nothing status has;
+      read_fault = λ e. absurd cc;
+      fault = λ e. inr (put e);
+      printed = λ t other. printed t other ∙ ap (λ (xs : List ℕ). text_before ++ xs) (sym (printed_text (status == 15) asked));
+      cut = λ t e. inr (inr (cut t e));
+      stored = λ t a b. subst (λ (f : File). IsStored new f) (sym (no_file asked)) tt;
+      written = λ t a b. subst (λ (f : File). IsStored new f) (sym (no_witness asked)) tt;
+      ordered = λ t. inl (subst (λ (f : File). IsUntouched old new f) (sym (no_witness asked)) tt);
+      others = λ n a b. same n;
+    },
+  ),
+)
+
+pub want_reaches : (words : List (List ℕ)) (file : List ℕ → List ℕ) (read_rose put_rose : Type 0) (status : ℕ) (k : Kept) → (status ≡ 14) ⊎ (status ≡ 15) → (status ≡ 14 → put_rose)
+    → ReachesAreTold words file read_rose put_rose status k
+want_reaches words file read_rose put_rose status k (inl e) put wanted tree values kind at asks = reach.put_failed e (put e)
+want_reaches words file read_rose put_rose status k (inr e) put wanted tree values kind at asks = reach.no_memory e
