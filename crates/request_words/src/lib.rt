@@ -10,10 +10,12 @@ mod asking;
 mod commands;
 mod gathering;
 mod options;
+mod replaying;
 mod values;
 
 pub use asking::{Asked, Checking, LEARN, UNITS, Verifying, names_are_apart, request};
 pub use commands::Command;
 pub use gathering::{Given, Texts};
 pub use options::Choice;
+pub use replaying::{Replaying, TURNS, replay_request};
 pub use values::{is_name, model_in, number_in, numbers_are_read, seed_in, seeds_are_read};
