@@ -3,4 +3,5 @@ pub mod CauseLaws
 pub mod HeadlineLaws
 pub mod MeaningLaws
 pub mod ReachingLaws
+pub mod ShortLaws
 pub mod WordLaws

@@ -14,8 +14,9 @@ ghost use Rattle.lazic.specs.Told.{RequestsDiffer, ToldOf, stamp_of};
 ghost use Rattle.lazic.specs.Report.{MeansReport, kept_of, told_text, IsFree};
 
 use crate::answer::decide;
-use crate::report::{Kept, Report, print};
+use crate::report::{Kept, Report, no_memory, print};
 use crate::requests::answer_asked;
+use lv_base::Memory;
 use lv_outside::{Folder, Gate, Sink};
 use request_words::{names_are_apart, numbers_are_read, request, seeds_are_read};
 use source_witnesses::Stamp;
@@ -77,12 +78,13 @@ pub fn run_words<R: Threads + Sync, F: Folder, S: Sink, G: Gate>(
 {
     all_words();
     names_are_apart();
-    match request(words) {
-        Some(asked) => {
+    match request(alloc, words) {
+        Ok(Some(asked)) => {
             let stamp = Stamp { moment, random };
             answer_asked(rt, alloc, asked, stamp, folder, out, gate)
         }
-        None => replay_words(alloc, words, folder, out),
+        Ok(None) => replay_words(alloc, words, folder, out),
+        Err(Memory) => no_memory(out),
     }
 }
 
