@@ -1,16 +1,15 @@
 -- What texts give, as one more is added.
-use Rattle.std.proofs.Common.{◌≡◌, ◌∙◌, ℕ, List, [], ◌∷◌, ◌++◌, Bool, true, false, Option, Some, None, is_some, codes, refl, sym, ap, true≢false, rules}
+use Rattle.std.proofs.Common.{◌≡◌, ◌∙◌, ℕ, List, [], ◌∷◌, ◌++◌, Bool, true, false, Option, Some, None, is_some, codes, refl, sym, ap}
 use Rattle.std.specs.Prelude.{◌&&◌, if◌then◌else◌, option_and_then}
 use Rattle.std.specs.Str.{bytes_eq}
 use Rattle.clap.specs.Walk.{Text, has_row, first_of}
 use Rattle.lv_base.specs.declared.kind.Model.{Model}
-use Rattle.request_words.specs.declared.options.Choice.{Choice}
 use Rattle.request_words.specs.declared.options.Choice.TheVariants.{OfModel, OfUnits, OfLearn, OfWorkers, OfTurns, OfCert, OfRun, OfWitness}
-use Rattle.request_words.specs.Texts.{Texts, given_by, has_good_texts, has_names, has_values, is_good, texts_by, texts_in, values_given}
+use Rattle.request_words.specs.Texts.{Texts, given_by, has_good_texts, has_names, is_good, texts_by, texts_in, values_given}
 use Rattle.request_words.specs.Values.{is_name_of, model_of, number_of}
-use Rattle.request_words.specs.Words.{Given, with_value, with_model, with_units, with_learn, with_workers, with_turns, name_once, with_cert, with_run, with_witness}
+use Rattle.request_words.specs.Words.{Given, with_value}
 use Rattle.request_words.proofs.WordWalk.{Slot, Uses, first, second, of, id_of}
-use Rattle.request_words.proofs.UseLaws.{HasText, first_more, first_none, first_some, rows_of_uses, same_bytes, with_use}
+use Rattle.request_words.proofs.UseLaws.{first_more, first_none, first_some, rows_of_uses, same_bytes, with_use}
 
 -- ---- tests that all hold
 

@@ -1,20 +1,19 @@
 -- What one more word gives, by the rules of the words.
-use Rattle.std.proofs.Common.{◌≡◌, ◌∙◌, ℕ, zero, suc, List, [], ◌∷◌, ◌++◌, Bool, true, false, not, Option, Some, None, is_some, codes, refl, sym, ap, subst, length, true≢false, option_map, ne_eqb, arith}
-use Rattle.std.specs.Prelude.{◌&&◌, ◌||◌, ◌==◌, if◌then◌else◌, option_and_then}
+use Rattle.std.proofs.Common.{◌≡◌, ◌∙◌, ℕ, suc, List, [], ◌∷◌, Bool, true, false, Option, Some, None, is_some, refl, sym, ap, subst, length, true≢false, option_map, ne_eqb, arith}
+use Rattle.std.specs.Prelude.{◌||◌, ◌==◌, if◌then◌else◌, option_and_then}
 use Rattle.std.specs.List.{list_all}
-use Rattle.std.specs.Str.{bytes_eq}
 use Rattle.lv_base.specs.declared.kind.Model.{Model}
 use Rattle.clap.specs.Walk.{Text}
 use Rattle.request_words.specs.declared.options.Choice.{Choice}
 use Rattle.request_words.specs.declared.options.Choice.TheVariants.{OfModel, OfUnits, OfLearn, OfWorkers, OfTurns, OfCert, OfRun, OfWitness}
 use Rattle.request_words.specs.declared.commands.Command.{Command}
-use Rattle.request_words.specs.declared.commands.Command.TheVariants.{Check, Verify, Replay}
+use Rattle.request_words.specs.declared.commands.Command.TheVariants.{Verify}
 use Rattle.request_words.specs.Options.{choice_named, joined_of}
-use Rattle.request_words.specs.Texts.{Texts, given_by, has_all, has_good_texts, values_given, whole}
-use Rattle.request_words.specs.Values.{digit_added, is_name_byte, is_name_of, model_of, number_behind, number_of}
-use Rattle.request_words.specs.Words.{Given, awaiting, chosen_in, is_option, name_once, with_cert, with_free, with_joined, with_learn, with_model, with_name, with_name_at, with_run, with_turns, with_units, with_value, with_witness, with_word, with_word_at, with_words, with_workers}
-use Rattle.request_words.proofs.WordWalk.{Last, Place, Slot, Uses, awaits, first, none, nothing, of, one, second, two, valued}
-use Rattle.request_words.proofs.GivenLaws.{given_at, named, once, with_text}
+use Rattle.request_words.specs.Texts.{has_all, whole}
+use Rattle.request_words.specs.Values.{is_name_byte, is_name_of, model_of, number_behind, number_of}
+use Rattle.request_words.specs.Words.{Given, is_option, name_once, with_cert, with_free, with_joined, with_learn, with_model, with_name, with_name_at, with_run, with_turns, with_units, with_value, with_witness, with_word, with_word_at, with_words, with_workers}
+use Rattle.request_words.proofs.WordWalk.{Last, Place, Uses, awaits, first, none, nothing, one, second, two, valued}
+use Rattle.request_words.proofs.GivenLaws.{given_at, once, with_text}
 use Rattle.request_words.proofs.WordKinds.{IsDashed}
 
 -- what the uses give, with what is not used so far

@@ -1,29 +1,27 @@
 -- What a parse of the words behind a command gives is what the rules of the words give.
-use Rattle.std.proofs.Common.{◌≡◌, ◌∙◌, ℕ, List, [], ◌∷◌, ◌++◌, map, fold, Bool, true, false, not, Option, Some, None, is_some, codes, refl, sym, ap, ap₂, subst, true≢false, option_map}
-use Rattle.std.specs.Prelude.{◌&&◌, ◌||◌, if◌then◌else◌, option_and_then, find}
+use Rattle.std.proofs.Common.{◌≡◌, ◌∙◌, List, [], ◌∷◌, map, fold, Bool, true, false, not, Option, Some, None, is_some, codes, refl, sym, ap, ap₂, subst, true≢false, option_map}
+use Rattle.std.specs.Prelude.{◌&&◌, ◌||◌, if◌then◌else◌}
 use Rattle.std.specs.List.{list_any}
-use Rattle.std.specs.Option.{option_map_or}
 use Rattle.std.specs.Str.{bytes_eq}
 use Rattle.std.proofs.lemmas.Slice.Eq.{bytes_eq-Decides}
 use Rattle.clap.specs.Kinds.{IsAmong, Kinds, or_else}
 use Rattle.clap.specs.declared.error.kind.ErrorKind.{ErrorKind}
-use Rattle.clap.specs.Walk.{Held, Row, Rule, Text, Walk, finished, first_of, has_row, nothing_held, settled, walk, walk_from, walked, with_default}
+use Rattle.clap.specs.Walk.{Held, Row, Rule, Text, Walk, finished, has_row, nothing_held, settled, walk, walked, with_default}
 use Rattle.clap.specs.Takes.{is_given}
-use Rattle.clap.specs.Simple.{App, Shape, argument_words, built, entered, is_simple, matches_of, names_of}
-use Rattle.clap.specs.Faults.{built_fault, check_fault, default_fault, given_default_fault, defaults_fault, entered_fault, fault_of, is_simple_and_free, level_fault, settle_fault, turn_fault, walk_fault}
+use Rattle.clap.specs.Simple.{App, argument_words, entered, is_simple, matches_of, names_of}
+use Rattle.clap.specs.Faults.{built_fault, check_fault, given_default_fault, defaults_fault, entered_fault, fault_of, is_simple_and_free, level_fault, settle_fault, turn_fault, walk_fault}
 use Rattle.clap.specs.declared.error.kind.ErrorKind.TheVariants as kind
 use Rattle.request_words.specs.declared.options.Choice.{Choice}
 use Rattle.request_words.specs.declared.commands.Command.{Command}
 use Rattle.request_words.specs.declared.commands.Command.TheVariants.{Check, Verify, Replay}
 use Rattle.request_words.specs.Apps.{app_for}
-use Rattle.request_words.specs.Options.{choice_named, joined_of}
-use Rattle.request_words.specs.Texts.{Texts, given_by, has_all, has_good_texts, texts_in, values_given, whole}
-use Rattle.request_words.specs.Words.{Given, nothing_given, with_name, with_word, with_word_at, with_words}
-use Rattle.request_words.proofs.WordWalk.{Last, Place, Slot, Uses, awaits, built_app, held_at, id_of, none, nothing, of, one, rule, rules, shape, slots, two, valued, walk_at}
+use Rattle.request_words.specs.Texts.{given_by, has_all, has_good_texts, texts_in, values_given, whole}
+use Rattle.request_words.specs.Words.{Given, nothing_given, with_word, with_word_at, with_words}
+use Rattle.request_words.proofs.WordWalk.{Last, Place, Slot, Uses, awaits, built_app, held_at, id_of, none, nothing, one, rule, rules, shape, slots, two, valued, walk_at}
 use Rattle.request_words.proofs.UseLaws.{given_is, no_defaults, rows_of_uses}
 use Rattle.request_words.proofs.GivenLaws.{given_at}
-use Rattle.request_words.proofs.StepLaws.{Faulty, Fits, awaited_fault, faulty_first, faulty_second, has_kind}
-use Rattle.request_words.proofs.OwnLaws.{At, Stands, dashed_name, dashed_value, given_last, never_whole, no_words, one_word, stands_same, step}
+use Rattle.request_words.proofs.StepLaws.{Faulty, Fits, awaited_fault, faulty_first, has_kind}
+use Rattle.request_words.proofs.OwnLaws.{At, Stands, dashed_name, dashed_value, given_last, never_whole, one_word, stands_same}
 use Rattle.request_words.proofs.TurnLaws.{Room, Settled, Turned, blocked, fails, moves, settle, settles, turn}
 use Rattle.request_words.proofs.WordKinds.{IsDashed}
 

@@ -1,20 +1,19 @@
 -- What one more word does to a parse, and to what the words give.
-use Rattle.std.proofs.Common.{◌≡◌, ◌⊎◌, inl, inr, ◌∙◌, ℕ, zero, suc, List, [], ◌∷◌, ◌++◌, Bool, true, false, not, Option, Some, None, is_some, codes, refl, sym, ap, ap₂, subst, length, drop, true≢false, option_map}
-use Rattle.std.specs.Prelude.{◌&&◌, ◌||◌, ◌==◌, if◌then◌else◌, nat_lt, option_and_then, slice_get, encode_utf8}
+use Rattle.std.proofs.Common.{◌≡◌, ◌∙◌, ℕ, zero, suc, List, [], ◌∷◌, Bool, true, false, Option, Some, None, codes, refl, sym, ap, subst, length, drop, true≢false, option_map}
+use Rattle.std.specs.Prelude.{if◌then◌else◌, slice_get, encode_utf8}
 use Rattle.std.specs.Option.{option_map_or}
 use Rattle.std.specs.Str.{bytes_eq, chars}
-use Rattle.clap.specs.Lexer.{long_of, short_of}
+use Rattle.clap.specs.Lexer.{long_of}
 use Rattle.clap.specs.Kinds.{Kinds, or_else}
 use Rattle.clap.specs.Walk.{Held, Outcome, Row, Rule, Step, Text, Waiting, Walk, after_flag, after_step, arg_by_id, arg_by_index, arg_by_long, arg_by_short, bundle_met, bundle_step, has_row, idle, is_empty, is_pending, long_met, long_or_other, long_word, most_values, next, next_position, option, option_met, option_word, pending_count, plain_word, positional_held, pushed, reacted, settled, settled_rows, short_or_plain, short_word, subcommand_met, subcommand_or_other, to_positional, used, used_by_id, value, walked, word_met}
 use Rattle.clap.specs.Walk as w
-use Rattle.clap.specs.Faults.{bundle_step_fault, flag_word_fault, flags_fault, long_fault, option_fault, other_fault, positional_fault, react_fault, settle_fault, short_fault, step_fault, stray_fault, turn_fault, use_fault, word_fault}
+use Rattle.clap.specs.Faults.{bundle_step_fault, flag_word_fault, flags_fault, other_fault, settle_fault, short_fault, use_fault, word_fault}
 use Rattle.request_words.specs.declared.options.Choice.{Choice}
 use Rattle.request_words.specs.declared.options.Choice.TheVariants.{OfModel, OfUnits, OfLearn, OfWorkers, OfTurns, OfCert, OfRun, OfWitness}
 use Rattle.request_words.specs.declared.commands.Command.{Command}
 use Rattle.request_words.specs.declared.commands.Command.TheVariants.{Check, Verify, Replay}
-use Rattle.request_words.specs.Options.{choice_named, joined_of}
 use Rattle.request_words.specs.Words.{is_option}
-use Rattle.request_words.proofs.WordWalk.{Last, Place, Slot, Uses, awaits, choice_id, first, held_at, id_of, none, nothing, of, one, pending_at, position_at, rule, rules, second, shape, two, valued, waiting_at, walk_at}
+use Rattle.request_words.proofs.WordWalk.{Last, Place, Slot, Uses, awaits, choice_id, first, held_at, id_of, none, nothing, of, one, position_at, rule, rules, second, shape, two, valued}
 use Rattle.request_words.proofs.UseLaws.{rows_of_uses, used_once, with_use}
 
 -- ---- the arguments of a command

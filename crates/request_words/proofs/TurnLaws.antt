@@ -1,6 +1,6 @@
 -- A word is refused by the parser where it asks for nothing, and else both go on alike.
-use Rattle.std.proofs.Common.{◌≡◌, ◌⊎◌, inl, inr, ◌∙◌, ℕ, zero, suc, List, [], ◌∷◌, ◌++◌, Bool, true, false, not, Option, Some, None, is_some, codes, refl, sym, ap, ap₂, subst, length, true≢false, option_map}
-use Rattle.std.specs.Prelude.{◌&&◌, ◌||◌, ◌==◌, if◌then◌else◌, nat_lt, option_and_then}
+use Rattle.std.proofs.Common.{◌≡◌, ◌∙◌, ℕ, List, [], ◌∷◌, Bool, true, false, Option, Some, None, codes, refl, sym, ap, subst, length, option_map}
+use Rattle.std.specs.Prelude.{◌&&◌, if◌then◌else◌, nat_lt, option_and_then}
 use Rattle.std.specs.Option.{option_map_or}
 use Rattle.std.specs.Str.{bytes_eq}
 use Rattle.std.proofs.lemmas.Slice.Eq.{bytes_eq-Decides}
@@ -8,18 +8,17 @@ use Rattle.clap.specs.Lexer.{long_of, short_of}
 use Rattle.clap.specs.Kinds.{Kinds, or_else}
 use Rattle.clap.specs.Walk.{Held, Outcome, Row, Rule, Step, Text, Waiting, Walk, after_flag, after_step, bundle_met, has_row, is_pending, long_met, long_or_other, long_word, most_values, next_position, option_word, pending_count, plain_word, pushed, reacted, settled, short_or_plain, short_word, takes_several, to_positional, used, walked, walked_from, word_met}
 use Rattle.clap.specs.Walk as w
-use Rattle.clap.specs.Faults.{bundle_fault, flag_word_fault, flags_fault, long_fault, option_fault, positional_fault, settle_fault, step_fault, stray_fault, turn_fault, use_fault, word_fault}
+use Rattle.clap.specs.Faults.{bundle_fault, flag_word_fault, flags_fault, long_fault, positional_fault, settle_fault, step_fault, stray_fault, turn_fault, use_fault, word_fault}
 use Rattle.request_words.specs.declared.options.Choice.{Choice}
-use Rattle.request_words.specs.declared.options.Choice.TheVariants.{OfModel, OfUnits, OfLearn, OfWorkers, OfTurns, OfCert, OfRun, OfWitness}
 use Rattle.request_words.specs.declared.commands.Command.{Command}
 use Rattle.request_words.specs.declared.commands.Command.TheVariants.{Check, Verify, Replay}
 use Rattle.request_words.specs.Options.{choice_named, joined_of}
 use Rattle.request_words.specs.Texts.{whole}
-use Rattle.request_words.specs.Words.{Given, awaiting, chosen_in, is_option, with_free, with_joined, with_name, with_value, with_word, with_word_at, with_words}
+use Rattle.request_words.specs.Words.{Given, is_option, with_free, with_joined, with_name, with_value, with_word, with_word_at, with_words}
 use Rattle.request_words.proofs.WordWalk.{Last, Place, Slot, Uses, awaits, choice_id, first, held_at, id_of, none, nothing, of, one, position_at, rule, rules, second, shape, two, valued, waiting_at, walk_at}
 use Rattle.request_words.proofs.UseLaws.{rows_of_uses, used_once, with_use}
 use Rattle.request_words.proofs.GivenLaws.{given_at, given_more, given_twice, with_text}
-use Rattle.request_words.proofs.StepLaws.{Faulty, Fits, Flags, awaited_fault, by_place, faulty_first, faulty_second, fault, fault_is, flags_are, found_by_id, found_by_index, found_by_long, has_kind, has_slot, met_is, next_is, next_place, none_by_long, option_rule_of, passed, place_fits, use_fails, use_passes, valued_fault, valued_settles}
+use Rattle.request_words.proofs.StepLaws.{Faulty, Fits, Flags, awaited_fault, by_place, faulty_first, faulty_second, fault, fault_is, flags_are, found_by_id, found_by_index, found_by_long, has_kind, has_slot, met_is, next_is, next_place, none_by_long, passed, place_fits, use_fails, use_passes, valued_fault, valued_settles}
 use Rattle.request_words.proofs.OwnLaws.{At, Stands, awaited_same, dashed_name, dashed_value, first_name, given_last, never_whole, none_as, second_name, second_too_many, some_as, stands_awaiting, stands_first, stands_kept, stands_same, stands_second, stands_unawaiting, step, step_as, step_none, third_name, unawaited, value_keeps}
 use Rattle.request_words.proofs.WordKinds.{IsDashed, Kind, alone, flags, joins, kind, plain, strange}
 

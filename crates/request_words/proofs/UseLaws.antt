@@ -1,12 +1,11 @@
 -- What the rows of uses tell, and when one more may stand behind them.
-use Rattle.std.proofs.Common.{◌≡◌, ◌∙◌, ℕ, List, [], ◌∷◌, ◌++◌, map, Bool, true, false, not, Option, Some, None, is_some, codes, refl, sym, ap, subst, cond, find, true≢false, fold}
-use Rattle.std.specs.Prelude.{◌&&◌, ◌||◌, if◌then◌else◌, option_and_then, slice_get}
-use Rattle.std.specs.List.{list_any}
+use Rattle.std.proofs.Common.{◌≡◌, ◌∙◌, List, [], ◌∷◌, ◌++◌, map, Bool, true, false, Some, None, is_some, refl, sym, ap, find, true≢false, fold}
+use Rattle.std.specs.Prelude.{◌||◌, if◌then◌else◌, option_and_then, slice_get}
 use Rattle.std.specs.Option.{option_map_or}
 use Rattle.std.specs.Str.{bytes_eq}
 use Rattle.std.proofs.lemmas.Slice.Eq.{bytes_eq-Decides}
 use Rattle.clap.specs.Facts.{explicit_source}
-use Rattle.clap.specs.Walk.{Row, Rule, Text, at_row, first_of, has_row, more_values, reading_by, used, used_as, with_default, with_values, without}
+use Rattle.clap.specs.Walk.{Row, Text, at_row, first_of, has_row, more_values, reading_by, used, with_default, with_values, without}
 use Rattle.clap.specs.Takes.{is_given}
 use Rattle.clap.specs.declared.parser.matches.ValueSource.TheVariants.{CommandLine}
 use Rattle.request_words.proofs.WordWalk.{Slot, Uses, id_of, rule, use_row}

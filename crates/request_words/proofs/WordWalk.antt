@@ -1,12 +1,10 @@
 -- What a parse of a command's words holds, as names and options with their texts.
-use Rattle.std.proofs.Common.{◌≡◌, ℕ, List, [], ◌∷◌, ◌++◌, map, Bool, true, false, Option, Some, None, codes, refl}
-use Rattle.std.specs.Prelude.{◌==◌}
+use Rattle.std.proofs.Common.{◌≡◌, ℕ, List, [], ◌∷◌, map, Bool, true, false, Option, Some, None, codes, refl}
 use Rattle.clap.specs.declared.builder.action.ArgAction.TheVariants.{Set}
 use Rattle.clap.specs.declared.builder.value_parser.ValueParser.TheVariants as parser
-use Rattle.clap.specs.declared.builder.value_parser.Reading.{Reading}
 use Rattle.clap.specs.declared.parser.matches.ValueSource.TheVariants.{CommandLine}
 use Rattle.clap.specs.Walk.{Held, Row, Rule, Text, Waiting, Walk, idle, option, reading_by}
-use Rattle.clap.specs.Simple.{App, Shape, built, new_rule, new_shape}
+use Rattle.clap.specs.Simple.{Shape, built, new_shape}
 use Rattle.request_words.specs.declared.options.Choice.{Choice}
 use Rattle.request_words.specs.declared.options.Choice.TheVariants.{OfModel, OfUnits, OfLearn, OfWorkers, OfTurns, OfCert, OfRun, OfWitness}
 use Rattle.request_words.specs.declared.commands.Command.{Command}

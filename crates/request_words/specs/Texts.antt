@@ -1,5 +1,5 @@
 -- The texts that the parser of a command finds, and what they give.
-use Rattle.std.specs.Prelude.{ℕ, List, [], ◌∷◌, Bool, true, false, not, ◌&&◌, if◌then◌else◌, Option, Some, None, codes, is_some, option_and_then}
+use Rattle.std.specs.Prelude.{ℕ, List, Bool, true, false, ◌&&◌, if◌then◌else◌, Option, Some, None, codes, is_some, option_and_then}
 use Rattle.clap.specs.Words.{Row, first_of}
 use Rattle.request_words.specs.declared.options.Choice.{Choice}
 use Rattle.request_words.specs.declared.commands.Command.{Command}
