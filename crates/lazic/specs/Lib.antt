@@ -1,5 +1,4 @@
 pub mod Answer
-pub mod Given
 pub mod Headline
 pub mod Meaning
 pub mod Outcome

@@ -1,4 +1,4 @@
-ghost use Rattle.std.specs.Prelude.{◌≡◌, ◌≤◌, ◌^◌, ℕ, List, map, length, IsNone, ◌↔◌};
+ghost use Rattle.std.specs.Prelude.{◌≡◌, ◌≤◌, ◌^◌, ℕ, List, map, length, IsNone, ◌⊎◌};
 ghost use Rattle.lv_outside.specs.Counts.{Rose};
 ghost use Rattle.c_tree.specs.Tree.{Items};
 ghost use Rattle.c_typed.specs.Parts.{tree_of};
@@ -9,10 +9,10 @@ ghost use Rattle.lazic.specs.Runs.{IsRunOf, IsRunOn};
 
 use crate::outcome::Outcome;
 use crate::running::{replayed, told};
-use crate::words::{Wanted, request};
 use c_rules::Examined;
-use lv_base::{SourceFail, place_of};
+use lv_base::{Memory, SourceFail, place_of};
 use lv_outside::{FileFail, Folder, Got};
+use request_words::{Replaying, replay_request};
 use source_reading::examined;
 use std::alloc::Global;
 use stored_text::{MOST_BYTES, StoredFail, read_run};
@@ -23,16 +23,18 @@ const MOST_SOURCE: usize = 1_048_576;
 /// The answer to the words.
 pub fn decide<F: Folder>(alloc: Global, words: &[&str], folder: &mut F) -> Outcome
     ensures caused { IsCaused (Rose (F.read_faults folder.old) (F.read_faults folder.new)) (F.tells folder.old) (outcome_of (map (λ w. w.now) words.now) (F.file folder.old)) result }
-    ensures usage { IsNone (request_of (map (λ w. w.now) words.now)) ↔ (result ≡ Outcome.Usage) }
+    ensures usage { result ≡ Outcome.Usage → IsNone (request_of (map (λ w. w.now) words.now)) }
+    ensures only_usage { IsNone (request_of (map (λ w. w.now) words.now)) → (result ≡ Outcome.Usage) ⊎ (result ≡ Outcome.NoMemory) }
     ensures files { (n : List ℕ) → F.file folder.new n ≡ F.file folder.old n }
 {
-    match request(words) {
-        Some(wanted) => decide_source(alloc, folder, wanted),
-        None => Outcome::Usage,
+    match replay_request(alloc, words) {
+        Ok(Some(wanted)) => decide_source(alloc, folder, wanted),
+        Ok(None) => Outcome::Usage,
+        Err(Memory) => Outcome::NoMemory,
     }
 }
 
-fn decide_source<F: Folder>(alloc: Global, folder: &mut F, wanted: Wanted<'_>) -> Outcome
+fn decide_source<F: Folder>(alloc: Global, folder: &mut F, wanted: Replaying<'_>) -> Outcome
     ensures caused { IsCaused (Rose (F.read_faults folder.old) (F.read_faults folder.new)) (F.tells folder.old) (source_outcome wanted.entry.model wanted.entry.turns (F.file folder.old wanted.entry.source.now) (F.file folder.old wanted.entry.run.now)) result }
     ensures files { (n : List ℕ) → F.file folder.new n ≡ F.file folder.old n }
 {
@@ -48,7 +50,7 @@ fn decide_tree<F: Folder>(
     alloc: Global,
     folder: &mut F,
     source: &[u8],
-    wanted: Wanted<'_>,
+    wanted: Replaying<'_>,
 ) -> Outcome
     requires { length source.now ≤ 2 ^ 20 }
     ensures caused { IsCaused (Rose (F.read_faults folder.old) (F.read_faults folder.new)) (F.tells folder.old) (tree_outcome wanted.entry.model wanted.entry.turns source.now (source_read wanted.entry.model source.now) (F.file folder.old wanted.entry.run.now)) result }
@@ -79,7 +81,7 @@ fn decide_run<F: Folder>(
     folder: &mut F,
     source: &[u8],
     examined: &Examined,
-    wanted: Wanted<'_>,
+    wanted: Replaying<'_>,
 ) -> Outcome
     requires { length source.now ≤ 2 ^ 20 }
     ensures caused { (tree : Items) → RunsAs (tree_of examined.now.typed) tree wanted.entry.model → IsCaused (Rose (F.read_faults folder.old) (F.read_faults folder.new)) (F.tells folder.old) (run_outcome wanted.entry.model wanted.entry.turns source.now tree (F.file folder.old wanted.entry.run.now)) result }

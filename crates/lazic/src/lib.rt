@@ -9,7 +9,6 @@ mod report;
 mod requests;
 mod running;
 mod top;
-mod words;
 
 pub use report::{Kept, Report};
 pub use top::run_words;

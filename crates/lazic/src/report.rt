@@ -52,7 +52,7 @@ pub fn print<S: Sink>(alloc: Global, outcome: Outcome, out: &mut S) -> Report
 }
 
 /// Prints that memory ran out.
-pub fn no_memory<S: Sink>(out: &mut S) -> Report
+pub(crate) fn no_memory<S: Sink>(out: &mut S) -> Report
     ensures status { (result.status ≡ 14) ⊎ (result.status ≡ 15) }
     ensures kept { result.kept ≡ Kept.Nothing }
     ensures fault { result.status ≡ 14 → Rose (S.faults out.old) (S.faults out.new) }

@@ -5,13 +5,13 @@ use Rattle.std.specs.List.{list_all}
 use Rattle.lv_base.specs.declared.kind.Model.{Model}
 use Rattle.clap.specs.Walk.{Text}
 use Rattle.request_words.specs.declared.options.Choice.{Choice}
-use Rattle.request_words.specs.declared.options.Choice.TheVariants.{OfModel, OfUnits, OfLearn, OfWorkers, OfCert, OfRun, OfWitness}
+use Rattle.request_words.specs.declared.options.Choice.TheVariants.{OfModel, OfUnits, OfLearn, OfWorkers, OfTurns, OfCert, OfRun, OfWitness}
 use Rattle.request_words.specs.declared.commands.Command.{Command}
 use Rattle.request_words.specs.declared.commands.Command.TheVariants.{Verify}
 use Rattle.request_words.specs.Options.{choice_named, joined_of}
 use Rattle.request_words.specs.Texts.{has_all, whole}
 use Rattle.request_words.specs.Values.{is_name_byte, is_name_of, model_of, number_behind, number_of}
-use Rattle.request_words.specs.Words.{Given, name_once, with_cert, with_free, with_joined, with_learn, with_model, with_name, with_name_at, with_run, with_units, with_value, with_witness, with_word, with_word_at, with_words, with_workers}
+use Rattle.request_words.specs.Words.{Given, is_option, name_once, with_cert, with_free, with_joined, with_learn, with_model, with_name, with_name_at, with_run, with_turns, with_units, with_value, with_witness, with_word, with_word_at, with_words, with_workers}
 use Rattle.request_words.proofs.WordWalk.{Last, Place, Uses, awaits, first, none, nothing, one, second, two, valued}
 use Rattle.request_words.proofs.GivenLaws.{given_at, once, with_text}
 use Rattle.request_words.proofs.WordKinds.{IsDashed}
@@ -93,6 +93,10 @@ workers_none : (g : Given) (o : Option ℕ) → with_workers g o None ≡ None
 workers_none g None = refl
 workers_none g (Some m) = refl
 
+turns_none : (g : Given) (o : Option ℕ) → with_turns g o None ≡ None
+turns_none g None = refl
+turns_none g (Some m) = refl
+
 once_none : (o : Option Text) (rest : Text) → name_once o (45 ∷ rest) ≡ None
 once_none None rest = ap (λ (b : Bool). if b then Some (45 ∷ rest) else None) (hyphen_name rest)
 once_none (Some m) rest = refl
@@ -102,6 +106,7 @@ hyphen_value g OfModel rest = model_none g g.model
 hyphen_value g OfUnits rest = ap (with_units g g.units) (dashed_number 10000000 rest) ∙ units_none g g.units
 hyphen_value g OfLearn rest = ap (with_learn g g.learn) (dashed_number 100000000 rest) ∙ learn_none g g.learn
 hyphen_value g OfWorkers rest = ap (with_workers g g.workers) (dashed_number 64 rest) ∙ workers_none g g.workers
+hyphen_value g OfTurns rest = ap (with_turns g g.turns) (dashed_number 1000000000 rest) ∙ turns_none g g.turns
 hyphen_value g OfCert rest = ap (option_map (with_cert g)) (once_none g.cert rest)
 hyphen_value g OfRun rest = ap (option_map (with_run g)) (once_none g.run rest)
 hyphen_value g OfWitness rest = ap (option_map (with_witness g)) (once_none g.witness rest)
@@ -138,11 +143,18 @@ workers_same g x None (Some m) = refl
 workers_same g x (Some k) None = refl
 workers_same g x (Some k) (Some m) = refl
 
+turns_same : (g : Given) (x : Option Choice) (a b : Option ℕ) → with_turns (record g { awaited = x }) a b ≡ with_turns g a b
+turns_same g x None None = refl
+turns_same g x None (Some m) = refl
+turns_same g x (Some k) None = refl
+turns_same g x (Some k) (Some m) = refl
+
 pub awaited_same : (g : Given) (choice : Choice) (word : Text) → with_value (record g { awaited = Some choice }) choice word ≡ with_value g choice word
 awaited_same g OfModel word = model_same g (Some OfModel) g.model (model_of word)
 awaited_same g OfUnits word = units_same g (Some OfUnits) g.units (number_of 10000000 word)
 awaited_same g OfLearn word = learn_same g (Some OfLearn) g.learn (number_of 100000000 word)
 awaited_same g OfWorkers word = workers_same g (Some OfWorkers) g.workers (number_of 64 word)
+awaited_same g OfTurns word = turns_same g (Some OfTurns) g.turns (number_of 1000000000 word)
 awaited_same g OfCert word = refl
 awaited_same g OfRun word = refl
 awaited_same g OfWitness word = refl
@@ -191,6 +203,12 @@ keeps_workers g None (Some m) = keeps_some g (record g { workers = Some m; await
 keeps_workers g (Some k) None = keeps_none g
 keeps_workers g (Some k) (Some m) = keeps_none g
 
+keeps_turns : (g : Given) (a b : Option ℕ) → Keeps g (with_turns g a b)
+keeps_turns g None None = keeps_none g
+keeps_turns g None (Some m) = keeps_some g (record g { turns = Some m; awaited = None }) refl refl
+keeps_turns g (Some k) None = keeps_none g
+keeps_turns g (Some k) (Some m) = keeps_none g
+
 keeps_file : (g : Given) (f : Text → Given) → ((n : Text) → (f n).first ≡ g.first) → ((n : Text) → (f n).second ≡ g.second) → (o : Option Text) → Keeps g (option_map f o)
 keeps_file g f a b None = keeps_none g
 keeps_file g f a b (Some n) = keeps_some g (f n) (a n) (b n)
@@ -200,6 +218,7 @@ value_keeps g OfModel word = keeps_model g g.model (model_of word)
 value_keeps g OfUnits word = keeps_units g g.units (number_of 10000000 word)
 value_keeps g OfLearn word = keeps_learn g g.learn (number_of 100000000 word)
 value_keeps g OfWorkers word = keeps_workers g g.workers (number_of 64 word)
+value_keeps g OfTurns word = keeps_turns g g.turns (number_of 1000000000 word)
 value_keeps g OfCert word = keeps_file g (with_cert g) (λ n. refl) (λ n. refl) (name_once g.cert word)
 value_keeps g OfRun word = keeps_file g (with_run g) (λ n. refl) (λ n. refl) (name_once g.run word)
 value_keeps g OfWitness word = keeps_file g (with_witness g) (λ n. refl) (λ n. refl) (name_once g.witness word)
@@ -282,6 +301,10 @@ has_none h e = absurd (cc)
 has_some : (x : Given) → is_some x.second ≡ true → HasSecond (Some x)
 has_some x e h is = let same : x ≡ h = cc in ap (λ (y : Given). is_some y.second) (sym same) ∙ e
 
+if_has : (b : Bool) (o : Option Given) → HasSecond o → HasSecond (if b then o else None)
+if_has true o has = has
+if_has false o has = has_none
+
 value_has : (g : Given) (choice : Choice) (word : Text) → is_some g.second ≡ true → HasSecond (with_value g choice word)
 value_has g choice word e h is = ap is_some (value_keeps g choice word h is).1 ∙ e
 
@@ -298,11 +321,11 @@ word_has : (g : Given) (word : Text) → is_some g.second ≡ true → HasSecond
 word_has g word e = by_awaited g.awaited
   where
     by_joined : (j : Option (Choice × Text)) → HasSecond (with_joined Verify g word j)
-    by_joined (Some p) = value_has g p.0 p.1 e
+    by_joined (Some p) = if_has (is_option Verify p.0) (with_value g p.0 p.1) (value_has g p.0 p.1 e)
     by_joined None = name_has g word e
 
     by_named : (c : Option Choice) → HasSecond (with_free Verify g word c)
-    by_named (Some choice) = has_some (record g { awaited = Some choice }) e
+    by_named (Some choice) = if_has (is_option Verify choice) (Some (record g { awaited = Some choice })) (has_some (record g { awaited = Some choice }) e)
     by_named None = by_joined (joined_of word)
 
     by_awaited : (a : Option Choice) → HasSecond (with_word_at Verify g a word)

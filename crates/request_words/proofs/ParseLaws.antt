@@ -13,7 +13,7 @@ use Rattle.clap.specs.Faults.{built_fault, check_fault, given_default_fault, def
 use Rattle.clap.specs.declared.error.kind.ErrorKind.TheVariants as kind
 use Rattle.request_words.specs.declared.options.Choice.{Choice}
 use Rattle.request_words.specs.declared.commands.Command.{Command}
-use Rattle.request_words.specs.declared.commands.Command.TheVariants.{Check, Verify}
+use Rattle.request_words.specs.declared.commands.Command.TheVariants.{Check, Verify, Replay}
 use Rattle.request_words.specs.Apps.{app_for}
 use Rattle.request_words.specs.Texts.{given_by, has_all, has_good_texts, texts_in, values_given, whole}
 use Rattle.request_words.specs.Words.{Given, nothing_given, with_word, with_word_at, with_words}
@@ -61,6 +61,12 @@ both_names None b o = refl
 both_names (Some s) None o = refl
 both_names (Some s) (Some t) o = refl
 
+replay_names : (a b : Option Text) (o : Option Given) → (if has_all Replay a b None then o else None)
+    ≡ (if (true && not (is_some a)) || ((true && not (is_some b)) || false) then None else o)
+replay_names None b o = refl
+replay_names (Some s) None o = refl
+replay_names (Some s) (Some t) o = refl
+
 one_name : (a b : Option Text) (o : Option Given) → b ≡ None → (if has_all Verify a b None then o else None) ≡ (if (true && not (is_some a)) || false then None else o)
 one_name None b o e = refl
 one_name (Some s) None o e = refl
@@ -88,7 +94,11 @@ complete : (command : Command) (place : Place) (uses : Uses) → Room command pl
 complete Check place uses room stands =
     let t = texts_in (rows_of_uses uses) in
     whole_if Check (has_good_texts t) (values_given t) ∙ both_names t.first t.second (given_at uses)
-    ∙ ap₂ (λ (a b : Bool). if (true && not a) || ((true && not b) || false) then None else given_at uses) (sym (given_is uses (codes "source"))) (sym (given_is uses (codes "certificate")))
+    ∙ ap₂ (λ (a b : Bool). if (true && not a) || ((true && not b) || false) then None else given_at uses) (sym (given_is uses (codes "source"))) (sym (given_is uses (codes "second")))
+complete Replay place uses room stands =
+    let t = texts_in (rows_of_uses uses) in
+    whole_if Replay (has_good_texts t) (values_given t) ∙ replay_names t.first t.second (given_at uses)
+    ∙ ap₂ (λ (a b : Bool). if (true && not a) || ((true && not b) || false) then None else given_at uses) (sym (given_is uses (codes "source"))) (sym (given_is uses (codes "second")))
 complete Verify place uses room stands =
     let t = texts_in (rows_of_uses uses) in
     whole_if Verify (has_good_texts t) (values_given t) ∙ by_good (has_good_texts t) (values_given t) (is_missing Verify (rows_of_uses uses))
@@ -117,6 +127,9 @@ has_awaited : (command : Command) (a b : Option Text) (choice : Choice) → has_
 has_awaited Check None b choice = refl
 has_awaited Check (Some s) None choice = refl
 has_awaited Check (Some s) (Some t) choice = refl
+has_awaited Replay None b choice = refl
+has_awaited Replay (Some s) None choice = refl
+has_awaited Replay (Some s) (Some t) choice = refl
 has_awaited Verify None b choice = refl
 has_awaited Verify (Some s) None choice = refl
 has_awaited Verify (Some s) (Some t) choice = refl
@@ -218,14 +231,17 @@ words_ended command (word ∷ words) (Some g) e = go (λ h. words_ended command 
 pub simple_app : (command : Command) → is_simple (app_for command) ≡ true
 simple_app Check = refl
 simple_app Verify = refl
+simple_app Replay = refl
 
 pub free_app : (command : Command) → is_simple_and_free (app_for command) ≡ true
 free_app Check = refl
 free_app Verify = refl
+free_app Replay = refl
 
 all_words : (command : Command) (words : List Text) → argument_words (app_for command) words ≡ words
 all_words Check words = refl
 all_words Verify words = refl
+all_words Replay words = refl
 
 abbrev app_at : Command → App
 app_at command = record { top = shape command; subs = [] }

@@ -9,9 +9,9 @@ use Rattle.clap.specs.Walk.{Held, Outcome, Row, Rule, Step, Text, Waiting, Walk,
 use Rattle.clap.specs.Walk as w
 use Rattle.clap.specs.Faults.{bundle_step_fault, flag_word_fault, flags_fault, other_fault, settle_fault, short_fault, use_fault, word_fault}
 use Rattle.request_words.specs.declared.options.Choice.{Choice}
-use Rattle.request_words.specs.declared.options.Choice.TheVariants.{OfModel, OfUnits, OfLearn, OfWorkers, OfCert, OfRun, OfWitness}
+use Rattle.request_words.specs.declared.options.Choice.TheVariants.{OfModel, OfUnits, OfLearn, OfWorkers, OfTurns, OfCert, OfRun, OfWitness}
 use Rattle.request_words.specs.declared.commands.Command.{Command}
-use Rattle.request_words.specs.declared.commands.Command.TheVariants.{Check, Verify}
+use Rattle.request_words.specs.declared.commands.Command.TheVariants.{Check, Verify, Replay}
 use Rattle.request_words.specs.Words.{is_option}
 use Rattle.request_words.proofs.WordWalk.{Last, Place, Slot, Uses, awaits, choice_id, first, held_at, id_of, none, nothing, of, one, position_at, rule, rules, second, shape, two, valued}
 use Rattle.request_words.proofs.UseLaws.{rows_of_uses, used_once, with_use}
@@ -22,6 +22,7 @@ abbrev pub has_slot : Command → Slot → Bool
 has_slot command first = true
 has_slot Check second = true
 has_slot Verify second = false
+has_slot Replay second = true
 has_slot command (of choice) = is_option command choice
 
 abbrev pub Fits : Command → Last → Type 0
@@ -39,7 +40,19 @@ found_by_id Check (of OfLearn) e = absurd (true≢false (sym e))
 found_by_id Check (of OfCert) e = absurd (true≢false (sym e))
 found_by_id Check (of OfRun) e = absurd (true≢false (sym e))
 found_by_id Check (of OfWitness) e = absurd (true≢false (sym e))
+found_by_id Check (of OfTurns) e = absurd (true≢false (sym e))
+found_by_id Replay first e = refl
+found_by_id Replay second e = refl
+found_by_id Replay (of OfModel) e = refl
+found_by_id Replay (of OfTurns) e = refl
+found_by_id Replay (of OfUnits) e = absurd (true≢false (sym e))
+found_by_id Replay (of OfLearn) e = absurd (true≢false (sym e))
+found_by_id Replay (of OfWorkers) e = absurd (true≢false (sym e))
+found_by_id Replay (of OfCert) e = absurd (true≢false (sym e))
+found_by_id Replay (of OfRun) e = absurd (true≢false (sym e))
+found_by_id Replay (of OfWitness) e = absurd (true≢false (sym e))
 found_by_id Verify first e = refl
+found_by_id Verify (of OfTurns) e = absurd (true≢false (sym e))
 found_by_id Verify second e = absurd (true≢false (sym e))
 found_by_id Verify (of OfModel) e = refl
 found_by_id Verify (of OfWorkers) e = refl
@@ -60,6 +73,16 @@ found_by_long Check OfLearn = refl
 found_by_long Check OfCert = refl
 found_by_long Check OfRun = refl
 found_by_long Check OfWitness = refl
+found_by_long Check OfTurns = refl
+found_by_long Verify OfTurns = refl
+found_by_long Replay OfModel = refl
+found_by_long Replay OfUnits = refl
+found_by_long Replay OfLearn = refl
+found_by_long Replay OfWorkers = refl
+found_by_long Replay OfTurns = refl
+found_by_long Replay OfCert = refl
+found_by_long Replay OfRun = refl
+found_by_long Replay OfWitness = refl
 found_by_long Verify OfModel = refl
 found_by_long Verify OfWorkers = refl
 found_by_long Verify OfUnits = refl
@@ -73,6 +96,10 @@ none_by_long Check name other =
     let m : bytes_eq (choice_id OfModel) name ≡ false = other OfModel in
     let w : bytes_eq (choice_id OfWorkers) name ≡ false = other OfWorkers in
     rw (m, w) refl
+none_by_long Replay name other =
+    let m : bytes_eq (choice_id OfModel) name ≡ false = other OfModel in
+    let n : bytes_eq (choice_id OfTurns) name ≡ false = other OfTurns in
+    rw (m, n) refl
 none_by_long Verify name other =
     let m : bytes_eq (choice_id OfModel) name ≡ false = other OfModel in
     let u : bytes_eq (choice_id OfUnits) name ≡ false = other OfUnits in
@@ -86,11 +113,13 @@ none_by_long Verify name other =
 pub none_by_short : (command : Command) (x : ℕ) → arg_by_short (rules command) x ≡ None
 none_by_short Check x = refl
 none_by_short Verify x = refl
+none_by_short Replay x = refl
 
 abbrev pub by_place : Command → Place → Option Slot
 by_place command none = Some first
 by_place Check one = Some second
 by_place Verify one = None
+by_place Replay one = Some second
 by_place command two = None
 
 abbrev pub next_place : Place → Place
@@ -102,6 +131,9 @@ pub found_by_index : (command : Command) (place : Place) → arg_by_index (rules
 found_by_index Check none = refl
 found_by_index Check one = refl
 found_by_index Check two = refl
+found_by_index Replay none = refl
+found_by_index Replay one = refl
+found_by_index Replay two = refl
 found_by_index Verify none = refl
 found_by_index Verify one = refl
 found_by_index Verify two = refl
@@ -115,6 +147,9 @@ pub place_fits : (command : Command) (place : Place) (slot : Slot) → by_place 
 place_fits Check none slot e = let is : first ≡ slot = cc in subst (λ (s : Slot). has_slot Check s ≡ true) is refl
 place_fits Check one slot e = let is : second ≡ slot = cc in subst (λ (s : Slot). has_slot Check s ≡ true) is refl
 place_fits Check two slot e = cc
+place_fits Replay none slot e = let is : first ≡ slot = cc in subst (λ (s : Slot). has_slot Replay s ≡ true) is refl
+place_fits Replay one slot e = let is : second ≡ slot = cc in subst (λ (s : Slot). has_slot Replay s ≡ true) is refl
+place_fits Replay two slot e = cc
 place_fits Verify none slot e = let is : first ≡ slot = cc in subst (λ (s : Slot). has_slot Verify s ≡ true) is refl
 place_fits Verify one slot e = cc
 place_fits Verify two slot e = cc

@@ -11,7 +11,7 @@ use Rattle.clap.specs.Walk as w
 use Rattle.clap.specs.Faults.{bundle_fault, flag_word_fault, flags_fault, long_fault, positional_fault, settle_fault, step_fault, stray_fault, turn_fault, use_fault, word_fault}
 use Rattle.request_words.specs.declared.options.Choice.{Choice}
 use Rattle.request_words.specs.declared.commands.Command.{Command}
-use Rattle.request_words.specs.declared.commands.Command.TheVariants.{Check, Verify}
+use Rattle.request_words.specs.declared.commands.Command.TheVariants.{Check, Verify, Replay}
 use Rattle.request_words.specs.Options.{choice_named, joined_of}
 use Rattle.request_words.specs.Texts.{whole}
 use Rattle.request_words.specs.Words.{Given, is_option, with_free, with_joined, with_name, with_value, with_word, with_word_at, with_words}
@@ -28,10 +28,12 @@ Room command none = Unit {0}
 Room command one = Unit {0}
 Room Check two = Unit {0}
 Room Verify two = ⊥
+Room Replay two = Unit {0}
 
 next_room : (command : Command) (place : Place) (slot : Slot) → by_place command place ≡ Some slot → Room command (next_place place)
 next_room command none slot e = tt
 next_room Check one slot e = tt
+next_room Replay one slot e = tt
 next_room Verify one slot e = absurd (cc)
 next_room command two slot e = absurd (cc)
 
@@ -117,6 +119,7 @@ joined_word command g word j a e f = free_word command g word None a e ∙ ap (w
 name_gives : (command : Command) (place : Place) (slot : Slot) → by_place command place ≡ Some slot → (g : Given) (word : Text) → At place g → with_name g word ≡ with_text slot word g
 name_gives command none slot e g word at = let is : first ≡ slot = cc in first_name g word at ∙ ap (λ (s : Slot). with_text s word g) is
 name_gives Check one slot e g word at = let is : second ≡ slot = cc in second_name g word at ∙ ap (λ (s : Slot). with_text s word g) is
+name_gives Replay one slot e g word at = let is : second ≡ slot = cc in second_name g word at ∙ ap (λ (s : Slot). with_text s word g) is
 name_gives Verify one slot e g word at = absurd (cc)
 name_gives command two slot e g word at = absurd (cc)
 
@@ -124,6 +127,7 @@ stands_next : (command : Command) (place : Place) (slot : Slot) → by_place com
     → Stands (next_place place) (option_and_then (with_text slot word) o)
 stands_next command none slot e o word stands = let is : first ≡ slot = cc in subst (λ (s : Slot). Stands one (option_and_then (with_text s word) o)) is (stands_first o word stands)
 stands_next Check one slot e o word stands = let is : second ≡ slot = cc in subst (λ (s : Slot). Stands two (option_and_then (with_text s word) o)) is (stands_second o word stands)
+stands_next Replay one slot e o word stands = let is : second ≡ slot = cc in subst (λ (s : Slot). Stands two (option_and_then (with_text s word) o)) is (stands_second o word stands)
 stands_next Verify one slot e o word stands = absurd (cc)
 stands_next command two slot e o word stands = absurd (cc)
 
@@ -132,6 +136,7 @@ stray : (command : Command) (place : Place) → by_place command place ≡ None 
     → ((g : Given) → o ≡ Some g → with_word command g word ≡ with_name g word) → (words : List Text) → whole command (with_words command (step command o word) words) ≡ None
 stray command none e word o stands is words = absurd (cc)
 stray Check one e word o stands is words = absurd (cc)
+stray Replay one e word o stands is words = absurd (cc)
 stray Verify one e word None stands is words = never_whole Verify None refl words
 stray Verify one e word (Some g) stands is words =
     ap (λ (o : Option Given). whole Verify (with_words Verify o words)) (is g refl) ∙ second_too_many g word (stands g refl) words

@@ -8,7 +8,7 @@ use Rattle.std.proofs.lemmas.Slice.Eq.{bytes_eq-Decides}
 use Rattle.clap.specs.Lexer.{long_of, short_of}
 use Rattle.clap.specs.Walk.{Text}
 use Rattle.request_words.specs.declared.options.Choice.{Choice}
-use Rattle.request_words.specs.declared.options.Choice.TheVariants.{OfModel, OfUnits, OfLearn, OfWorkers, OfCert, OfRun, OfWitness}
+use Rattle.request_words.specs.declared.options.Choice.TheVariants.{OfModel, OfUnits, OfLearn, OfWorkers, OfTurns, OfCert, OfRun, OfWitness}
 use Rattle.request_words.specs.Options.{choice_named, joined_of, with_value_behind}
 use Rattle.request_words.proofs.WordWalk.{choice_id}
 
@@ -33,15 +33,16 @@ turned a b e = go (bytes_eq b a) refl
     go false f = f
 
 is_not : (name : Text) → bytes_eq (choice_id OfModel) name ≡ false → bytes_eq (choice_id OfUnits) name ≡ false → bytes_eq (choice_id OfLearn) name ≡ false
-    → bytes_eq (choice_id OfWorkers) name ≡ false → bytes_eq (choice_id OfCert) name ≡ false → bytes_eq (choice_id OfRun) name ≡ false
+    → bytes_eq (choice_id OfWorkers) name ≡ false → bytes_eq (choice_id OfTurns) name ≡ false → bytes_eq (choice_id OfCert) name ≡ false → bytes_eq (choice_id OfRun) name ≡ false
     → bytes_eq (choice_id OfWitness) name ≡ false → (choice : Choice) → bytes_eq (choice_id choice) name ≡ false
-is_not name m u l w c r t OfModel = m
-is_not name m u l w c r t OfUnits = u
-is_not name m u l w c r t OfLearn = l
-is_not name m u l w c r t OfWorkers = w
-is_not name m u l w c r t OfCert = c
-is_not name m u l w c r t OfRun = r
-is_not name m u l w c r t OfWitness = t
+is_not name m u l w n c r t OfModel = m
+is_not name m u l w n c r t OfUnits = u
+is_not name m u l w n c r t OfLearn = l
+is_not name m u l w n c r t OfWorkers = w
+is_not name m u l w n c r t OfTurns = n
+is_not name m u l w n c r t OfCert = c
+is_not name m u l w n c r t OfRun = r
+is_not name m u l w n c r t OfWitness = t
 
 pub identified : (name : Text) → Known name
 identified name = elim (tested (choice_id OfModel) name) [
@@ -56,13 +57,17 @@ identified name = elim (tested (choice_id OfModel) name) [
                   elim (tested (choice_id OfWorkers) name) [
                     | inl e ↦ known OfWorkers (sym e)
                     | inr w ↦
-                        elim (tested (choice_id OfCert) name) [
-                          | inl e ↦ known OfCert (sym e)
-                          | inr c ↦
-                              elim (tested (choice_id OfRun) name) [
-                                | inl e ↦ known OfRun (sym e)
-                                | inr r ↦
-                                    elim (tested (choice_id OfWitness) name) [ inl e ↦ known OfWitness (sym e) | inr t ↦ unknown (is_not name m u l w c r t) ]
+                        elim (tested (choice_id OfTurns) name) [
+                          | inl e ↦ known OfTurns (sym e)
+                          | inr n ↦
+                              elim (tested (choice_id OfCert) name) [
+                                | inl e ↦ known OfCert (sym e)
+                                | inr c ↦
+                                    elim (tested (choice_id OfRun) name) [
+                                      | inl e ↦ known OfRun (sym e)
+                                      | inr r ↦
+                                          elim (tested (choice_id OfWitness) name) [ inl e ↦ known OfWitness (sym e) | inr t ↦ unknown (is_not name m u l w n c r t) ]
+                                    ]
                               ]
                         ]
                   ]
@@ -75,6 +80,7 @@ named_known OfModel = refl
 named_known OfUnits = refl
 named_known OfLearn = refl
 named_known OfWorkers = refl
+named_known OfTurns = refl
 named_known OfCert = refl
 named_known OfRun = refl
 named_known OfWitness = refl
@@ -85,10 +91,11 @@ named_unknown name other =
     let u : bytes_eq name (choice_id OfUnits) ≡ false = turned (choice_id OfUnits) name (other OfUnits) in
     let l : bytes_eq name (choice_id OfLearn) ≡ false = turned (choice_id OfLearn) name (other OfLearn) in
     let w : bytes_eq name (choice_id OfWorkers) ≡ false = turned (choice_id OfWorkers) name (other OfWorkers) in
+    let n : bytes_eq name (choice_id OfTurns) ≡ false = turned (choice_id OfTurns) name (other OfTurns) in
     let c : bytes_eq name (choice_id OfCert) ≡ false = turned (choice_id OfCert) name (other OfCert) in
     let r : bytes_eq name (choice_id OfRun) ≡ false = turned (choice_id OfRun) name (other OfRun) in
     let t : bytes_eq name (choice_id OfWitness) ≡ false = turned (choice_id OfWitness) name (other OfWitness) in
-    rw (m, u, l, w, c, r, t) refl
+    rw (m, u, l, w, n, c, r, t) refl
 
 -- ---- the first `=`
 
@@ -128,6 +135,7 @@ no_equals OfModel = refl
 no_equals OfUnits = refl
 no_equals OfLearn = refl
 no_equals OfWorkers = refl
+no_equals OfTurns = refl
 no_equals OfCert = refl
 no_equals OfRun = refl
 no_equals OfWitness = refl

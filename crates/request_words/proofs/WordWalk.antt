@@ -6,9 +6,9 @@ use Rattle.clap.specs.declared.parser.matches.ValueSource.TheVariants.{CommandLi
 use Rattle.clap.specs.Walk.{Held, Row, Rule, Text, Waiting, Walk, idle, option, reading_by}
 use Rattle.clap.specs.Simple.{Shape, built, new_shape}
 use Rattle.request_words.specs.declared.options.Choice.{Choice}
-use Rattle.request_words.specs.declared.options.Choice.TheVariants.{OfModel, OfUnits, OfLearn, OfWorkers, OfCert, OfRun, OfWitness}
+use Rattle.request_words.specs.declared.options.Choice.TheVariants.{OfModel, OfUnits, OfLearn, OfWorkers, OfTurns, OfCert, OfRun, OfWitness}
 use Rattle.request_words.specs.declared.commands.Command.{Command}
-use Rattle.request_words.specs.declared.commands.Command.TheVariants.{Check, Verify}
+use Rattle.request_words.specs.declared.commands.Command.TheVariants.{Check, Verify, Replay}
 use Rattle.request_words.specs.Apps.{app_for}
 
 -- a name by its place, or an option
@@ -22,13 +22,14 @@ choice_id OfModel = codes "model"
 choice_id OfUnits = codes "units"
 choice_id OfLearn = codes "learn"
 choice_id OfWorkers = codes "workers"
+choice_id OfTurns = codes "turns"
 choice_id OfCert = codes "cert"
 choice_id OfRun = codes "run"
 choice_id OfWitness = codes "witness"
 
 abbrev pub id_of : Slot → Text
 id_of first = codes "source"
-id_of second = codes "certificate"
+id_of second = codes "second"
 id_of (of choice) = choice_id choice
 
 abbrev pub long_name : Slot → Option Text
@@ -70,6 +71,7 @@ rule slot = record {
 
 abbrev pub slots : Command → List Slot
 slots Check = first ∷ second ∷ of OfModel ∷ of OfWorkers ∷ []
+slots Replay = first ∷ second ∷ of OfModel ∷ of OfTurns ∷ []
 slots Verify = first ∷ of OfModel ∷ of OfUnits ∷ of OfLearn ∷ of OfWorkers ∷ of OfCert ∷ of OfRun ∷ of OfWitness ∷ []
 
 abbrev pub rules : Command → List Rule
@@ -77,6 +79,7 @@ rules command = map rule (slots command)
 
 abbrev pub command_name : Command → Text
 command_name Check = codes "check"
+command_name Replay = codes "replay"
 command_name Verify = codes "verify"
 
 abbrev pub shape : Command → Shape
@@ -91,6 +94,7 @@ shape command = record (new_shape (command_name command)) {
 pub built_app : (command : Command) → built (app_for command) ≡ record { top = shape command; subs = [] }
 built_app Check = refl
 built_app Verify = refl
+built_app Replay = refl
 
 -- ---- between two words
 

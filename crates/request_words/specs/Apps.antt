@@ -3,7 +3,7 @@ use Rattle.std.specs.Prelude.{ℕ, List, [], ◌∷◌, true, Some, codes, fold}
 use Rattle.clap.specs.Words.{App, Rule, new_app, new_rule, with_rule}
 use Rattle.clap.specs.declared.builder.action.ArgAction.TheVariants.{Set}
 use Rattle.request_words.specs.declared.commands.Command.{Command}
-use Rattle.request_words.specs.declared.commands.Command.TheVariants.{Check, Verify}
+use Rattle.request_words.specs.declared.commands.Command.TheVariants.{Check, Verify, Replay}
 
 -- a positional word that is there
 abbrev pub name_rule : List ℕ → Rule
@@ -18,13 +18,17 @@ abbrev pub start_app : List ℕ → App
 start_app name = record (new_app name) { top = record (new_app name).top { no_binary_name = true; disable_help_flag = true } }
 
 abbrev pub check_rules : List Rule
-check_rules = name_rule (codes "source") ∷ name_rule (codes "certificate") ∷ option_rule (codes "model") ∷ option_rule (codes "workers") ∷ []
+check_rules = name_rule (codes "source") ∷ name_rule (codes "second") ∷ option_rule (codes "model") ∷ option_rule (codes "workers") ∷ []
 
 abbrev pub verify_rules : List Rule
 verify_rules =
     name_rule (codes "source") ∷ option_rule (codes "model") ∷ option_rule (codes "units") ∷ option_rule (codes "learn")
     ∷ option_rule (codes "workers") ∷ option_rule (codes "cert") ∷ option_rule (codes "run") ∷ option_rule (codes "witness") ∷ []
 
+abbrev pub replay_rules : List Rule
+replay_rules = name_rule (codes "source") ∷ name_rule (codes "second") ∷ option_rule (codes "model") ∷ option_rule (codes "turns") ∷ []
+
 abbrev pub app_for : Command → App
 app_for Check = fold with_rule (start_app (codes "check")) check_rules
 app_for Verify = fold with_rule (start_app (codes "verify")) verify_rules
+app_for Replay = fold with_rule (start_app (codes "replay")) replay_rules

@@ -3,12 +3,13 @@ use Rattle.std.specs.Prelude.{ℕ, List, ◌==◌, nat_lt, length, if◌then◌e
 use Rattle.std.specs.List.{position_or_len, before_first, after_first}
 use Rattle.std.specs.Str.{bytes_eq}
 use Rattle.request_words.specs.declared.options.Choice.{Choice}
-use Rattle.request_words.specs.declared.options.Choice.TheVariants.{OfModel, OfUnits, OfLearn, OfWorkers, OfCert, OfRun, OfWitness}
+use Rattle.request_words.specs.declared.options.Choice.TheVariants.{OfModel, OfUnits, OfLearn, OfWorkers, OfTurns, OfCert, OfRun, OfWitness}
 
 abbrev pub choice_named : List ℕ → Option Choice
 choice_named word =
     if bytes_eq word (codes "--model") then Some OfModel else
     if bytes_eq word (codes "--workers") then Some OfWorkers else
+    if bytes_eq word (codes "--turns") then Some OfTurns else
     if bytes_eq word (codes "--units") then Some OfUnits else
     if bytes_eq word (codes "--learn") then Some OfLearn else
     if bytes_eq word (codes "--cert") then Some OfCert else

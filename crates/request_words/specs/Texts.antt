@@ -3,7 +3,7 @@ use Rattle.std.specs.Prelude.{ℕ, List, Bool, true, false, ◌&&◌, if◌then�
 use Rattle.clap.specs.Words.{Row, first_of}
 use Rattle.request_words.specs.declared.options.Choice.{Choice}
 use Rattle.request_words.specs.declared.commands.Command.{Command}
-use Rattle.request_words.specs.declared.commands.Command.TheVariants.{Check, Verify}
+use Rattle.request_words.specs.declared.commands.Command.TheVariants.{Check, Verify, Replay}
 use Rattle.request_words.specs.Values.{is_name_of, model_of, number_of}
 use Rattle.request_words.specs.Words.{Given}
 
@@ -15,6 +15,7 @@ pub record Texts : Type 0 where
   pub units : Option (List ℕ)
   pub learn : Option (List ℕ)
   pub workers : Option (List ℕ)
+  pub turns : Option (List ℕ)
   pub cert : Option (List ℕ)
   pub run : Option (List ℕ)
   pub witness : Option (List ℕ)
@@ -22,11 +23,12 @@ pub record Texts : Type 0 where
 abbrev pub texts_by : (List ℕ → Option (List ℕ)) → Texts
 texts_by text = record {
   first = text (codes "source");
-  second = text (codes "certificate");
+  second = text (codes "second");
   model = text (codes "model");
   units = text (codes "units");
   learn = text (codes "learn");
   workers = text (codes "workers");
+  turns = text (codes "turns");
   cert = text (codes "cert");
   run = text (codes "run");
   witness = text (codes "witness");
@@ -47,7 +49,7 @@ has_names t = is_good is_name_of t.first && (is_good is_name_of t.second && (is_
 abbrev pub has_values : Texts → Bool
 has_values t =
     is_good (λ v. is_some (model_of v)) t.model && (is_good (λ v. is_some (number_of 10000000 v)) t.units
-    && (is_good (λ v. is_some (number_of 100000000 v)) t.learn && is_good (λ v. is_some (number_of 64 v)) t.workers))
+    && (is_good (λ v. is_some (number_of 100000000 v)) t.learn && (is_good (λ v. is_some (number_of 64 v)) t.workers && is_good (λ v. is_some (number_of 1000000000 v)) t.turns)))
 
 abbrev pub has_good_texts : Texts → Bool
 has_good_texts t = has_names t && has_values t
@@ -62,6 +64,7 @@ values_given t = record {
   units = option_and_then (number_of 10000000) t.units;
   learn = option_and_then (number_of 100000000) t.learn;
   workers = option_and_then (number_of 64) t.workers;
+  turns = option_and_then (number_of 1000000000) t.turns;
   cert = t.cert;
   run = t.run;
   witness = t.witness;
@@ -75,6 +78,7 @@ given_by t = if has_good_texts t then Some (values_given t) else None
 
 abbrev pub has_all : Command → Option (List ℕ) → Option (List ℕ) → Option Choice → Bool
 has_all Check (Some source) (Some cert) None = true
+has_all Replay (Some source) (Some run) None = true
 has_all Verify (Some source) None None = true
 has_all _ _ _ _ = false
 

@@ -6,10 +6,12 @@ use Rattle.request_words.specs.declared.gathering.Texts.{Texts}
 use Rattle.request_words.specs.declared.asking.Checking.{Checking}
 use Rattle.request_words.specs.declared.asking.Verifying.{Verifying}
 use Rattle.request_words.specs.declared.asking.Asked.{Asked}
+use Rattle.request_words.specs.declared.replaying.Replaying.{Replaying}
 use Rattle.request_words.specs.declared.asking.Asked.TheVariants.{Check, Verify, Generate}
 use Rattle.request_words.specs.Words as w
 use Rattle.request_words.specs.Texts as t
 use Rattle.request_words.specs.Asked as a
+use Rattle.request_words.specs.Replays as r
 
 abbrev pub given_of : Given → w.Given
 given_of given = record {
@@ -19,6 +21,7 @@ given_of given = record {
   units = given.units;
   learn = given.learn;
   workers = given.workers;
+  turns = given.turns;
   cert = option_map (λ s. s.now) given.cert;
   run = option_map (λ s. s.now) given.run;
   witness = option_map (λ s. s.now) given.witness;
@@ -33,6 +36,7 @@ texts_of texts = record {
   units = option_map (λ s. s.now) texts.units;
   learn = option_map (λ s. s.now) texts.learn;
   workers = option_map (λ s. s.now) texts.workers;
+  turns = option_map (λ s. s.now) texts.turns;
   cert = option_map (λ s. s.now) texts.cert;
   run = option_map (λ s. s.now) texts.run;
   witness = option_map (λ s. s.now) texts.witness;
@@ -52,6 +56,9 @@ verifying_of v = record {
   run = option_map (λ s. s.now) v.run;
   witness = option_map (λ s. s.now) v.witness;
 }
+
+abbrev pub replaying_of : Replaying → r.Replaying
+replaying_of w = record { source = w.source.now; run = w.run.now; model = w.model; turns = w.turns }
 
 abbrev pub asked_by : Asked → a.Asked
 asked_by (Check c) = a.Check (checking_of c)

@@ -3,9 +3,9 @@ use Rattle.std.specs.Prelude.{ℕ, List, [], ◌∷◌, if◌then◌else◌, Boo
 use Rattle.std.specs.Option.{option_map}
 use Rattle.lv_base.specs.declared.kind.Model.{Model}
 use Rattle.request_words.specs.declared.options.Choice.{Choice}
-use Rattle.request_words.specs.declared.options.Choice.TheVariants.{OfModel, OfUnits, OfLearn, OfWorkers, OfCert, OfRun, OfWitness}
+use Rattle.request_words.specs.declared.options.Choice.TheVariants.{OfModel, OfUnits, OfLearn, OfWorkers, OfTurns, OfCert, OfRun, OfWitness}
 use Rattle.request_words.specs.declared.commands.Command.{Command}
-use Rattle.request_words.specs.declared.commands.Command.TheVariants.{Check, Verify}
+use Rattle.request_words.specs.declared.commands.Command.TheVariants.{Check, Verify, Replay}
 use Rattle.request_words.specs.Values.{is_name_of, model_of, number_of}
 use Rattle.request_words.specs.Options.{choice_named, joined_of}
 
@@ -17,13 +17,14 @@ pub record Given : Type 0 where
   pub units : Option ℕ
   pub learn : Option ℕ
   pub workers : Option ℕ
+  pub turns : Option ℕ
   pub cert : Option (List ℕ)
   pub run : Option (List ℕ)
   pub witness : Option (List ℕ)
   pub awaited : Option Choice
 
 abbrev pub nothing_given : Given
-nothing_given = record { first = None; second = None; model = None; units = None; learn = None; workers = None; cert = None; run = None; witness = None; awaited = None }
+nothing_given = record { first = None; second = None; model = None; units = None; learn = None; workers = None; turns = None; cert = None; run = None; witness = None; awaited = None }
 
 -- the value of an option, which stands at most once
 abbrev pub with_model : Given → Option Model → Option Model → Option Given
@@ -41,6 +42,10 @@ with_learn given _ _ = None
 abbrev pub with_workers : Given → Option ℕ → Option ℕ → Option Given
 with_workers given None (Some n) = Some (record given { workers = Some n; awaited = None })
 with_workers given _ _ = None
+
+abbrev pub with_turns : Given → Option ℕ → Option ℕ → Option Given
+with_turns given None (Some n) = Some (record given { turns = Some n; awaited = None })
+with_turns given _ _ = None
 
 -- the name of a file that an option gives
 abbrev pub name_once : Option (List ℕ) → List ℕ → Option (List ℕ)
@@ -61,15 +66,32 @@ with_value given OfModel value = with_model given given.model (model_of value)
 with_value given OfUnits value = with_units given given.units (number_of 10000000 value)
 with_value given OfLearn value = with_learn given given.learn (number_of 100000000 value)
 with_value given OfWorkers value = with_workers given given.workers (number_of 64 value)
+with_value given OfTurns value = with_turns given given.turns (number_of 1000000000 value)
 with_value given OfCert value = option_map (with_cert given) (name_once given.cert value)
 with_value given OfRun value = option_map (with_run given) (name_once given.run value)
 with_value given OfWitness value = option_map (with_witness given) (name_once given.witness value)
 
 -- the options of a command
 abbrev pub is_option : Command → Choice → Bool
-is_option Verify choice = true
+is_option Verify OfModel = true
+is_option Verify OfUnits = true
+is_option Verify OfLearn = true
+is_option Verify OfWorkers = true
+is_option Verify OfCert = true
+is_option Verify OfRun = true
+is_option Verify OfWitness = true
+is_option Verify OfTurns = false
+is_option Replay OfModel = true
+is_option Replay OfTurns = true
+is_option Replay OfUnits = false
+is_option Replay OfLearn = false
+is_option Replay OfWorkers = false
+is_option Replay OfCert = false
+is_option Replay OfRun = false
+is_option Replay OfWitness = false
 is_option Check OfModel = true
 is_option Check OfWorkers = true
+is_option Check OfTurns = false
 is_option Check OfUnits = false
 is_option Check OfLearn = false
 is_option Check OfCert = false

@@ -10,6 +10,7 @@ use std::alloc::{AllocError, Global};
 pub enum Command {
     Check,
     Verify,
+    Replay,
 }
 
 /// The names and options of a command, for the words behind it.
@@ -22,6 +23,7 @@ pub(crate) fn parser_for<'a>(
     match command {
         Command::Check => check_parser(alloc),
         Command::Verify => verify_parser(alloc),
+        Command::Replay => replay_parser(alloc),
     }
 }
 
@@ -30,7 +32,7 @@ fn check_parser<'a>(alloc: Global) -> Result<clap::Command<'a>, AllocError>
 {
     started(alloc, "check")
         .arg(name(alloc, "source"))?
-        .arg(name(alloc, "certificate"))?
+        .arg(name(alloc, "second"))?
         .arg(option(alloc, "model"))?
         .arg(option(alloc, "workers"))
 }
@@ -47,6 +49,16 @@ fn verify_parser<'a>(alloc: Global) -> Result<clap::Command<'a>, AllocError>
         .arg(option(alloc, "cert"))?
         .arg(option(alloc, "run"))?
         .arg(option(alloc, "witness"))
+}
+
+fn replay_parser<'a>(alloc: Global) -> Result<clap::Command<'a>, AllocError>
+    ensures { IfOk result (λ r. app_of r ≡ app_for Command.Replay) }
+{
+    started(alloc, "replay")
+        .arg(name(alloc, "source"))?
+        .arg(name(alloc, "second"))?
+        .arg(option(alloc, "model"))?
+        .arg(option(alloc, "turns"))
 }
 
 // Help is asked for by no option.

@@ -24,6 +24,7 @@ pub struct Given<'a> {
     pub units: Option<u64>,
     pub learn: Option<u64>,
     pub workers: Option<u64>,
+    pub turns: Option<u64>,
     pub cert: Option<&'a str>,
     pub run: Option<&'a str>,
     pub witness: Option<&'a str>,
@@ -38,6 +39,7 @@ pub struct Texts<'a> {
     pub units: Option<&'a str>,
     pub learn: Option<&'a str>,
     pub workers: Option<&'a str>,
+    pub turns: Option<&'a str>,
     pub cert: Option<&'a str>,
     pub run: Option<&'a str>,
     pub witness: Option<&'a str>,
@@ -79,11 +81,12 @@ fn texts_found<'a>(matches: &ArgMatches<'a>) -> Texts<'a>
 {
     Texts {
         first: matches.get_str("source"),
-        second: matches.get_str("certificate"),
+        second: matches.get_str("second"),
         model: matches.get_str("model"),
         units: matches.get_str("units"),
         learn: matches.get_str("learn"),
         workers: matches.get_str("workers"),
+        turns: matches.get_str("turns"),
         cert: matches.get_str("cert"),
         run: matches.get_str("run"),
         witness: matches.get_str("witness"),
@@ -111,6 +114,7 @@ fn values_of<'a>(texts: Texts<'a>) -> Given<'a>
         units: number_at(texts.units, 10_000_000),
         learn: number_at(texts.learn, 100_000_000),
         workers: number_at(texts.workers, 64),
+        turns: number_at(texts.turns, 1_000_000_000),
         cert: texts.cert,
         run: texts.run,
         witness: texts.witness,
@@ -131,7 +135,8 @@ fn are_values(texts: Texts) -> bool
 {
     is_model_at(texts.model)
         && (is_number_at(texts.units, 10_000_000)
-            && (is_number_at(texts.learn, 100_000_000) && is_number_at(texts.workers, 64)))
+            && (is_number_at(texts.learn, 100_000_000)
+                && (is_number_at(texts.workers, 64) && is_number_at(texts.turns, 1_000_000_000))))
 }
 
 fn is_name_at(text: Option<&str>) -> bool

@@ -5,6 +5,7 @@ pub enum Choice {
     OfUnits,
     OfLearn,
     OfWorkers,
+    OfTurns,
     OfCert,
     OfRun,
     OfWitness,
