@@ -111,7 +111,7 @@ fn check_cert<R: Threads + Sync, F: Folder, G: Gate>(
     gate: &G,
 ) -> Verdict
     requires replay { IsReplay checking.model source.now (tree_of parts.now.examined.typed) }
-    requires stands { StandsFor parts.now.blocks.graph (tree_of parts.now.examined.typed) }
+    requires stands { StandsFor parts.now.joined.graph (tree_of parts.now.examined.typed) }
     ensures answer { F.tells folder.old → IsCheckAnswer (Rose (F.read_faults folder.old) (F.read_faults folder.new)) checking.entry.model source.now (F.file folder.old checking.entry.cert.now) result }
     ensures read_fault { result ≡ Verdict.ReadFault → Rose (F.read_faults folder.old) (F.read_faults folder.new) }
     ensures tells { F.tells folder.old → F.tells folder.new }
@@ -119,12 +119,12 @@ fn check_cert<R: Threads + Sync, F: Folder, G: Gate>(
     ensures later { F.read_faults folder.old ≤ F.read_faults folder.new }
     ensures writes { F.write_faults folder.new ≡ F.write_faults folder.old }
 {
-    let _entry = parts.blocks.graph.entry();
+    let _entry = parts.joined.graph.entry();
     match folder.read(alloc, checking.cert, MOST_BYTES) {
         Ok(Got::Bytes(bytes)) => judge(
             rt,
             alloc,
-            &parts.blocks.graph,
+            &parts.joined.graph,
             source,
             checking.model,
             &bytes,
@@ -271,16 +271,16 @@ fn verify_loaded<R: Threads + Sync, G: Gate>(
     requires workers { (1 ≤ budget.workers) × (budget.workers ≤ 64) }
     requires moment { IsMoment stamp.moment }
     requires replay { IsReplay model source.now (tree_of parts.now.examined.typed) }
-    requires stands { StandsFor parts.now.blocks.graph (tree_of parts.now.examined.typed) }
-    requires marked { VisitsMarked (program_setting parts.now.examined.typed parts.now.examined.order) (tree_of parts.now.examined.typed) (live_at parts.now.blocks.live) parts.now.blocks.graph }
+    requires stands { StandsFor parts.now.joined.graph (tree_of parts.now.examined.typed) }
+    requires marked { VisitsMarked (program_setting parts.now.examined.typed parts.now.examined.order) (tree_of parts.now.examined.typed) (live_at parts.now.joined.live) parts.now.joined.graph }
     ensures answer { IsVerifyAnswer ⊥ model budget.units budget.learn source.now result.0 }
     ensures witness { IsWitnessBy (option_map (λ s. s.now) name.entry) model source.now stamp result.0 result.1 }
     ensures silent { has_witness result.0 ≡ false → result.1 ≡ None }
     ensures no_fault { result.0 ≡ Verdict.ReadFault → ⊥ }
 {
-    let _entry = parts.blocks.graph.entry();
-    let (examined, graph) = (&parts.examined, &parts.blocks.graph);
+    let _entry = parts.joined.graph.entry();
+    let (examined, graph) = (&parts.examined, &parts.joined.graph);
     let told = verify(rt, alloc, examined, graph, source, model, budget, gate);
-    let live = &parts.blocks.live;
+    let live = &parts.joined.live;
     with_witness(alloc, name, source, model, graph, live, told, stamp)
 }

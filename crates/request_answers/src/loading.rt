@@ -20,13 +20,13 @@ use verdicts::Verdict;
 #[derive(Drop)]
 pub(crate) struct Loaded {
     pub examined: Examined,
-    pub blocks: Joined,
+    pub joined: Joined,
 }
 
 /// The typed tree and the graph of a source, or the answer to it where it is refused.
 pub(crate) fn load_source(alloc: Global, source: &[u8], model: Model) -> Result<Loaded, Verdict>
     requires small { length source.now ≤ 2 ^ 20 }
-    ensures { MatchResult result (λ s. IsReplay model source.now (tree_of s.examined.typed) × (StandsFor s.blocks.graph (tree_of s.examined.typed) × VisitsMarked (program_setting s.examined.typed s.examined.order) (tree_of s.examined.typed) (live_at s.blocks.live) s.blocks.graph)) (λ v. IsRefused model source.now v) }
+    ensures { MatchResult result (λ s. IsReplay model source.now (tree_of s.examined.typed) × (StandsFor s.joined.graph (tree_of s.examined.typed) × VisitsMarked (program_setting s.examined.typed s.examined.order) (tree_of s.examined.typed) (live_at s.joined.live) s.joined.graph)) (λ v. IsRefused model source.now v) }
 {
     match examined(alloc, source, model) {
         Ok(examined) => with_graph(alloc, source, model, examined),
@@ -41,10 +41,10 @@ fn with_graph(
     examined: Examined,
 ) -> Result<Loaded, Verdict>
     requires replay { IsReplay _model _source.now (tree_of examined.typed) }
-    ensures { MatchResult result (λ s. IsReplay _model _source.now (tree_of s.examined.typed) × (StandsFor s.blocks.graph (tree_of s.examined.typed) × VisitsMarked (program_setting s.examined.typed s.examined.order) (tree_of s.examined.typed) (live_at s.blocks.live) s.blocks.graph)) (λ v. IsRefused _model _source.now v) }
+    ensures { MatchResult result (λ s. IsReplay _model _source.now (tree_of s.examined.typed) × (StandsFor s.joined.graph (tree_of s.examined.typed) × VisitsMarked (program_setting s.examined.typed s.examined.order) (tree_of s.examined.typed) (live_at s.joined.live) s.joined.graph)) (λ v. IsRefused _model _source.now v) }
 {
     match joined_blocks(alloc, &examined) {
-        Ok(blocks) => Ok(Loaded { examined, blocks }),
+        Ok(joined) => Ok(Loaded { examined, joined }),
         Err(fail) => Err(limit(fail)),
     }
 }

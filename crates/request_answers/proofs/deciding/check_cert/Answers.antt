@@ -7,7 +7,7 @@ use Rattle.request_answers.proofs.deciding.check_cert.Goals as goal
 
 pub returns-in-Ok-Bytes-clause-answer : goal.returns-in-Ok-Bytes-clause-answer
 returns-in-Ok-Bytes-clause-answer g c t =
-    check_judged _ (tree_of c.args.parts.now.examined.typed) c.args.parts.now.blocks.graph c.args.checking.model c.args.source.now c.deref.result.now (g.F.Folder.file c.args.folder.now c.args.checking.cert.now) c.judge.result c.requires.replay c.requires.stands c.entry-entry.ensures.flow
+    check_judged _ (tree_of c.args.parts.now.examined.typed) c.args.parts.now.joined.graph c.args.checking.model c.args.source.now c.deref.result.now (g.F.Folder.file c.args.folder.now c.args.checking.cert.now) c.judge.result c.requires.replay c.requires.stands c.entry-entry.ensures.flow
     (c.deref.ensures.value ∙ (rw c.in-Ok-Bytes.field-0-is at (c.in-Ok-Bytes.ensures.bytes t)).0) c.judge.ensures
 
 pub returns-in-Ok-Bytes-clause-read_fault : goal.returns-in-Ok-Bytes-clause-read_fault
