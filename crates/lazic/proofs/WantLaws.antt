@@ -1,29 +1,25 @@
 -- What is told where memory ran out over the words, whatever they ask for.
-use Rattle.std.proofs.Common.{◌≡◌, ◌≢◌, ◌⊎◌, ◌∙◌, inl, inr, refl, sym, ap, subst, ℕ, ◌==◌, Bool, true, false, if◌then◌else◌, List, ◌++◌, ℤ}
+use Rattle.std.proofs.Common.{◌≡◌, ◌≢◌, ◌⊎◌, ◌∙◌, inl, inr, refl, sym, ap, subst, ℕ, ◌==◌, Bool, true, false, if◌then◌else◌, List, ◌++◌}
 use Rattle.std.specs.Prelude.{◌||◌, Option, Some, None}
 use Rattle.lv_outside.specs.Bytes.{GrewByFront}
-use Rattle.lv_outside.specs.Counts.{Rose}
 use Rattle.request_words.specs.Asked.{Asked, Check, Verify, Generate}
 use Rattle.verdicts.specs.Lines.{text_of}
-use Rattle.verdicts.specs.declared.verdict.Verdict.{Verdict}
-use Rattle.verdicts.specs.declared.verdict.Verdict.TheVariants.{NoMemory, ReadFault}
+use Rattle.verdicts.specs.declared.verdict.Verdict.TheVariants.{NoMemory}
 use Rattle.request_answers.specs.Answers.{IsAnswer}
-use Rattle.request_answers.specs.Answers.IsCheckAnswer as check
-use Rattle.request_answers.specs.Answers.IsVerifyAnswer as verify
+use Rattle.request_answers.specs.Answers.IsCheckAnswer.{no_memory as unchecked}
+use Rattle.request_answers.specs.Answers.IsVerifyAnswer.{no_memory as unverified}
 use Rattle.request_answers.specs.Printed.{text_for}
 use Rattle.request_answers.specs.Stored.{File, IsOther, IsStored, IsUntouched, both_named, file_for, witness_file}
 use Rattle.request_answers.specs.Witnessed.{IsWitnessed, IsWitnessBy, named_for}
 use Rattle.source_witnesses.specs.declared.stamp.Stamp.{Stamp}
 use Rattle.lazic.specs.declared.report.Kept.{Kept}
 use Rattle.lazic.specs.declared.report.Kept.TheVariants as kept
-use Rattle.lazic.specs.Reaching.{ReachesAreTold}
-use Rattle.lazic.specs.Reaching.IsReachTold as reach
 use Rattle.lazic.specs.Told.{IsTold, ToldOf, kept_when}
 
 wants : (rose : Type 0) (asked : Asked) (file : List ℕ → List ℕ) → IsAnswer rose asked file NoMemory
-wants rose (Check c) file = check.no_memory refl
-wants rose (Verify w) file = verify.no_memory refl
-wants rose (Generate seed) file = verify.no_memory refl
+wants rose (Check c) file = unchecked refl
+wants rose (Verify w) file = unverified refl
+wants rose (Generate seed) file = unverified refl
 
 -- there is no witness
 unwitnessed : (asked : Asked) (file : List ℕ → List ℕ) (stamp : Stamp) → IsWitnessed asked file stamp NoMemory None
@@ -92,8 +88,3 @@ want_told files_told text_told read_rose write_rose put_rose stamp asked old new
     },
   ),
 )
-
-pub want_reaches : (words : List (List ℕ)) (file : List ℕ → List ℕ) (read_rose put_rose : Type 0) (status : ℕ) (k : Kept) → (status ≡ 14) ⊎ (status ≡ 15) → (status ≡ 14 → put_rose)
-    → ReachesAreTold words file read_rose put_rose status k
-want_reaches words file read_rose put_rose status k (inl e) put wanted tree values kind at asks = reach.put_failed e (put e)
-want_reaches words file read_rose put_rose status k (inr e) put wanted tree values kind at asks = reach.no_memory e
