@@ -379,7 +379,7 @@ def made(program, args):
         with tempfile.TemporaryDirectory() as room:
             file, cert, values = (f"{room}/{it}" for it in ("a.c", "cert", "run"))
             pathlib.Path(file).write_text(source)
-            words = [program, "verify", file, "--model", "lp64", "--units", "2000", "--learn", "5000", "--cert", cert, "--run", values]
+            words = [program, "verify", file, "--model", "lp64", "--units", "300", "--learn", "2000", "--cert", cert, "--run", values]
             verdict = answered("made: verify", words, source)
             if verdict is None:
                 return
