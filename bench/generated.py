@@ -7,11 +7,12 @@
 
 The first block decides what is said. The value that it tests is a number masked with a constant, so it is never greater than the
 constant, and it is the constant where the number is: a source is safe, or where its seed is odd its first block's `>=` is reached. Each
-line of an answer is compared with that, and the status; the last lines are how many seeds were tried, how many answers are others, and
-the slowest seeds with their seconds. The status is 1 where an answer is another one.
+line of an answer is compared with that, and the status; the last lines are how many seeds were tried, how many answers are others, the
+seconds on the average, the most memory that a run took, and the slowest seeds. The status is 1 where an answer is another one.
 """
 import concurrent.futures
 import itertools
+import resource
 import subprocess
 import sys
 import time
@@ -70,7 +71,8 @@ def try_all(program, seeds, jobs):
     others = sum(not good for _, good, _, _ in answers)
     seconds = sorted((taken, seed) for seed, _, _, taken in answers)
     print(f"{len(answers)} seeds, {others} other answers")
-    print(f"{sum(taken for taken, _ in seconds) / len(seconds):.3f} s on the average, the slowest:")
+    most = resource.getrusage(resource.RUSAGE_CHILDREN).ru_maxrss // 1024
+    print(f"{sum(taken for taken, _ in seconds) / len(seconds):.3f} s on the average, {most} MB at most, the slowest:")
     for taken, seed in reversed(seconds[-5:]):
         print(f"  seed {seed}: {taken:.3f} s")
     return 1 if others else 0
