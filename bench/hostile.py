@@ -6,8 +6,8 @@
 PROGRAM is lazic; the parts are `damage`, `memory`, `outside`, `stack`, `made` and `mutated`, all of them where none is named. Whatever is
 done to it, the program ends by itself, with one line of the manual's forms on standard output and its status, and nothing on standard
 error; no certificate of an insecure source is accepted, however one of a source like it is damaged; want of memory changes no answer but
-to NO MEMORY; a made program's verdict agrees with its replays, and with what gcc's sanitizers say of it on random inputs where there is a
-gcc. It prints the tries by kind with their answers, and ends with status 1 where something is otherwise.
+to NO MEMORY; a made program's verdict agrees with its replays, and with what gcc's sanitizers say of it on random inputs, or clang's, where
+there are these. It prints the tries by kind with their answers, and ends with status 1 where something is otherwise.
 """
 import argparse
 import collections
@@ -350,26 +350,36 @@ class Maker:
         )
 
 
-# What gcc's program draws, and how it says that it met an error.
+# What a compiler's program draws, and how it says that it met an error.
 DRIVER = """#include <stdio.h>
 #include <stdlib.h>
 int __VERIFIER_nondet_int(void) { int v; if (scanf("%d", &v) != 1) exit(3); return v; }
 """
 
 
-def gcc_says(room, source, inputs):
-    """Whether gcc's program, with its sanitizers, reaches an error on these inputs; nothing where it says neither."""
+def sanitizer_says(compiler, room, source, inputs):
+    """Whether the compiler's program, with its sanitizers, reaches an error on these inputs; nothing where it says neither."""
     c = source.replace("void reach_error() {}", "#include <stdlib.h>\nvoid reach_error() { exit(9); }").replace("extern void abort(void);\n", "")
     pathlib.Path(f"{room}/g.c").write_text(DRIVER + c)
-    made = subprocess.run(["gcc", "-fsanitize=undefined", "-fno-sanitize-recover=all", "-o", f"{room}/g", f"{room}/g.c"], capture_output=True)
-    # An overflow between constants is folded away with a warning, and no sanitizer sees it.
-    if made.returncode or b"-Woverflow" in made.stderr:
+    made = subprocess.run([compiler, "-fsanitize=undefined", "-fno-sanitize-recover=all", "-o", f"{room}/g", f"{room}/g.c"], capture_output=True)
+    # An overflow between constants is folded away by gcc with a warning, and its sanitizer sees none.
+    if made.returncode or (compiler == "gcc" and b"-Woverflow" in made.stderr):
         return None
     try:
         ran = subprocess.run([f"{room}/g"], input="\n".join(map(str, inputs)).encode(), capture_output=True, timeout=5)
     except subprocess.TimeoutExpired:
         return None
     return True if ran.returncode in (9, 1) else False if ran.returncode == 0 else None
+
+
+def beside_sanitizers(room, source, inputs, meets):
+    """Which sanitizer says as replay does whether the run meets an error. What gcc computes in the narrower type that it is stored in
+    overflows unseen, so clang's is asked where gcc's says otherwise."""
+    says = sanitizer_says("gcc", room, source, inputs)
+    if says is None or says == meets:
+        return None if says is None else "as gcc's says"
+    second = sanitizer_says("clang", room, source, inputs) if shutil.which("clang") else None
+    return "as clang's says, not gcc's" if second == meets else "otherwise"
 
 
 def made(program, args):
@@ -400,11 +410,11 @@ def made(program, args):
                 if replay.line.startswith("UNSAFE") and verdict.line == "SAFE":
                     complain("made", f"seed {seed}: SAFE, but {replay.line!r} on {inputs}", source)
                 if seed % 10 == 0 and shutil.which("gcc") and replay.line.split()[0] in ("ENDED", "UNSAFE"):
-                    says = gcc_says(room, source, inputs)
-                    if says is not None:
-                        note("made: beside gcc", "alike" if says == replay.line.startswith("UNSAFE") else "otherwise")
-                        if says != replay.line.startswith("UNSAFE"):
-                            complain("made", f"seed {seed}: gcc's program says {'an error' if says else 'no error'}, replay {replay.line!r} on {inputs}", source)
+                    found_by = beside_sanitizers(room, source, inputs, replay.line.startswith("UNSAFE"))
+                    if found_by:
+                        note("made: beside sanitizers", found_by)
+                    if found_by == "otherwise":
+                        complain("made", f"seed {seed}: the sanitizers say otherwise than replay, {replay.line!r}, on {inputs}", source)
 
     in_all(args.jobs, tried, [(args.seed + k,) for k in range(args.tries)])
 
