@@ -13,6 +13,7 @@ import argparse
 import collections
 import concurrent.futures
 import hashlib
+import os
 import pathlib
 import random
 import re
@@ -207,6 +208,20 @@ def memory(program, args):
 # ---- Faults of the outside
 
 
+def forbidden(program, room, file):
+    """A source that may not be read, and a folder that may not be written into. Root may do both, so the program is nobody's then."""
+    others = {"user": 65534} if os.geteuid() == 0 else {}
+    hidden, closed = f"{room}/hidden.c", f"{room}/closed"
+    pathlib.Path(hidden).write_text(SAFE)
+    os.mkdir(closed)
+    for path, mode in ((room, 0o755), (file, 0o644), (hidden, 0o000), (closed, 0o555)):
+        os.chmod(path, mode)
+    for kind, words, status in (("no permission to read", ["verify", hidden], 13), ("no permission to write", ["verify", file, "--cert", f"{closed}/cert"], 14)):
+        answer = answered(f"outside: {kind}", [program, *words], **others)
+        if answer and answer.status != status:
+            complain("outside", f"{kind}: status {answer.status}, not {status}")
+
+
 def outside(program, args):
     with tempfile.TemporaryDirectory() as room:
         file = f"{room}/a.c"
@@ -232,6 +247,7 @@ def outside(program, args):
             answer = answered(f"outside: {kind}", [program, *words])
             if answer and answer.status != status:
                 complain("outside", f"{kind}: status {answer.status}, not {status}")
+        forbidden(program, room, file)
         pipe = f"{room}/pipe"
         subprocess.run(["mkfifo", pipe], check=True)
         writer = subprocess.Popen(["sh", "-c", f'cat "$1" > "$2"', "sh", file, pipe])
