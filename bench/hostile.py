@@ -3,7 +3,7 @@
 
     bench/hostile.py PROGRAM [PART..] [--tries N] [--seed N] [--jobs N]
 
-PROGRAM is lazic; the parts are `damage`, `memory`, `outside`, `stack`, `made` and `mutated`, all of them where none is named. Whatever is
+PROGRAM is lazic; the parts are `damage`, `damage_by_hand`, `memory`, `outside`, `stack`, `made` and `mutated`, all of them where none is named. Whatever is
 done to it, the program ends by itself, with one line of the manual's forms on standard output and its status, and nothing on standard
 error; no certificate of an insecure source is accepted, however one of a source like it is damaged; want of memory changes no answer but
 to NO MEMORY; a made program's verdict agrees with its replays, and with what gcc's sanitizers say of it on random inputs, or clang's, where
@@ -126,6 +126,30 @@ def damaged(content):
             yield content[:at] + bytes([byte]) + content[at + 1 :]
     for end in range(len(content)):
         yield content[:end]
+
+
+def by_hand(lines):
+    """A certificate's lines damaged by hand in five ways, each with the answer that it has to have."""
+    terms, formulas, logs = (next(k for k, line in enumerate(lines) if line.startswith(word)) for word in ("terms ", "map ", "logs "))
+    count = int(lines[logs].split()[1])
+    begins = [k for k, line in enumerate(lines) if line.startswith("log ")]
+    yield lines[: terms + 1] + ["~ 4294967295"] + lines[terms + 2 :], "REJECTED 4 WrongMap term 0"
+    yield lines[: formulas + 1] + ["4294967295"] + lines[formulas + 2 :], "REJECTED 4 WrongMap formula 0"
+    yield lines[:logs] + [f"logs {count - 1}"] + lines[logs + 1 : begins[-1]] + ["end", ""], f"REJECTED 5 Count {count - 1} {count}"
+    yield lines[: begins[0]] + ["log 1", "4294967295"] + lines[begins[1] :], "REJECTED 6 BadStep 0 0"
+    yield lines[: begins[0]] + ["log 0"] + lines[begins[1] :], "REJECTED 7 NoEmpty 0"
+
+
+def damage_by_hand(program, args):
+    with tempfile.TemporaryDirectory() as room:
+        file, cert, bad = (f"{room}/{it}" for it in ("a.c", "cert", "bad"))
+        pathlib.Path(file).write_text(SAFE)
+        answered("damage by hand: verify", [program, "verify", file, "--cert", cert])
+        for lines, wanted in by_hand(pathlib.Path(cert).read_text().split("\n")):
+            pathlib.Path(bad).write_text("\n".join(lines))
+            answer = answered("damage by hand: check", [program, "check", file, bad])
+            if answer and answer.line != wanted:
+                complain("damage by hand", f"{answer.line!r}, not {wanted!r}")
 
 
 def damage(program, args):
@@ -478,7 +502,7 @@ def mutated(program, args):
     in_all(args.jobs, tried, [(args.seed + k,) for k in range(args.tries)])
 
 
-PARTS = {it.__name__: it for it in (damage, memory, outside, stack, made, mutated)}
+PARTS = {it.__name__: it for it in (damage, damage_by_hand, memory, outside, stack, made, mutated)}
 
 
 def main():
