@@ -1,5 +1,5 @@
 -- Rows of terms, and where a row is found.
-use Rattle.std.proofs.Common.{◌≡◌, ℕ, ◌+◌, ◌-◌, ◌^◌, ◌<◌, ◌≤◌, length, List, [], ◌∷◌, ◌++◌, arith, ap, sym, ◌∙◌, refl, suc, zero, subst, rules, Bool, true, false, Option, Some, None, slice_get, Contains, cond, length-append, ◌==◌, if◌then◌else◌, IsSome, Result, Ok, Err, inr}
+use Rattle.std.proofs.Common.{◌≡◌, ℕ, ◌+◌, ◌-◌, ◌^◌, ◌<◌, ◌≤◌, length, List, [], ◌∷◌, ◌++◌, arith, ap, ap₂, sym, ◌∙◌, refl, suc, zero, subst, rules, Bool, true, false, Option, Some, None, slice_get, Contains, cond, length-append, ◌==◌, if◌then◌else◌, IsSome, Result, Ok, Err, inr}
 use Rattle.std.specs.Prelude.{IfOk}
 use Rattle.bv_term.specs.Laws.{IsPut}
 use Rattle.std.specs.HashMap.{get, HashMap, Updates}
@@ -9,7 +9,7 @@ use Rattle.bv_term.specs.declared.key.Key.{Key}
 use Rattle.bv_term.specs.declared.term.TermId.{TermId}
 use Rattle.bv_term.specs.declared.term.Term.{Term}
 use Rattle.bv_term.specs.declared.term.Term.TheVariants.{Constant, Cell, Element, Add, Subtract, Multiply, Divide, Remainder, And, Or, Xor, Not, ShiftLeft, ShiftRight, ShiftSigned, Equal, Less, LessSigned, Select, ZeroExtend, SignExtend, Truncate, Bit}
-use Rattle.bv_term.specs.Keys.{key_of, same_key, first_from, Finds, IsKept}
+use Rattle.bv_term.specs.Keys.{key_of, same_key, first_from, put_at, put_of, Finds, IsKept}
 use Rattle.bv_term.specs.WellFormed.{Table, Fits, width_in, widths_after, with_term}
 use Rattle.bv_term.proofs.Growing.{widths-append, IsTable-snoc}
 
@@ -220,6 +220,15 @@ pub put-named : {E : Type 0} (r : Result TermId E) (old new : Table) (t : Term)
     → IfOk r (λ id. new ≡ with_term old t) → IfOk r (λ id. id.0 ≡ length old.terms) → IfOk r (λ id. slice_get new.terms id.0 ≡ Some t)
 put-named (Ok id) old new t e n = rw (e, n) (get-snoc old.terms t)
 put-named (Err x) old new t e n = tt
+
+pub put-made : {E : Type 0} (r : Result TermId E) (old new : Table) (t : Term)
+    → IfOk r (λ id. new ≡ with_term old t) → IfOk r (λ id. id.0 ≡ length old.terms) → first_from 0 (key_of t) old.terms ≡ None
+    → IfOk r (λ id. (new, id) ≡ put_of old t)
+put-made (Ok id) old new t e n none =
+    let number : id ≡ record { 0 = length old.terms } = ap id_of n in
+    let pair : (new, id) ≡ (with_term old t, id_of (length old.terms)) = ap₂ (λ (x : Table) (y : TermId). (x, y)) e number in
+    pair ∙ sym (ap (λ (o : Option ℕ). put_at o old t) none)
+put-made (Err x) old new t e n none = tt
 
 -- the same, the row and the number having names of their own
 pub kept-enter-at : (cells : List ℕ) (ts : List Term) (ws : List ℕ) (m n : HashMap Key ℕ (BuildHasherDefault FoldHasher)) (t : Term) (k : Key) (at : ℕ)

@@ -3,7 +3,8 @@ use Rattle.std.specs.Prelude.{ℕ, Bool, ◌==◌, ◌&&◌, ◌+◌, ◌^◌, �
 use Rattle.std.specs.declared.hash.FoldHasher.{FoldHasher}
 use Rattle.std.specs.declared.hash.BuildHasherDefault.{BuildHasherDefault}
 use Rattle.std.specs.HashMap.{get, HashMap}
-use Rattle.bv_term.specs.WellFormed.{IsTable, widths_after}
+use Rattle.bv_term.specs.WellFormed.{IsTable, Table, widths_after, with_term}
+use Rattle.bv_term.specs.declared.term.TermId.{TermId}
 use Rattle.bv_term.specs.declared.key.Key.{Key}
 use Rattle.bv_term.specs.declared.term.Term.{Term}
 use Rattle.bv_term.specs.declared.term.Term.TheVariants.{Constant, Cell, Element, Add, Subtract, Multiply, Divide, Remainder, And, Or, Xor, Not, ShiftLeft, ShiftRight, ShiftSigned, Equal, Less, LessSigned, Select, ZeroExtend, SignExtend, Truncate, Bit}
@@ -45,6 +46,14 @@ same_key a b =
 abbrev pub first_from : ℕ → Key → List Term → Option ℕ
 first_from n k [] = None
 first_from n k (t ∷ ts) = if same_key k (key_of t) then Some n else first_from (n + 1) k ts
+
+-- the table once a term was put, and the term's number: that of the first equal term, else its own, at the end
+abbrev pub put_at : Option ℕ → Table → Term → Table × TermId
+put_at (Some n) table t = (table, record { 0 = n })
+put_at None table t = (with_term table t, record { 0 = length table.terms })
+
+abbrev pub put_of : Table → Term → Table × TermId
+put_of table t = put_at (first_from 0 (key_of t) table.terms) table t
 
 -- the map finds each row at the first term that has it
 abbrev pub Finds : HashMap Key ℕ (BuildHasherDefault FoldHasher) → List Term → Type 0

@@ -1,7 +1,7 @@
 ghost use Rattle.std.specs.Prelude.{◌≡◌, ◌<◌, ◌↔◌, ◌∷◌, ◌++◌, [], length, slice_get, slice_index, take, Some, IsTrue, IsSome, IfOk, OnOk, OnErr, All};
 ghost use Rattle.bv_term.specs.declared.term.Term.{Term};
 ghost use Rattle.bv_term.specs.WellFormed.{FitsTable, IsTable, IsWidth, with_term, widths};
-ghost use Rattle.bv_term.specs.Keys.{key_of, first_from};
+ghost use Rattle.bv_term.specs.Keys.{key_of, first_from, put_of};
 ghost use Rattle.bv_term.specs.Values.{AreBelow, IsStore, value_in, values};
 ghost use Rattle.bv_term.specs.Laws.{IsPut};
 
@@ -93,6 +93,7 @@ impl Terms {
     /// The number of an equal term that is there, else the number of this term, which then stands at the end.
     pub fn put(&mut self, term: Term) -> Result<TermId, Memory>
         requires { FitsTable self.old term }
+        ensures made { IfOk result (λ id. (self.new, id) ≡ put_of self.old term) }
         ensures put { IfOk result (λ id. IsPut self.old self.new term) }
         ensures named { IfOk result (λ id. slice_get self.new.terms id.0 ≡ Some term) }
         ensures unchanged { OnErr result (self.new ≡ self.old) }
