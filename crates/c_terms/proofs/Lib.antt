@@ -1,3 +1,4 @@
 pub mod Putting
 pub mod Slots
 pub mod Finding
+pub mod Choosing

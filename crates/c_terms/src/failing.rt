@@ -4,6 +4,7 @@ ghost use Rattle.bv_term.specs.Numbers.{truth};
 ghost use Rattle.lv_base.specs.declared.fault.ErrorKind.TheVariants as ErrorKind;
 ghost use Rattle.c_tree.specs.declared.symbol.BinaryOp.TheVariants as BinaryOp;
 ghost use Rattle.lv_base.specs.Integers as int;
+ghost use Rattle.c_terms.specs.Made as made;
 ghost use Rattle.c_terms.specs.Numbers as of;
 ghost use Rattle.c_terms.specs.Operations as by;
 ghost use Rattle.c_terms.specs.Shown.{Finds, IsPair, Puts, Shows};
@@ -67,8 +68,9 @@ pub fn tests_of(op: BinaryOp, kind: Kind) -> u32
 impl Operands {
     /// The tests of an operation, in their order: the divisor's before the quotient's.
     pub fn tests(&self, words: &mut Words, op: BinaryOp) -> Result<Tests, Memory>
-        ensures { (store : List ℕ) (a b c : ℕ) → IsPair words.old.terms store self.now a b c
+        ensures shows { (store : List ℕ) (a b c : ℕ) → IsPair words.old.terms store self.now a b c
             → IfOk result (λ r. Finds words.old words.new store r (by.failures op self.now.kind self.now.model a b c)) }
+        ensures made { IfOk result (λ r. (words.new, r) ≡ made.tests words.old self.now op) }
     {
         match op {
             BinaryOp::OrElse => Ok(Tests::None),
@@ -93,8 +95,9 @@ impl Operands {
     }
 
     fn sum_test(&self, words: &mut Words) -> Result<Tests, Memory>
-        ensures { (store : List ℕ) (a b c : ℕ) → IsPair words.old.terms store self.now a b c
+        ensures shows { (store : List ℕ) (a b c : ℕ) → IsPair words.old.terms store self.now a b c
             → IfOk result (λ r. Finds words.old words.new store r (by.if_signed self.now.kind (by.failure ErrorKind.Overflow (of.sum_overflows (int.width_of self.now.kind self.now.model) a b)))) }
+        ensures made { IfOk result (λ r. (words.new, r) ≡ made.sum_test words.old self.now) }
     {
         if !is_signed(self.kind) {
             return Ok(Tests::None);
@@ -107,8 +110,9 @@ impl Operands {
     }
 
     fn difference_test(&self, words: &mut Words) -> Result<Tests, Memory>
-        ensures { (store : List ℕ) (a b c : ℕ) → IsPair words.old.terms store self.now a b c
+        ensures shows { (store : List ℕ) (a b c : ℕ) → IsPair words.old.terms store self.now a b c
             → IfOk result (λ r. Finds words.old words.new store r (by.if_signed self.now.kind (by.failure ErrorKind.Overflow (of.difference_overflows (int.width_of self.now.kind self.now.model) a b)))) }
+        ensures made { IfOk result (λ r. (words.new, r) ≡ made.difference_test words.old self.now) }
     {
         if !is_signed(self.kind) {
             return Ok(Tests::None);
@@ -121,8 +125,9 @@ impl Operands {
     }
 
     fn product_test(&self, words: &mut Words) -> Result<Tests, Memory>
-        ensures { (store : List ℕ) (a b c : ℕ) → IsPair words.old.terms store self.now a b c
+        ensures shows { (store : List ℕ) (a b c : ℕ) → IsPair words.old.terms store self.now a b c
             → IfOk result (λ r. Finds words.old words.new store r (by.if_signed self.now.kind (by.failure ErrorKind.Overflow (of.product_overflows (int.width_of self.now.kind self.now.model) a b)))) }
+        ensures made { IfOk result (λ r. (words.new, r) ≡ made.product_test words.old self.now) }
     {
         if !is_signed(self.kind) {
             return Ok(Tests::None);
@@ -136,8 +141,9 @@ impl Operands {
 
     // A sum overflows where the operands have one sign and the sum another.
     fn sum_overflows(&self, words: &mut Words) -> Result<TermId, Memory>
-        ensures { (store : List ℕ) (a b c : ℕ) → IsPair words.old.terms store self.now a b c
+        ensures shows { (store : List ℕ) (a b c : ℕ) → IsPair words.old.terms store self.now a b c
             → IfOk result (λ t. Puts words.old words.new store t 1 (of.sum_overflows (int.width_of self.now.kind self.now.model) a b)) }
+        ensures made { IfOk result (λ t. (words.new, t) ≡ made.sum_overflows words.old self.now) }
     {
         let sum = words.add(self.left, self.right)?;
         let differ = self.signs_differ(words)?;
@@ -148,8 +154,9 @@ impl Operands {
 
     // A difference overflows where the operands' signs differ and it has not the first one's.
     fn difference_overflows(&self, words: &mut Words) -> Result<TermId, Memory>
-        ensures { (store : List ℕ) (a b c : ℕ) → IsPair words.old.terms store self.now a b c
+        ensures shows { (store : List ℕ) (a b c : ℕ) → IsPair words.old.terms store self.now a b c
             → IfOk result (λ t. Puts words.old words.new store t 1 (of.difference_overflows (int.width_of self.now.kind self.now.model) a b)) }
+        ensures made { IfOk result (λ t. (words.new, t) ≡ made.difference_overflows words.old self.now) }
     {
         let difference = words.subtract(self.left, self.right)?;
         let differ = self.signs_differ(words)?;
@@ -159,8 +166,9 @@ impl Operands {
 
     // Whether a result's sign is not that of the first operand.
     fn turns(&self, words: &mut Words, low: TermId) -> Result<TermId, Memory>
-        ensures { (store : List ℕ) (a b c x : ℕ) → IsPair words.old.terms store self.now a b c → Shows words.old.terms store low (int.width_of self.now.kind self.now.model) x
+        ensures shows { (store : List ℕ) (a b c x : ℕ) → IsPair words.old.terms store self.now a b c → Shows words.old.terms store low (int.width_of self.now.kind self.now.model) x
             → IfOk result (λ t. Puts words.old words.new store t 1 (bit_xor (of.top (int.width_of self.now.kind self.now.model) a) (of.top (int.width_of self.now.kind self.now.model) x))) }
+        ensures made { IfOk result (λ t. (words.new, t) ≡ made.turns words.old self.now low) }
     {
         let bits = self.bits();
         let first = words.top(bits, self.left)?;
@@ -170,8 +178,9 @@ impl Operands {
 
     // A product overflows where it is not the extension of its low half.
     fn product_overflows(&self, words: &mut Words) -> Result<TermId, Memory>
-        ensures { (store : List ℕ) (a b c : ℕ) → IsPair words.old.terms store self.now a b c
+        ensures shows { (store : List ℕ) (a b c : ℕ) → IsPair words.old.terms store self.now a b c
             → IfOk result (λ t. Puts words.old words.new store t 1 (of.product_overflows (int.width_of self.now.kind self.now.model) a b)) }
+        ensures made { IfOk result (λ t. (words.new, t) ≡ made.product_overflows words.old self.now) }
     {
         let bits = self.bits();
         let exact = self.exact_product(words)?;
@@ -182,8 +191,9 @@ impl Operands {
     }
 
     fn division_tests(&self, words: &mut Words) -> Result<Tests, Memory>
-        ensures { (store : List ℕ) (a b c : ℕ) → IsPair words.old.terms store self.now a b c
+        ensures shows { (store : List ℕ) (a b c : ℕ) → IsPair words.old.terms store self.now a b c
             → IfOk result (λ r. Finds words.old words.new store r (by.division_fails self.now.kind self.now.model a b)) }
+        ensures made { IfOk result (λ r. (words.new, r) ≡ made.division_tests words.old self.now) }
     {
         let zero = self.divides_by_zero(words)?;
         let first = Fails {
@@ -202,8 +212,9 @@ impl Operands {
     }
 
     fn divides_by_zero(&self, words: &mut Words) -> Result<TermId, Memory>
-        ensures { (store : List ℕ) (a b c : ℕ) → IsPair words.old.terms store self.now a b c
+        ensures shows { (store : List ℕ) (a b c : ℕ) → IsPair words.old.terms store self.now a b c
             → IfOk result (λ t. Puts words.old words.new store t 1 (truth (b == 0))) }
+        ensures made { IfOk result (λ t. (words.new, t) ≡ made.divides_by_zero words.old self.now) }
     {
         let bits = self.bits();
         let zero = words.zero(bits)?;
@@ -212,8 +223,9 @@ impl Operands {
 
     // A quotient overflows where the least value is divided by -1.
     fn quotient_overflows(&self, words: &mut Words) -> Result<TermId, Memory>
-        ensures { (store : List ℕ) (a b c : ℕ) → IsPair words.old.terms store self.now a b c
+        ensures shows { (store : List ℕ) (a b c : ℕ) → IsPair words.old.terms store self.now a b c
             → IfOk result (λ t. Puts words.old words.new store t 1 (of.quotient_overflows (int.width_of self.now.kind self.now.model) a b)) }
+        ensures made { IfOk result (λ t. (words.new, t) ≡ made.quotient_overflows words.old self.now) }
     {
         let bits = self.bits();
         let least = self.least(words)?;
@@ -225,15 +237,17 @@ impl Operands {
 
     // The least value of the signed kind.
     fn least(&self, words: &mut Words) -> Result<TermId, Memory>
-        ensures { (store : List ℕ) → IfOk result (λ t. Puts words.old words.new store t (int.width_of self.now.kind self.now.model) (2 ^ (int.width_of self.now.kind self.now.model - 1))) }
+        ensures shows { (store : List ℕ) → IfOk result (λ t. Puts words.old words.new store t (int.width_of self.now.kind self.now.model) (2 ^ (int.width_of self.now.kind self.now.model - 1))) }
+        ensures made { IfOk result (λ t. (words.new, t) ≡ made.least words.old self.now) }
     {
         let bits = self.bits();
         words.put(Term::Constant(bits, power(bits - 1)))
     }
 
     fn left_shift_test(&self, words: &mut Words) -> Result<Tests, Memory>
-        ensures { (store : List ℕ) (a b c : ℕ) → IsPair words.old.terms store self.now a b c
+        ensures shows { (store : List ℕ) (a b c : ℕ) → IsPair words.old.terms store self.now a b c
             → IfOk result (λ r. Finds words.old words.new store r (by.failures BinaryOp.ShiftLeft self.now.kind self.now.model a b c)) }
+        ensures made { IfOk result (λ r. (words.new, r) ≡ made.left_shift_test words.old self.now) }
     {
         let when = self.left_shift_fails(words)?;
         Ok(Tests::One(Fails {
@@ -243,8 +257,9 @@ impl Operands {
     }
 
     fn right_shift_test(&self, words: &mut Words) -> Result<Tests, Memory>
-        ensures { (store : List ℕ) (a b c : ℕ) → IsPair words.old.terms store self.now a b c
+        ensures shows { (store : List ℕ) (a b c : ℕ) → IsPair words.old.terms store self.now a b c
             → IfOk result (λ r. Finds words.old words.new store r (by.failures BinaryOp.ShiftRight self.now.kind self.now.model a b c)) }
+        ensures made { IfOk result (λ r. (words.new, r) ≡ made.right_shift_test words.old self.now) }
     {
         let when = self.is_far(words)?;
         Ok(Tests::One(Fails {
@@ -255,8 +270,9 @@ impl Operands {
 
     // A signed left side that is shifted left is not negative, and its result is held.
     fn left_shift_fails(&self, words: &mut Words) -> Result<TermId, Memory>
-        ensures { (store : List ℕ) (a b c : ℕ) → IsPair words.old.terms store self.now a b c
+        ensures shows { (store : List ℕ) (a b c : ℕ) → IsPair words.old.terms store self.now a b c
             → IfOk result (λ t. Puts words.old words.new store t 1 (of.left_shift_fails (int.is_signed self.now.kind) (int.width_of self.now.kind self.now.model) a b c)) }
+        ensures made { IfOk result (λ t. (words.new, t) ≡ made.left_shift_fails words.old self.now) }
     {
         let far = self.is_far(words)?;
         if !is_signed(self.kind) {
@@ -268,8 +284,9 @@ impl Operands {
 
     // An amount is from 0 to below the width.
     fn is_far(&self, words: &mut Words) -> Result<TermId, Memory>
-        ensures { (store : List ℕ) (a b c : ℕ) → IsPair words.old.terms store self.now a b c
+        ensures shows { (store : List ℕ) (a b c : ℕ) → IsPair words.old.terms store self.now a b c
             → IfOk result (λ t. Puts words.old words.new store t 1 (of.is_far (int.width_of self.now.kind self.now.model) c)) }
+        ensures made { IfOk result (λ t. (words.new, t) ≡ made.is_far words.old self.now) }
     {
         let bits = self.bits();
         let most = words.put(Term::Constant(SLOT_WIDTH, u128::from(bits)))?;
@@ -278,8 +295,9 @@ impl Operands {
     }
 
     fn shift_loses(&self, words: &mut Words) -> Result<TermId, Memory>
-        ensures { (store : List ℕ) (a b c : ℕ) → IsPair words.old.terms store self.now a b c
+        ensures shows { (store : List ℕ) (a b c : ℕ) → IsPair words.old.terms store self.now a b c
             → IfOk result (λ t. Puts words.old words.new store t 1 (of.shift_loses (int.width_of self.now.kind self.now.model) a b)) }
+        ensures made { IfOk result (λ t. (words.new, t) ≡ made.shift_loses words.old self.now) }
     {
         let bits = self.bits();
         let shifted = words.shift_left(self.left, self.right)?;
@@ -305,8 +323,9 @@ pub fn negation_overflows(
     model: Model,
     slot: TermId,
 ) -> Result<TermId, Memory>
-    ensures { (store : List ℕ) (a : ℕ) → Shows words.old.terms store slot 64 a
+    ensures shows { (store : List ℕ) (a : ℕ) → Shows words.old.terms store slot 64 a
         → IfOk result (λ t. Puts words.old words.new store t 1 (by.negation_overflows kind model a)) }
+    ensures made { IfOk result (λ t. (words.new, t) ≡ made.negation_overflows words.old kind model slot) }
 {
     let zero = words.zero(SLOT_WIDTH)?;
     let operands = Operands::new(words, kind, model, zero, slot)?;

@@ -12,6 +12,9 @@
 //! What a call promises of its term holds in every store: the term's width, and its value as a function of those of the operands
 //! (`specs/Numbers`, `specs/Operations`), where the operands stand in the table and have the widths that the call asks for. Then the
 //! table stays sound.
+//!
+//! Which terms a call puts, and the number of the one that it answers, are a function of the words before it and of its arguments
+//! (`specs/Made`, a definition for each call), whatever the operands are: equal calls on equal words make equal tables.
 #![tactic(auto)]
 
 mod arithmetic;

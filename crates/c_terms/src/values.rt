@@ -1,6 +1,7 @@
 //! Values of slots and of objects' elements, as terms. A slot's cell has 64 bits, an element's the width of its kind.
 ghost use Rattle.std.specs.Prelude.{◌≡◌, ℕ, List, IfOk};
 ghost use Rattle.lv_base.specs.Integers as int;
+ghost use Rattle.c_terms.specs.Made as made;
 ghost use Rattle.c_terms.specs.Numbers as of;
 ghost use Rattle.c_terms.specs.Operations as by;
 ghost use Rattle.c_terms.specs.Shown.{Puts, Shows};
@@ -47,8 +48,9 @@ pub fn promoted(kind: Kind) -> Kind
 
 /// The low bits of a slot's value, as many as the kind has.
 pub fn narrow(words: &mut Words, kind: Kind, model: Model, slot: TermId) -> Result<TermId, Memory>
-    ensures { (store : List ℕ) (a : ℕ) → Shows words.old.terms store slot 64 a
+    ensures shows { (store : List ℕ) (a : ℕ) → Shows words.old.terms store slot 64 a
         → IfOk result (λ t. Puts words.old words.new store t (int.width_of kind model) (of.narrowed kind model a)) }
+    ensures made { IfOk result (λ t. (words.new, t) ≡ made.narrow words.old kind model slot) }
 {
     let bits = width(kind, model);
     if bits < SLOT_WIDTH {
@@ -60,8 +62,9 @@ pub fn narrow(words: &mut Words, kind: Kind, model: Model, slot: TermId) -> Resu
 
 /// The value of a slot that has these bits in a kind.
 pub fn widen(words: &mut Words, kind: Kind, model: Model, bits: TermId) -> Result<TermId, Memory>
-    ensures { (store : List ℕ) (a : ℕ) → Shows words.old.terms store bits (int.width_of kind model) a
+    ensures shows { (store : List ℕ) (a : ℕ) → Shows words.old.terms store bits (int.width_of kind model) a
         → IfOk result (λ t. Puts words.old words.new store t 64 (of.widened kind model a)) }
+    ensures made { IfOk result (λ t. (words.new, t) ≡ made.widen words.old kind model bits) }
 {
     if width(kind, model) >= SLOT_WIDTH {
         return Ok(bits);
@@ -75,8 +78,9 @@ pub fn widen(words: &mut Words, kind: Kind, model: Model, bits: TermId) -> Resul
 
 // 1 where a slot's value is not 0, as the value of a slot.
 fn nonzero(words: &mut Words, slot: TermId) -> Result<TermId, Memory>
-    ensures { (store : List ℕ) (a : ℕ) → Shows words.old.terms store slot 64 a
+    ensures shows { (store : List ℕ) (a : ℕ) → Shows words.old.terms store slot 64 a
         → IfOk result (λ t. Puts words.old words.new store t 64 (of.nonzero a)) }
+    ensures made { IfOk result (λ t. (words.new, t) ≡ made.nonzero words.old slot) }
 {
     let zero = words.is_zero(slot)?;
     let is_true = words.not(zero)?;
@@ -85,8 +89,9 @@ fn nonzero(words: &mut Words, slot: TermId) -> Result<TermId, Memory>
 
 // The value of a slot that has the slot's low bits in a kind.
 fn cut(words: &mut Words, kind: Kind, model: Model, slot: TermId) -> Result<TermId, Memory>
-    ensures { (store : List ℕ) (a : ℕ) → Shows words.old.terms store slot 64 a
+    ensures shows { (store : List ℕ) (a : ℕ) → Shows words.old.terms store slot 64 a
         → IfOk result (λ t. Puts words.old words.new store t 64 (of.widened kind model (of.narrowed kind model a))) }
+    ensures made { IfOk result (λ t. (words.new, t) ≡ made.cut words.old kind model slot) }
 {
     let bits = narrow(words, kind, model, slot)?;
     widen(words, kind, model, bits)
@@ -99,8 +104,9 @@ pub fn converted(
     model: Model,
     slot: TermId,
 ) -> Result<TermId, Memory>
-    ensures { (store : List ℕ) (a : ℕ) → Shows words.old.terms store slot 64 a
+    ensures shows { (store : List ℕ) (a : ℕ) → Shows words.old.terms store slot 64 a
         → IfOk result (λ t. Puts words.old words.new store t 64 (of.converted kind model a)) }
+    ensures made { IfOk result (λ t. (words.new, t) ≡ made.converted words.old kind model slot) }
 {
     if is_bool(kind) {
         nonzero(words, slot)
@@ -111,8 +117,9 @@ pub fn converted(
 
 /// A slot's value with a minus in a kind, where that does not overflow.
 pub fn negated(words: &mut Words, kind: Kind, model: Model, slot: TermId) -> Result<TermId, Memory>
-    ensures { (store : List ℕ) (a : ℕ) → Shows words.old.terms store slot 64 a
+    ensures shows { (store : List ℕ) (a : ℕ) → Shows words.old.terms store slot 64 a
         → IfOk result (λ t. Puts words.old words.new store t 64 (by.negation kind model a)) }
+    ensures made { IfOk result (λ t. (words.new, t) ≡ made.negated words.old kind model slot) }
 {
     let bits = narrow(words, kind, model, slot)?;
     let zero = words.zero(width(kind, model))?;
@@ -127,8 +134,9 @@ pub fn complement(
     model: Model,
     slot: TermId,
 ) -> Result<TermId, Memory>
-    ensures { (store : List ℕ) (a : ℕ) → Shows words.old.terms store slot 64 a
+    ensures shows { (store : List ℕ) (a : ℕ) → Shows words.old.terms store slot 64 a
         → IfOk result (λ t. Puts words.old words.new store t 64 (by.complement kind model a)) }
+    ensures made { IfOk result (λ t. (words.new, t) ≡ made.complement words.old kind model slot) }
 {
     let bits = narrow(words, kind, model, slot)?;
     let turned = words.not(bits)?;

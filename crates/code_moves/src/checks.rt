@@ -5,6 +5,7 @@ ghost use Rattle.c_terms.specs.Numbers as word;
 ghost use Rattle.c_terms.specs.Shown.{Finds, Puts, Shows};
 ghost use Rattle.code_moves.specs.Setting.{setting_of, Stands};
 ghost use Rattle.code_moves.specs.Values as of;
+ghost use Rattle.code_moves.specs.Made as made;
 
 use crate::ground::Ground;
 use bv_term::TermId;
@@ -50,8 +51,9 @@ impl Ground<'_> {
         left: TermId,
         right: TermId,
     ) -> Result<TermId, Memory>
-        ensures { (store : List ℕ) (a b : ℕ) → Shows words.old.terms store left 64 a → Shows words.old.terms store right 64 b
+        ensures shows { (store : List ℕ) (a b : ℕ) → Shows words.old.terms store left 64 a → Shows words.old.terms store right 64 b
             → IfOk result (λ t. Puts words.old words.new store t 64 (of.applied op kind self.now.model a b)) }
+        ensures made { IfOk result (λ t. (words.new, t) ≡ made.applied (setting_of self.now) words.old op kind left right) }
     {
         let operands = Operands::new(words, kind, self.model, left, right)?;
         operands.value(words, op)
@@ -66,8 +68,9 @@ impl Ground<'_> {
         left: TermId,
         right: TermId,
     ) -> Result<Tests, Memory>
-        ensures { (store : List ℕ) (a b : ℕ) → Shows words.old.terms store left 64 a → Shows words.old.terms store right 64 b
+        ensures shows { (store : List ℕ) (a b : ℕ) → Shows words.old.terms store left 64 a → Shows words.old.terms store right 64 b
             → IfOk result (λ r. Finds words.old words.new store r (of.tested op kind self.now.model a b)) }
+        ensures made { IfOk result (λ r. (words.new, r) ≡ made.tested (setting_of self.now) words.old op kind left right) }
     {
         let operands = Operands::new(words, kind, self.model, left, right)?;
         operands.tests(words, op)
@@ -81,8 +84,9 @@ impl Ground<'_> {
         kind: Kind,
         old: TermId,
     ) -> Result<TermId, Memory>
-        ensures { (store : List ℕ) (a : ℕ) → Shows words.old.terms store old 64 a
+        ensures shows { (store : List ℕ) (a : ℕ) → Shows words.old.terms store old 64 a
             → IfOk result (λ t. Puts words.old words.new store t 64 (of.stepped by kind self.now.model a)) }
+        ensures made { IfOk result (λ t. (words.new, t) ≡ made.stepped (setting_of self.now) words.old by kind old) }
     {
         let wide = promoted(kind);
         let left = converted(words, wide, self.model, old)?;
@@ -99,8 +103,9 @@ impl Ground<'_> {
         kind: Kind,
         old: TermId,
     ) -> Result<Tests, Memory>
-        ensures { (store : List ℕ) (a : ℕ) → Shows words.old.terms store old 64 a
+        ensures shows { (store : List ℕ) (a : ℕ) → Shows words.old.terms store old 64 a
             → IfOk result (λ r. Finds words.old words.new store r (of.step_tested by kind self.now.model a)) }
+        ensures made { IfOk result (λ r. (words.new, r) ≡ made.step_tested (setting_of self.now) words.old by kind old) }
     {
         if !is_promoted(kind) {
             return Ok(Tests::None);
@@ -112,8 +117,9 @@ impl Ground<'_> {
     }
 
     fn index_test(&self, words: &mut Words, slot: usize, count: usize) -> Result<Tests, Memory>
-        ensures { (store : List ℕ) → Stands (setting_of self.now) words.old
+        ensures shows { (store : List ℕ) → Stands (setting_of self.now) words.old
             → IfOk result (λ r. Finds words.old words.new store r (of.index_fails count (of.slot_value (setting_of self.now) store slot))) }
+        ensures made { IfOk result (λ r. (words.new, r) ≡ made.index_test (setting_of self.now) words.old slot count) }
     {
         let index = self.slot(words, slot)?;
         let most = words.constant(whole(count))?;
@@ -126,8 +132,9 @@ impl Ground<'_> {
     }
 
     fn missing_test(&self, words: &mut Words, from: usize, is_needed: bool) -> Result<Tests, Memory>
-        ensures { (store : List ℕ) → Stands (setting_of self.now) words.old
+        ensures shows { (store : List ℕ) → Stands (setting_of self.now) words.old
             → IfOk result (λ r. Finds words.old words.new store r (of.missing_fails is_needed (of.slot_value (setting_of self.now) store (from + 2)))) }
+        ensures made { IfOk result (λ r. (words.new, r) ≡ made.missing_test (setting_of self.now) words.old from is_needed) }
     {
         if !is_needed {
             return Ok(Tests::None);
@@ -141,8 +148,9 @@ impl Ground<'_> {
     }
 
     fn negation_test(&self, words: &mut Words, slot: usize, kind: Kind) -> Result<Tests, Memory>
-        ensures { (store : List ℕ) → Stands (setting_of self.now) words.old
+        ensures shows { (store : List ℕ) → Stands (setting_of self.now) words.old
             → IfOk result (λ r. Finds words.old words.new store r (of.negation_fails kind self.now.model (of.slot_value (setting_of self.now) store slot))) }
+        ensures made { IfOk result (λ r. (words.new, r) ≡ made.negation_test (setting_of self.now) words.old slot kind) }
     {
         if !is_signed(kind) {
             return Ok(Tests::None);
@@ -162,8 +170,9 @@ impl Ground<'_> {
         op: BinaryOp,
         kind: Kind,
     ) -> Result<Tests, Memory>
-        ensures { (store : List ℕ) → Stands (setting_of self.now) words.old
+        ensures shows { (store : List ℕ) → Stands (setting_of self.now) words.old
             → IfOk result (λ r. Finds words.old words.new store r (of.tested op kind self.now.model (of.slot_value (setting_of self.now) store slot) (of.slot_value (setting_of self.now) store (slot + 1)))) }
+        ensures made { IfOk result (λ r. (words.new, r) ≡ made.binary_tests (setting_of self.now) words.old slot op kind) }
     {
         let left = self.slot(words, slot)?;
         let right = self.slot_behind(words, slot, 1)?;
@@ -177,8 +186,9 @@ impl Ground<'_> {
         op: BinaryOp,
         kind: Kind,
     ) -> Result<Tests, Memory>
-        ensures { (store : List ℕ) → Stands (setting_of self.now) words.old
+        ensures shows { (store : List ℕ) → Stands (setting_of self.now) words.old
             → IfOk result (λ r. Finds words.old words.new store r (of.tested op kind self.now.model (word.converted kind self.now.model (of.slot_value (setting_of self.now) store (slot + 1))) (of.slot_value (setting_of self.now) store (slot + 2)))) }
+        ensures made { IfOk result (λ r. (words.new, r) ≡ made.update_tests (setting_of self.now) words.old slot op kind) }
     {
         let old = self.slot_behind(words, slot, 1)?;
         let right = self.slot_behind(words, slot, 2)?;
@@ -194,8 +204,9 @@ impl Ground<'_> {
         kind: Kind,
         object: u32,
     ) -> Result<Tests, Memory>
-        ensures { (store : List ℕ) → Stands (setting_of self.now) words.old
+        ensures shows { (store : List ℕ) → Stands (setting_of self.now) words.old
             → IfOk result (λ r. Finds words.old words.new store r (of.step_tested by kind self.now.model (of.element_value (setting_of self.now) store object (of.slot_value (setting_of self.now) store slot)))) }
+        ensures made { IfOk result (λ r. (words.new, r) ≡ made.change_tests (setting_of self.now) words.old slot by kind object) }
     {
         let index = self.slot(words, slot)?;
         let old = self.element(words, object, index)?;
@@ -204,8 +215,9 @@ impl Ground<'_> {
 
     /// The tests of an instruction: 1 where the run ends with the error, the first one where both are.
     pub fn checks(&self, words: &mut Words, instruction: Instruction) -> Result<Tests, Memory>
-        ensures { (store : List ℕ) → Stands (setting_of self.now) words.old
+        ensures shows { (store : List ℕ) → Stands (setting_of self.now) words.old
             → IfOk result (λ r. Finds words.old words.new store r (of.failures_of (setting_of self.now) store instruction)) }
+        ensures made { IfOk result (λ r. (words.new, r) ≡ made.checks (setting_of self.now) words.old instruction) }
     {
         match instruction {
             Instruction::Element(slot, _, _, count) => self.index_test(words, slot, count),

@@ -1,56 +1,111 @@
+use Rattle.std.proofs.Common.{refl}
 use Rattle.c_terms.proofs.Finding.{found-never}
 use Rattle.c_terms.proofs.arithmetic.Operands.tests.Goals as goal
 
-pub returns-in-OrElse : goal.returns-in-OrElse
-returns-in-OrElse c = λ s a b x h. rw c.in-OrElse.is (found-never _ s)
+pub returns-in-OrElse-clause-shows : goal.returns-in-OrElse-clause-shows
+returns-in-OrElse-clause-shows c = λ s a b x h. rw c.in-OrElse.is (found-never _ s)
 
-pub returns-in-AndAlso : goal.returns-in-AndAlso
-returns-in-AndAlso c = λ s a b x h. rw c.in-AndAlso.is (found-never _ s)
+pub returns-in-AndAlso-clause-shows : goal.returns-in-AndAlso-clause-shows
+returns-in-AndAlso-clause-shows c = λ s a b x h. rw c.in-AndAlso.is (found-never _ s)
 
-pub returns-in-BitOr : goal.returns-in-BitOr
-returns-in-BitOr c = λ s a b x h. rw c.in-BitOr.is (found-never _ s)
+pub returns-in-BitOr-clause-shows : goal.returns-in-BitOr-clause-shows
+returns-in-BitOr-clause-shows c = λ s a b x h. rw c.in-BitOr.is (found-never _ s)
 
-pub returns-in-BitXor : goal.returns-in-BitXor
-returns-in-BitXor c = λ s a b x h. rw c.in-BitXor.is (found-never _ s)
+pub returns-in-BitXor-clause-shows : goal.returns-in-BitXor-clause-shows
+returns-in-BitXor-clause-shows c = λ s a b x h. rw c.in-BitXor.is (found-never _ s)
 
-pub returns-in-BitAnd : goal.returns-in-BitAnd
-returns-in-BitAnd c = λ s a b x h. rw c.in-BitAnd.is (found-never _ s)
+pub returns-in-BitAnd-clause-shows : goal.returns-in-BitAnd-clause-shows
+returns-in-BitAnd-clause-shows c = λ s a b x h. rw c.in-BitAnd.is (found-never _ s)
 
-pub returns-in-Equal : goal.returns-in-Equal
-returns-in-Equal c = λ s a b x h. rw c.in-Equal.is (found-never _ s)
+pub returns-in-Equal-clause-shows : goal.returns-in-Equal-clause-shows
+returns-in-Equal-clause-shows c = λ s a b x h. rw c.in-Equal.is (found-never _ s)
 
-pub returns-in-NotEqual : goal.returns-in-NotEqual
-returns-in-NotEqual c = λ s a b x h. rw c.in-NotEqual.is (found-never _ s)
+pub returns-in-NotEqual-clause-shows : goal.returns-in-NotEqual-clause-shows
+returns-in-NotEqual-clause-shows c = λ s a b x h. rw c.in-NotEqual.is (found-never _ s)
 
-pub returns-in-Less : goal.returns-in-Less
-returns-in-Less c = λ s a b x h. rw c.in-Less.is (found-never _ s)
+pub returns-in-Less-clause-shows : goal.returns-in-Less-clause-shows
+returns-in-Less-clause-shows c = λ s a b x h. rw c.in-Less.is (found-never _ s)
 
-pub returns-in-Greater : goal.returns-in-Greater
-returns-in-Greater c = λ s a b x h. rw c.in-Greater.is (found-never _ s)
+pub returns-in-Greater-clause-shows : goal.returns-in-Greater-clause-shows
+returns-in-Greater-clause-shows c = λ s a b x h. rw c.in-Greater.is (found-never _ s)
 
-pub returns-in-LessEqual : goal.returns-in-LessEqual
-returns-in-LessEqual c = λ s a b x h. rw c.in-LessEqual.is (found-never _ s)
+pub returns-in-LessEqual-clause-shows : goal.returns-in-LessEqual-clause-shows
+returns-in-LessEqual-clause-shows c = λ s a b x h. rw c.in-LessEqual.is (found-never _ s)
 
-pub returns-in-GreaterEqual : goal.returns-in-GreaterEqual
-returns-in-GreaterEqual c = λ s a b x h. rw c.in-GreaterEqual.is (found-never _ s)
+pub returns-in-GreaterEqual-clause-shows : goal.returns-in-GreaterEqual-clause-shows
+returns-in-GreaterEqual-clause-shows c = λ s a b x h. rw c.in-GreaterEqual.is (found-never _ s)
 
-pub returns-in-ShiftLeft : goal.returns-in-ShiftLeft
-returns-in-ShiftLeft c = λ s a b x h. rw c.in-ShiftLeft.is (c.left_shift_test.ensures s a b x h)
+pub returns-in-ShiftLeft-clause-shows : goal.returns-in-ShiftLeft-clause-shows
+returns-in-ShiftLeft-clause-shows c = λ s a b x h. rw c.in-ShiftLeft.is (c.left_shift_test.ensures.shows s a b x h)
 
-pub returns-in-ShiftRight : goal.returns-in-ShiftRight
-returns-in-ShiftRight c = λ s a b x h. rw c.in-ShiftRight.is (c.right_shift_test.ensures s a b x h)
+pub returns-in-ShiftRight-clause-shows : goal.returns-in-ShiftRight-clause-shows
+returns-in-ShiftRight-clause-shows c = λ s a b x h. rw c.in-ShiftRight.is (c.right_shift_test.ensures.shows s a b x h)
 
-pub returns-in-Add : goal.returns-in-Add
-returns-in-Add c = λ s a b x h. rw c.in-Add.is (c.sum_test.ensures s a b x h)
+pub returns-in-Add-clause-shows : goal.returns-in-Add-clause-shows
+returns-in-Add-clause-shows c = λ s a b x h. rw c.in-Add.is (c.sum_test.ensures.shows s a b x h)
 
-pub returns-in-Subtract : goal.returns-in-Subtract
-returns-in-Subtract c = λ s a b x h. rw c.in-Subtract.is (c.difference_test.ensures s a b x h)
+pub returns-in-Subtract-clause-shows : goal.returns-in-Subtract-clause-shows
+returns-in-Subtract-clause-shows c = λ s a b x h. rw c.in-Subtract.is (c.difference_test.ensures.shows s a b x h)
 
-pub returns-in-Multiply : goal.returns-in-Multiply
-returns-in-Multiply c = λ s a b x h. rw c.in-Multiply.is (c.product_test.ensures s a b x h)
+pub returns-in-Multiply-clause-shows : goal.returns-in-Multiply-clause-shows
+returns-in-Multiply-clause-shows c = λ s a b x h. rw c.in-Multiply.is (c.product_test.ensures.shows s a b x h)
 
-pub returns-in-Divide : goal.returns-in-Divide
-returns-in-Divide c = λ s a b x h. rw c.in-Divide.is (c.division_tests.ensures s a b x h)
+pub returns-in-Divide-clause-shows : goal.returns-in-Divide-clause-shows
+returns-in-Divide-clause-shows c = λ s a b x h. rw c.in-Divide.is (c.division_tests.ensures.shows s a b x h)
 
-pub returns-in-Remainder : goal.returns-in-Remainder
-returns-in-Remainder c = λ s a b x h. rw c.in-Remainder.is (c.division_tests-in-Remainder.ensures s a b x h)
+pub returns-in-Remainder-clause-shows : goal.returns-in-Remainder-clause-shows
+returns-in-Remainder-clause-shows c = λ s a b x h. rw c.in-Remainder.is (c.division_tests-in-Remainder.ensures.shows s a b x h)
+
+pub returns-in-OrElse-clause-made : goal.returns-in-OrElse-clause-made
+returns-in-OrElse-clause-made c = rw c.in-OrElse.is refl
+
+pub returns-in-AndAlso-clause-made : goal.returns-in-AndAlso-clause-made
+returns-in-AndAlso-clause-made c = rw c.in-AndAlso.is refl
+
+pub returns-in-BitOr-clause-made : goal.returns-in-BitOr-clause-made
+returns-in-BitOr-clause-made c = rw c.in-BitOr.is refl
+
+pub returns-in-BitXor-clause-made : goal.returns-in-BitXor-clause-made
+returns-in-BitXor-clause-made c = rw c.in-BitXor.is refl
+
+pub returns-in-BitAnd-clause-made : goal.returns-in-BitAnd-clause-made
+returns-in-BitAnd-clause-made c = rw c.in-BitAnd.is refl
+
+pub returns-in-Equal-clause-made : goal.returns-in-Equal-clause-made
+returns-in-Equal-clause-made c = rw c.in-Equal.is refl
+
+pub returns-in-NotEqual-clause-made : goal.returns-in-NotEqual-clause-made
+returns-in-NotEqual-clause-made c = rw c.in-NotEqual.is refl
+
+pub returns-in-Less-clause-made : goal.returns-in-Less-clause-made
+returns-in-Less-clause-made c = rw c.in-Less.is refl
+
+pub returns-in-Greater-clause-made : goal.returns-in-Greater-clause-made
+returns-in-Greater-clause-made c = rw c.in-Greater.is refl
+
+pub returns-in-LessEqual-clause-made : goal.returns-in-LessEqual-clause-made
+returns-in-LessEqual-clause-made c = rw c.in-LessEqual.is refl
+
+pub returns-in-GreaterEqual-clause-made : goal.returns-in-GreaterEqual-clause-made
+returns-in-GreaterEqual-clause-made c = rw c.in-GreaterEqual.is refl
+
+pub returns-in-ShiftLeft-clause-made : goal.returns-in-ShiftLeft-clause-made
+returns-in-ShiftLeft-clause-made c = rw c.in-ShiftLeft.is c.left_shift_test.ensures.made
+
+pub returns-in-ShiftRight-clause-made : goal.returns-in-ShiftRight-clause-made
+returns-in-ShiftRight-clause-made c = rw c.in-ShiftRight.is c.right_shift_test.ensures.made
+
+pub returns-in-Add-clause-made : goal.returns-in-Add-clause-made
+returns-in-Add-clause-made c = rw c.in-Add.is c.sum_test.ensures.made
+
+pub returns-in-Subtract-clause-made : goal.returns-in-Subtract-clause-made
+returns-in-Subtract-clause-made c = rw c.in-Subtract.is c.difference_test.ensures.made
+
+pub returns-in-Multiply-clause-made : goal.returns-in-Multiply-clause-made
+returns-in-Multiply-clause-made c = rw c.in-Multiply.is c.product_test.ensures.made
+
+pub returns-in-Divide-clause-made : goal.returns-in-Divide-clause-made
+returns-in-Divide-clause-made c = rw c.in-Divide.is c.division_tests.ensures.made
+
+pub returns-in-Remainder-clause-made : goal.returns-in-Remainder-clause-made
+returns-in-Remainder-clause-made c = rw c.in-Remainder.is c.division_tests-in-Remainder.ensures.made

@@ -1,5 +1,8 @@
 use Rattle.c_terms.proofs.Putting.{gives-extend_sign}
 use Rattle.c_terms.proofs.words.Words.extend_sign.Goals as goal
 
-pub returns : goal.returns
-returns c = λ s v w a e is le h. c.put.ensures.shows s _ _ (gives-extend_sign _ s _ _ v w a e is le h)
+pub returns-clause-shows : goal.returns-clause-shows
+returns-clause-shows c = λ s v w a e is le h. c.put.ensures.shows s _ _ (gives-extend_sign _ s _ _ v w a e is le h)
+
+pub returns-clause-made : goal.returns-clause-made
+returns-clause-made c = c.put.ensures.made

@@ -1,5 +1,8 @@
 use Rattle.c_terms.proofs.Putting.{gives-less_signed}
 use Rattle.c_terms.proofs.words.Words.less_signed.Goals as goal
 
-pub returns : goal.returns
-returns c = λ s w a b h g. c.put.ensures.shows s _ _ (gives-less_signed _ s _ _ w a b h g)
+pub returns-clause-shows : goal.returns-clause-shows
+returns-clause-shows c = λ s w a b h g. c.put.ensures.shows s _ _ (gives-less_signed _ s _ _ w a b h g)
+
+pub returns-clause-made : goal.returns-clause-made
+returns-clause-made c = c.put.ensures.made

@@ -1,12 +1,22 @@
-use Rattle.std.proofs.Common.{[], ℕ, List}
+use Rattle.std.proofs.Common.{[], ℕ, List, ap, ◌∙◌}
 use Rattle.c_terms.proofs.Putting.{grows-twice}
 use Rattle.code_moves.proofs.Standing.{stand-later}
 use Rattle.code_moves.proofs.Doing.{deeds-later, filled}
+use Rattle.c_terms.specs.declared.words.Words.{Words}
+use Rattle.bv_term.specs.declared.term.TermId.{TermId}
+use Rattle.code_moves.specs.Setting.{setting_of}
+use Rattle.code_moves.proofs.Making.{then-filled}
+use Rattle.c_terms.specs.Made as term
 use Rattle.code_moves.proofs.ground.Ground.convert.Goals as goal
 
-pub returns : goal.returns
-returns c = λ ds h d.
-    let z = λ (s : List ℕ). c.in_ok-value.ensures s h in
-    let n = λ (s : List ℕ). c.in_ok-value-2.ensures s _ (z s).shows in
+pub returns-clause-does : goal.returns-clause-does
+returns-clause-does c = λ ds h d.
+    let z = λ (s : List ℕ). c.in_ok-value.ensures.shows s h in
+    let n = λ (s : List ℕ). c.in_ok-value-2.ensures.shows s _ (z s).shows in
     let g = grows-twice _ _ _ (z []).grows (n []).grows in
-    filled _ _ _ _ _ g (c.fill.ensures _ ds _ (stand-later _ _ _ g h) (deeds-later _ _ _ ds g d) (λ s. (n s).shows))
+    filled _ _ _ _ _ g (c.fill.ensures.does _ ds _ (stand-later _ _ _ g h) (deeds-later _ _ _ ds g d) (λ s. (n s).shows))
+
+pub returns-clause-made : goal.returns-clause-made
+returns-clause-made c =
+    let e = c.in_ok-value-2.ensures.made ∙ ap (λ (p : Words × TermId). term.converted p.0 c.args.kind c.args.self.now.model p.1) c.in_ok-value.ensures.made in
+    then-filled _ (setting_of c.args.self.now) _ _ _ c.args.ops.now.items c.args.slot _ c.fill.ensures.made e

@@ -1,10 +1,18 @@
 use Rattle.c_terms.specs.Numbers.{narrowed}
 use Rattle.c_terms.specs.Operations.{failures}
 use Rattle.code_moves.proofs.Standing.{finds-after, finds-equal, over-list}
+use Rattle.c_terms.specs.declared.arithmetic.Operands.{Operands}
+use Rattle.c_terms.specs.declared.words.Words.{Words}
+use Rattle.c_terms.proofs.Choosing.{thus}
+use Rattle.std.proofs.Common.{ap}
+use Rattle.c_terms.specs.Made as term
 use Rattle.code_moves.proofs.ground.Ground.tested.Goals as goal
 
-pub returns : goal.returns
-returns c = λ s a b h k.
+pub returns-clause-shows : goal.returns-clause-shows
+returns-clause-shows c = λ s a b h k.
     let o = c.in_ok-operands.ensures in
     finds-equal _ _ _ s _ _ (over-list (λ kind model. failures c.args.op kind model (narrowed c.args.kind c.args.self.now.model a) (narrowed c.args.kind c.args.self.now.model b) b) _ _ _ _ o.kind o.model)
-    (finds-after _ _ _ _ s _ (o.grows s a b h k) (c.tests.ensures s _ _ _ (o.pair s a b h k)))
+    (finds-after _ _ _ _ s _ (o.grows s a b h k) (c.tests.ensures.shows s _ _ _ (o.pair s a b h k)))
+
+pub returns-clause-made : goal.returns-clause-made
+returns-clause-made c = thus _ _ _ _ c.tests.ensures.made (ap (λ (p : Words × Operands). term.tests p.0 p.1 c.args.op) c.in_ok-operands.ensures.made)
