@@ -69,11 +69,21 @@ offsets_turn size nodes k d old new whole a b w n lt hw is hn hb h =
     ∙ ap (λ (zs : List ℕ). old ++ (min a 4294967295 ∷ zs)) (offsets-same size rest b (a + nodes_at size x) (omega (arith, hn, hb)))
     ∙ ap (λ (vs : List Node). old ++ offsets_among size a vs) (sym (drop_more nodes k d lt)) ∙ h)
 
-lists-append : (offsets : Offsets) (o : Vec ℕ Global) → lists_of (offsets ++ o ∷ []) ≡ lists_of offsets ++ o.items ∷ []
+lists-append : (offsets : List (Vec ℕ Global)) (o : Vec ℕ Global) → lists_of (offsets ++ o ∷ []) ≡ lists_of offsets ++ o.items ∷ []
 lists-append [] o = refl
 lists-append (x ∷ xs) o = ap (λ (ls : List (List ℕ)). x.items ∷ ls) (lists-append xs o)
 
-pub lists_turn : (size : ℕ → ℕ) (graphs : List FnFlow) (k : ℕ) (g : FnFlow) (old new : Offsets) (o : Vec ℕ Global) (whole : List (List ℕ))
+pub lists-get : (offsets : List (Vec ℕ Global)) (k : ℕ) (o : Vec ℕ Global) → k < length offsets → o ≡ get_or offsets k o → slice_get (lists_of offsets) k ≡ Some o.items
+lists-get [] k o lt e = absurd (omega (arith, lt))
+lists-get (x ∷ xs) zero o lt e = sym (ap (λ (y : Vec ℕ Global). Some y.items) e)
+lists-get (x ∷ xs) (suc k) o lt e = lists-get xs k o (omega (arith, lt)) e
+
+pub lists-end : (offsets : List (Vec ℕ Global)) (k : ℕ) → length offsets ≤ k → slice_get (lists_of offsets) k ≡ None
+lists-end [] k le = refl
+lists-end (x ∷ xs) zero le = absurd (omega (arith, le))
+lists-end (x ∷ xs) (suc k) le = lists-end xs k (omega (arith, le))
+
+pub lists_turn : (size : ℕ → ℕ) (graphs : List FnFlow) (k : ℕ) (g : FnFlow) (old new : List (Vec ℕ Global)) (o : Vec ℕ Global) (whole : List (List ℕ))
     → k < length graphs → g ≡ get_or graphs k g → new ≡ old ++ o ∷ [] → o.items ≡ offsets_among size 0 g.nodes
     → lists_of old ++ all_offsets size (drop k graphs) ≡ whole → lists_of new ++ all_offsets size (drop (k + 1) graphs) ≡ whole
 lists_turn size graphs k g old new o whole lt hg is ho h =

@@ -9,7 +9,7 @@ use Rattle.c_graph.specs.Functions.{AreFlows, CallFits, FnFlow, Flows, IsFnFlow}
 use Rattle.call_inline.specs.declared.numbers.Copied.{Copied}
 use Rattle.call_inline.specs.Inlining.{Among, edges_in, edges_of, nodes_in, nodes_of, or_zero}
 use Rattle.call_inline.specs.Sizes.{nodes_among, nodes_at}
-use Rattle.call_inline.specs.Copying.{Offsets, all_lays, all_offsets, called, calls_in, calls_in_any, calls_of, copies_after, copy_lays, each_from, items_in, laid, lays_of, lists_of, main_copy, node, number_of, offset_in, offsets_among}
+use Rattle.call_inline.specs.Copying.{Offsets, all_lays, all_offsets, called, calls_in, calls_in_any, calls_of, copies_after, copy_lays, each_from, items_in, laid, lays_of, main_copy, node, number_of, offset_in, offsets_among}
 use Rattle.call_inline.specs.Layout.{IsLaidOut}
 use Rattle.call_inline.proofs.Weighing.{IsAdditive, Measure, count, count-adds, one-there, weigh, weigh-append}
 use Rattle.call_inline.proofs.Lists.{all-there, among-either, among-front, from-each, get-there}
@@ -41,12 +41,13 @@ offset-there size at (x ∷ xs) (suc k) lt =
     let rest : or_zero (slice_get (offsets_among size (at + nodes_at size x) xs) k) ≡ min ((at + nodes_at size x) + nodes_among size (take k xs)) 4294967295 = offset-there size (at + nodes_at size x) xs k (omega (arith, lt)) in
     omega (arith, rest)
 
-list-there : (size : ℕ → ℕ) (offsets : Offsets) (graphs : List FnFlow) (f : ℕ) → lists_of offsets ≡ all_offsets size graphs → items_in (slice_get offsets f) ≡ offsets_among size 0 (nodes_of (slice_get graphs f))
-list-there size [] [] f e = refl
-list-there size [] (g ∷ gs) f e = absurd (cc)
-list-there size (o ∷ os) [] f e = absurd (cc)
-list-there size (o ∷ os) (g ∷ gs) zero e = cc
-list-there size (o ∷ os) (g ∷ gs) (suc f) e = list-there size os gs f cc
+pub among-there : (size : ℕ → ℕ) (graphs : List FnFlow) (f : ℕ) → items_in (slice_get (all_offsets size graphs) f) ≡ offsets_among size 0 (nodes_of (slice_get graphs f))
+among-there size [] f = refl
+among-there size (g ∷ gs) zero = refl
+among-there size (g ∷ gs) (suc f) = among-there size gs f
+
+list-there : (size : ℕ → ℕ) (offsets : Offsets) (graphs : List FnFlow) (f : ℕ) → offsets ≡ all_offsets size graphs → items_in (slice_get offsets f) ≡ offsets_among size 0 (nodes_of (slice_get graphs f))
+list-there size offsets graphs f e = ap (λ (o : Offsets). items_in (slice_get o f)) e ∙ among-there size graphs f
 
 -- ---- A copy is its nodes and the copies in it
 

@@ -15,16 +15,16 @@ use Rattle.call_inline.specs.Sizes.{nodes_at}
 
 -- for each function, how far each of its nodes stands behind the first of a copy
 abbrev pub Offsets : Type 0
-Offsets = List (Vec ℕ Global)
+Offsets = List (List ℕ)
 
 abbrev pub node : ℕ → NodeId
 node n = record { 0 = n }
 
-abbrev pub items_in : Option (Vec ℕ Global) → List ℕ
+abbrev pub items_in : Option (List ℕ) → List ℕ
 items_in None = []
-items_in (Some offsets) = offsets.items
+items_in (Some offsets) = offsets
 
-abbrev pub offset_in : Option (Vec ℕ Global) → ℕ → ℕ
+abbrev pub offset_in : Option (List ℕ) → ℕ → ℕ
 offset_in offsets n = or_zero (slice_get (items_in offsets) n)
 
 -- how far each of these nodes stands behind the first, where copies of functions have so many; the first of these stands at a distance
@@ -37,7 +37,8 @@ abbrev pub all_offsets : (ℕ → ℕ) → List FnFlow → List (List ℕ)
 all_offsets size [] = []
 all_offsets size (f ∷ fs) = offsets_among size 0 f.nodes ∷ all_offsets size fs
 
-abbrev pub lists_of : Offsets → List (List ℕ)
+-- without where they lie in memory
+abbrev pub lists_of : List (Vec ℕ Global) → Offsets
 lists_of [] = []
 lists_of (o ∷ os) = o.items ∷ lists_of os
 

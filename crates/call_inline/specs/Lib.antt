@@ -1,4 +1,5 @@
-pub mod Inlining
-pub mod Sizes
 pub mod Copying
+pub mod Inlined
+pub mod Inlining
 pub mod Layout
+pub mod Sizes

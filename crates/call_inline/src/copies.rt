@@ -1,6 +1,6 @@
 //! The list of all copies: each call in one of them has its own.
 ghost use Rattle.std.specs.Prelude.{◌≡◌, ◌++◌, IfOk, OnOk, slice_get};
-ghost use Rattle.call_inline.specs.Copying.{called, calls_in, calls_in_any, calls_of, copies_after};
+ghost use Rattle.call_inline.specs.Copying.{called, calls_in, calls_in_any, calls_of, copies_after, lists_of};
 
 use crate::numbers::{Copied, main_of, nodes_of, number};
 use c_graph::{FnGraphs, Node, NodeId};
@@ -14,7 +14,7 @@ pub(crate) fn copies_of(
     offsets: &[Vec<u32>],
     most: usize,
 ) -> Result<Vec<Copied>, Memory>
-    ensures { IfOk result (λ r. r.items ≡ copies_after graphs.now offsets.now most) }
+    ensures { IfOk result (λ r. r.items ≡ copies_after graphs.now (lists_of offsets.now) most) }
 {
     let mut copies = Vec::new(alloc);
     copies.push(main_of(graphs))?;
@@ -31,7 +31,7 @@ fn follow(
     number: usize,
     copies: &mut Vec<Copied>,
 ) -> Result<(), Memory>
-    ensures { OnOk result (copies.new.items ≡ copies.old.items ++ calls_in_any graphs.now offsets.now (slice_get copies.old.items number)) }
+    ensures { OnOk result (copies.new.items ≡ copies.old.items ++ calls_in_any graphs.now (lists_of offsets.now) (slice_get copies.old.items number)) }
 {
     if number >= copies.len() {
         return Ok(());
@@ -47,7 +47,7 @@ fn push_calls(
     copied: Copied,
     copies: &mut Vec<Copied>,
 ) -> Result<(), Memory>
-    ensures { OnOk result (copies.new.items ≡ copies.old.items ++ calls_in graphs.now offsets.now copied) }
+    ensures { OnOk result (copies.new.items ≡ copies.old.items ++ calls_in graphs.now (lists_of offsets.now) copied) }
 {
     let nodes = nodes_of(graphs, copied.function);
     for at in 0..nodes.len() {
@@ -64,7 +64,7 @@ fn push_call(
     node: Node,
     copies: &mut Vec<Copied>,
 ) -> Result<(), Memory>
-    ensures { OnOk result (copies.new.items ≡ copies.old.items ++ calls_of offsets.now copied at node) }
+    ensures { OnOk result (copies.new.items ≡ copies.old.items ++ calls_of (lists_of offsets.now) copied at node) }
 {
     match node {
         Node::Call(callee, next) => {
@@ -83,7 +83,7 @@ pub(crate) fn call_copy(
     callee: u32,
     next: NodeId,
 ) -> Copied
-    ensures { result ≡ called offsets.now copied at callee next }
+    ensures { result ≡ called (lists_of offsets.now) copied at callee next }
 {
     let here = number(offsets, copied, NodeId(at));
     Copied {

@@ -1,7 +1,7 @@
 //! The edges of all copies.
 ghost use Rattle.std.specs.Prelude.{◌≡◌, ◌++◌, IfOk, OnOk, map, slice_get};
 ghost use Rattle.call_inline.specs.Inlining.{edges_in, nodes_in};
-ghost use Rattle.call_inline.specs.Copying.{all_edges, copy_edges, each_from, goal_of, is_at, leads_of, led, moved};
+ghost use Rattle.call_inline.specs.Copying.{all_edges, copy_edges, each_from, goal_of, is_at, leads_of, led, lists_of, moved};
 
 use crate::copies::call_copy;
 use crate::numbers::{Copied, edges_of, entry_of, nodes_of, number};
@@ -16,7 +16,7 @@ pub(crate) fn edges_of_all(
     offsets: &[Vec<u32>],
     copies: &[Copied],
 ) -> Result<Vec<Edge>, Memory>
-    ensures { IfOk result (λ r. r.items ≡ all_edges graphs.now offsets.now copies.now) }
+    ensures { IfOk result (λ r. r.items ≡ all_edges graphs.now (lists_of offsets.now) copies.now) }
 {
     let mut edges = Vec::new(alloc);
     for number in 0..copies.len() {
@@ -33,7 +33,7 @@ fn push_copy(
     copied: Copied,
     edges: &mut Vec<Edge>,
 ) -> Result<(), Memory>
-    ensures { OnOk result (edges.new.items ≡ edges.old.items ++ copy_edges graphs.now offsets.now copied) }
+    ensures { OnOk result (edges.new.items ≡ edges.old.items ++ copy_edges graphs.now (lists_of offsets.now) copied) }
 {
     push_leads(alloc, graphs, offsets, copied, edges)?;
     push_moved(alloc, graphs, offsets, copied, edges)
@@ -46,7 +46,7 @@ fn push_leads(
     copied: Copied,
     edges: &mut Vec<Edge>,
 ) -> Result<(), Memory>
-    ensures { OnOk result (edges.new.items ≡ edges.old.items ++ each_from (leads_of graphs.now offsets.now copied) 0 (nodes_in graphs.now copied.function)) }
+    ensures { OnOk result (edges.new.items ≡ edges.old.items ++ each_from (leads_of graphs.now (lists_of offsets.now) copied) 0 (nodes_in graphs.now copied.function)) }
 {
     let nodes = nodes_of(graphs, copied.function);
     for at in 0..nodes.len() {
@@ -65,7 +65,7 @@ pub(crate) fn goal_at(
     at: u32,
     node: Node,
 ) -> Option<NodeId>
-    ensures { result ≡ goal_of graphs.now offsets.now copied at node }
+    ensures { result ≡ goal_of graphs.now (lists_of offsets.now) copied at node }
 {
     match node {
         Node::Call(callee, next) => {
@@ -123,7 +123,7 @@ fn push_moved(
     copied: Copied,
     edges: &mut Vec<Edge>,
 ) -> Result<(), Memory>
-    ensures { OnOk result (edges.new.items ≡ edges.old.items ++ map (moved offsets.now copied) (edges_in graphs.now copied.function)) }
+    ensures { OnOk result (edges.new.items ≡ edges.old.items ++ map (moved (lists_of offsets.now) copied) (edges_in graphs.now copied.function)) }
 {
     let own = edges_of(graphs, copied.function);
     for number in 0..own.len() {
@@ -140,7 +140,7 @@ fn moved_edge(
     copied: Copied,
     edge: &Edge,
 ) -> Result<Edge, Memory>
-    ensures { IfOk result (λ r. r ≡ moved offsets.now copied edge.now) }
+    ensures { IfOk result (λ r. r ≡ moved (lists_of offsets.now) copied edge.now) }
 {
     Ok(Edge {
         from: number(offsets, copied, edge.from),

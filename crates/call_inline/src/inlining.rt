@@ -2,7 +2,8 @@ ghost use Rattle.std.specs.Prelude.{◌≡◌, ◌⊎◌, IfErr, IfOk, map, slic
 ghost use Rattle.c_graph.specs.Shape.{IsFlow};
 ghost use Rattle.c_graph.specs.Parts.{error_flow};
 ghost use Rattle.call_inline.specs.Inlining.{Inlines, IsInlining};
-ghost use Rattle.call_inline.specs.Copying.{copies_after, graph_of, loop_in, main_loops};
+ghost use Rattle.call_inline.specs.Inlined.{inlined};
+ghost use Rattle.call_inline.specs.Copying.{copies_after, graph_of, lists_of, loop_in, main_loops};
 ghost use Rattle.call_inline.specs.Layout.{AreSparse, IsLaidOut};
 ghost use Rattle.call_inline.specs.Sizes.{TooMany};
 
@@ -30,6 +31,8 @@ const NODES: u8 = 5;
 pub fn inline(alloc: Global, graphs: &FnGraphs) -> Result<Graph, SourceFail>
     ensures made { IfOk result (λ g. Inlines graphs.now g) }
     ensures whole { AreSparse graphs.now → IfOk result (λ g. IsInlining graphs.now g) }
+    ensures only { IfOk result (λ g. (g ≡ inlined graphs.now) ⊎ (g ≡ error_flow)) }
+    ensures one { AreSparse graphs.now → IfOk result (λ g. g ≡ inlined graphs.now) }
     ensures limit { IfErr result (TooMany graphs.now) }
 {
     let sizes = sizes_of(alloc, graphs.graphs())?;
@@ -48,9 +51,11 @@ fn copy_all(
     offsets: &[Vec<u32>],
     size: usize,
 ) -> Result<Graph, Memory>
-    requires { IsLaidOut graphs.now offsets.now size }
+    requires { IsLaidOut graphs.now (lists_of offsets.now) size }
     ensures made { IfOk result (λ g. Inlines graphs.now g) }
     ensures whole { AreSparse graphs.now → IfOk result (λ g. IsInlining graphs.now g) }
+    ensures only { IfOk result (λ g. (g ≡ inlined graphs.now) ⊎ (g ≡ error_flow)) }
+    ensures one { AreSparse graphs.now → IfOk result (λ g. g ≡ inlined graphs.now) }
 {
     let copies = copies_of(alloc, graphs, offsets, size)?;
     let edges = edges_of_all(alloc, graphs, offsets, &copies)?;
@@ -68,7 +73,7 @@ fn loops_in_main(
     graphs: &FnGraphs,
     offsets: &[Vec<u32>],
 ) -> Result<Vec<LoopAt>, Memory>
-    ensures { IfOk result (λ r. r.items ≡ main_loops graphs.now offsets.now) }
+    ensures { IfOk result (λ r. r.items ≡ main_loops graphs.now (lists_of offsets.now)) }
 {
     let copied = main_of(graphs);
     let own = loops_of(graphs, graphs.main());

@@ -1,6 +1,6 @@
 //! The nodes of all copies.
 ghost use Rattle.std.specs.Prelude.{◌≡◌, IfOk, slice_set};
-ghost use Rattle.call_inline.specs.Copying.{copied_nodes, copy_lays, plain_if, written};
+ghost use Rattle.call_inline.specs.Copying.{copied_nodes, copy_lays, lists_of, plain_if, written};
 
 use crate::edges::goal_at;
 use crate::numbers::{Copied, nodes_of, number};
@@ -16,7 +16,7 @@ pub(crate) fn nodes_of_all(
     copies: &[Copied],
     size: usize,
 ) -> Result<Vec<Node>, Memory>
-    ensures { IfOk result (λ r. r.items ≡ copied_nodes graphs.now offsets.now copies.now size) }
+    ensures { IfOk result (λ r. r.items ≡ copied_nodes graphs.now (lists_of offsets.now) copies.now size) }
 {
     let mut nodes = vec![in alloc; Node::End; size]?;
     for number in 0..copies.len() {
@@ -27,7 +27,7 @@ pub(crate) fn nodes_of_all(
 
 /// The nodes of one copy.
 fn set_nodes(graphs: &FnGraphs, offsets: &[Vec<u32>], copied: Copied, nodes: &mut Vec<Node>)
-    ensures { nodes.new.items ≡ written nodes.old.items (copy_lays graphs.now offsets.now copied) }
+    ensures { nodes.new.items ≡ written nodes.old.items (copy_lays graphs.now (lists_of offsets.now) copied) }
 {
     let own = nodes_of(graphs, copied.function);
     for at in 0..own.len() {

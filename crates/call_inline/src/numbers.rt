@@ -1,7 +1,7 @@
 //! How the nodes of copies are numbered, and what a copy's function has.
 ghost use Rattle.std.specs.Prelude.{◌≡◌, ◌≤◌, length, slice_get};
 ghost use Rattle.call_inline.specs.Inlining.{edges_in, entry_in, loops_of, nodes_in, or_zero};
-ghost use Rattle.call_inline.specs.Copying.{main_copy, number_of};
+ghost use Rattle.call_inline.specs.Copying.{lists_of, main_copy, number_of, offset_in};
 
 use c_graph::{Edge, FnGraphs, LoopAt, Node, NodeId};
 
@@ -70,13 +70,20 @@ pub(crate) fn loops_of(graphs: &FnGraphs, function: u32) -> &[LoopAt]
 
 /// The number of a node in a copy.
 pub(crate) fn number(offsets: &[Vec<u32>], copied: Copied, node: NodeId) -> NodeId
-    ensures { result ≡ number_of offsets.now copied node }
+    ensures { result ≡ number_of (lists_of offsets.now) copied node }
 {
-    let offset = match offsets.get(copied.function as usize) {
+    let offset = offset_in(offsets, copied.function, node);
+    NodeId(copied.base.saturating_add(offset))
+}
+
+// How far a node of a function stands behind the first of a copy.
+fn offset_in(offsets: &[Vec<u32>], function: u32, node: NodeId) -> u32
+    ensures { result ≡ offset_in (slice_get (lists_of offsets.now) function) node.0 }
+{
+    match offsets.get(function as usize) {
         None => 0,
         Some(offsets) => offset_at(offsets, node),
-    };
-    NodeId(copied.base.saturating_add(offset))
+    }
 }
 
 fn offset_at(offsets: &[u32], node: NodeId) -> u32
