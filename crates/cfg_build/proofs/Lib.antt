@@ -1,9 +1,14 @@
 pub mod Adding
 pub mod Checking
 pub mod Counting
+pub mod Drawing
 pub mod Entering
 pub mod Following
+pub mod Gathering
 pub mod Graphing
+pub mod Laying
 pub mod Linking
 pub mod Numbers
+pub mod Others
 pub mod Passing
+pub mod Walking

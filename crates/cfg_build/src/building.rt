@@ -2,12 +2,16 @@
 
 ghost use Rattle.std.specs.Prelude.{◌≡◌, ◌==◌, ◌⊎◌, [], length, true, false, slice_get, IfErr, IfOk, IfSome, IsSome, IsTrue, Some};
 ghost use Rattle.c_graph.specs.Parts.{error_flows};
+ghost use Rattle.c_typed.specs.Parts.{tree_of};
 ghost use Rattle.c_terms.specs.Shown.{Grows};
 ghost use Rattle.code_moves.specs.Setting.{setting_of, Stands};
 ghost use Rattle.slot_code.specs.declared.flat.Instruction.TheVariants as i;
 ghost use Rattle.loop_turns.specs.Turning.{OnlyTurn};
 ghost use Rattle.cfg_build.specs.Follows.{plan_of};
+ghost use Rattle.cfg_build.specs.Built.{built, first_graphs, graphed};
 ghost use Rattle.cfg_build.specs.Graphs as of;
+ghost use Rattle.cfg_build.specs.Made as made;
+ghost use Rattle.cfg_build.specs.Looped as looped;
 ghost use Rattle.cfg_build.specs.Numbers.{first_number};
 ghost use Rattle.cfg_build.specs.Passing.{IsPassing, FollowingMakesFlows};
 ghost use Rattle.cfg_build.specs.Placed.{AllCanFollow, CanFollow, places_in};
@@ -41,6 +45,7 @@ use std::alloc::Global;
 pub fn build(alloc: Global, examined: &Examined) -> Result<FnGraphs, SourceFail>
     ensures made { IfOk result (λ p. of.ProgramFollows examined.now.typed examined.now.order p ⊎ (p ≡ error_flows)) }
     ensures whole { FollowingMakesFlows → IsPassing examined.now.typed examined.now.order → IfOk result (λ p. of.ProgramFollows examined.now.typed examined.now.order p) }
+    ensures one { FollowingMakesFlows → IsPassing examined.now.typed examined.now.order → IfOk result (λ p. p ≡ built examined.now.typed examined.now.order) }
     ensures within { IfOk result (λ p. IsWithin examined.now.typed examined.now.order) }
     ensures limits { IfErr result (TooMuch examined.now.typed examined.now.order) }
 {
@@ -115,6 +120,9 @@ fn graphs_of(
         × of.FirstGraphs whole.now.code.now whole.now.numbers.now whole.now.ranges.now main (setting_of ground.now) words.new.terms (length whole.now.ranges.now) r.graphs.items r.exits.items)) }
     ensures whole { Stands (setting_of ground.now) words.old → AllCanFollow whole.now ground.now.layout.now main
         → IfOk result (λ r. length r.graphs.items ≡ length whole.now.ranges.now) }
+    ensures value { IfOk result (λ r. (r.graphs.items ≡ []) ⊎ (graphed words.new r.graphs.items r.exits.items
+        ≡ first_graphs whole.now.code.now whole.now.numbers.now whole.now.owners.now whole.now.ranges.now (tree_of typed.now).functions main (setting_of ground.now) words.old
+        (length whole.now.ranges.now))) }
 {
     let mut all = Graphs::new(alloc);
     for number in 0..whole.ranges.len() {
@@ -148,6 +156,7 @@ fn graph_of(
     ensures made { Stands (setting_of ground.now) words.old → IfOk result (λ o. IfSome o (λ r. Grows words.old words.new
         × of.GraphFollows (places.now.range.function == main) (plan_of places.now) (setting_of ground.now) words.new.terms r)) }
     ensures whole { Stands (setting_of ground.now) words.old → CanFollow places.now ground.now.layout.now (first_number main places.now.range.function) → IfOk result (λ o. IsSome o) }
+    ensures value { IfOk result (λ o. IfSome o (λ r. (words.new, r) ≡ made.graph_of (plan_of places.now) places.now.whole.owners.now (setting_of ground.now) (tree_of typed.now).functions main words.old)) }
 {
     if places.range.function == main {
         main_graph(alloc, typed, places, main, ground, words)
@@ -166,6 +175,7 @@ fn own_graph(
     ensures made { Stands (setting_of ground.now) words.old → IfOk result (λ o. IfSome o (λ r. Grows words.old words.new
         × of.GraphFollows false (plan_of places.now) (setting_of ground.now) words.new.terms r)) }
     ensures whole { Stands (setting_of ground.now) words.old → CanFollow places.now ground.now.layout.now 0 → IfOk result (λ o. IsSome o) }
+    ensures value { IfOk result (λ o. IfSome o (λ r. (words.new, r) ≡ made.own_graph (plan_of places.now) places.now.whole.owners.now (setting_of ground.now) words.old)) }
 {
     let mut draft = Draft::new(alloc);
     if !add_places(alloc, places, ground, words, &mut draft)? {
@@ -185,6 +195,7 @@ fn main_graph(
     ensures made { Stands (setting_of ground.now) words.old → IfOk result (λ o. IfSome o (λ r. Grows words.old words.new
         × of.GraphFollows true (plan_of places.now) (setting_of ground.now) words.new.terms r)) }
     ensures whole { Stands (setting_of ground.now) words.old → CanFollow places.now ground.now.layout.now 1 → IfOk result (λ o. IsSome o) }
+    ensures value { IfOk result (λ o. IfSome o (λ r. (words.new, r) ≡ made.main_graph (plan_of places.now) places.now.whole.owners.now (setting_of ground.now) (tree_of typed.now).functions main words.old)) }
 {
     let mut draft = Draft::new(alloc);
     add_opening(alloc, ground, words, &mut draft)?;
@@ -197,7 +208,9 @@ fn main_graph(
 }
 
 // The offsets of the loops in the body of `main`.
-fn main_loops(alloc: Global, typed: &Typed, main: u32) -> Result<Vec<u32>, Memory> {
+fn main_loops(alloc: Global, typed: &Typed, main: u32) -> Result<Vec<u32>, Memory>
+    ensures { IfOk result (λ r. r.items ≡ looped.main_loops (tree_of typed.now).functions main) }
+{
     let mut found = Vec::new(alloc);
     if let Some(function) = typed.functions().get(main as usize) {
         loops_in(&function.body, &mut found)?;
@@ -220,7 +233,8 @@ fn places_of<'a>(whole: &Whole<'a>, range: Range, main: u32) -> Result<Places<'a
 
 // The place to which the turn at a place goes, if there is one, and it is of the loop at this offset.
 fn turn_at(places: &Places<'_>, place: usize, offset: u32) -> Option<usize>
-    ensures { IfSome result (λ goal. slice_get places.now.whole.code.now place ≡ Some (i.Turn offset goal)) }
+    ensures turns { IfSome result (λ goal. slice_get places.now.whole.code.now place ≡ Some (i.Turn offset goal)) }
+    ensures value { result ≡ looped.turn_at (plan_of places.now) place offset }
 {
     match places.whole.code.get(place).copied() {
         Some(Instruction::Turn(at, goal)) => { if at == offset { Some(goal) } else { None } }
@@ -232,6 +246,7 @@ fn turn_at(places: &Places<'_>, place: usize, offset: u32) -> Option<usize>
 fn loop_goal(places: &Places<'_>, goals: &TurnGoals<'_>, place: usize, offset: u32) -> Option<usize>
     ensures turns { IfSome result (λ goal. slice_get places.now.whole.code.now place ≡ Some (i.Turn offset goal)) }
     ensures only { IfSome result (λ goal. OnlyTurn goals.now offset goal) }
+    ensures value { result ≡ looped.loop_goal (plan_of places.now) goals.now place offset }
 {
     let goal = turn_at(places, place, offset)?;
     let only = goals.only(offset)?;
@@ -240,7 +255,8 @@ fn loop_goal(places: &Places<'_>, goals: &TurnGoals<'_>, place: usize, offset: u
 
 // The node at which each visit of each loop stands: the one to which the turns of its keyword go.
 fn loops_at(alloc: Global, places: &Places<'_>, loops: &[u32]) -> Result<Vec<LoopAt>, Memory>
-    ensures { IfOk result (λ r. of.AreLoops (plan_of places.now) r.items) }
+    ensures loops { IfOk result (λ r. of.AreLoops (plan_of places.now) r.items) }
+    ensures made { IfOk result (λ r. r.items ≡ looped.loops_at (plan_of places.now) loops.now) }
 {
     let goals = TurnGoals::new(alloc, places.whole.code)?;
     let mut found = Vec::new(alloc);

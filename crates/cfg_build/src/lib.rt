@@ -25,6 +25,9 @@
 //! program's `main`; or there are none. `specs/Passing` says of which code graphs are made: there the tests pass and each place has its
 //! number; that the parts make graphs then is a law of function_graph_laws. Not said is that the graph lists all loops of `main`.
 //! `specs/Sizes` says how many cells and nodes are too many: a limit is told only of a program that passes it.
+//! Which nodes and edges places become, and which terms are put for them, is a function of the terms, nodes and edges before them, of
+//! what the terms are made over, and of the code with its numbers, ranges and owners (`specs/Made`, a definition for each call), wherever
+//! anything lies. So is the graph of each function.
 #![tactic(auto)]
 
 mod building;

@@ -1,11 +1,17 @@
 //! The `while` and `for` loops of a body, by the offsets of their keywords.
 
+ghost use Rattle.std.specs.Prelude.{◌≡◌, ◌++◌, IfOk};
+ghost use Rattle.c_typed.specs.View as v;
+ghost use Rattle.cfg_build.specs.Looped as of;
+
 use c_typed::Step;
 use lv_base::Memory;
 
 /// Adds the offsets of the loops in these statements, in their order.
 #[cycle(loop_walk)]
-pub(crate) fn loops_in(steps: &[Step], found: &mut Vec<u32>) -> Result<(), Memory> {
+pub(crate) fn loops_in(steps: &[Step], found: &mut Vec<u32>) -> Result<(), Memory>
+    ensures { IfOk result (λ u. found.new.items ≡ found.old.items ++ of.loops_in (v.steps_of steps.now)) }
+{
     for step in steps {
         loops_of(step, found)?;
     }
@@ -13,7 +19,9 @@ pub(crate) fn loops_in(steps: &[Step], found: &mut Vec<u32>) -> Result<(), Memor
 }
 
 #[cycle(loop_walk)]
-fn loops_of(step: &Step, found: &mut Vec<u32>) -> Result<(), Memory> {
+fn loops_of(step: &Step, found: &mut Vec<u32>) -> Result<(), Memory>
+    ensures { IfOk result (λ u. found.new.items ≡ found.old.items ++ of.loops_of (v.step step.now)) }
+{
     match step {
         Step::Block(steps) => loops_in(steps, found),
         Step::If(_, inner) => loops_of(inner, found),

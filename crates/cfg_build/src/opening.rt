@@ -9,6 +9,7 @@ ghost use Rattle.code_moves.specs.Setting.{setting_of, Stands};
 ghost use Rattle.code_moves.specs.Deeds.{Deed, AreDeeds, Does};
 ghost use Rattle.cfg_build.specs.Steps.{Built};
 ghost use Rattle.cfg_build.specs.Graphs as of;
+ghost use Rattle.cfg_build.specs.Openings as made;
 
 use crate::draft::Draft;
 use c_graph::{Node, Operation};
@@ -26,7 +27,8 @@ pub(crate) fn add_opening(
     words: &mut Words,
     draft: &mut Draft,
 ) -> Result<(), Memory>
-    ensures { Stands (setting_of ground.now) words.old → IfOk result (λ u. Grows words.old words.new × Built draft.old draft.new (of.Opening (setting_of ground.now) words.new.terms)) }
+    ensures built { Stands (setting_of ground.now) words.old → IfOk result (λ u. Grows words.old words.new × Built draft.old draft.new (of.Opening (setting_of ground.now) words.new.terms)) }
+    ensures made { IfOk result (λ u. (words.new, draft.new.nodes.items, draft.new.edges.items) ≡ made.add_opening (setting_of ground.now) words.old draft.old.nodes.items draft.old.edges.items) }
 {
     let from = draft.node(Node::Plain)?;
     let ops = opening(alloc, ground, words)?;
@@ -37,7 +39,8 @@ pub(crate) fn add_opening(
 
 // Operations that give each element its first value.
 fn opening(alloc: Global, ground: &Ground<'_>, words: &mut Words) -> Result<Vec<Operation>, Memory>
-    ensures { Stands (setting_of ground.now) words.old → IfOk result (λ r. Does words.old words.new r.items (of.opens (setting_of ground.now) (length ground.now.objects.now))) }
+    ensures does { Stands (setting_of ground.now) words.old → IfOk result (λ r. Does words.old words.new r.items (of.opens (setting_of ground.now) (length ground.now.objects.now))) }
+    ensures made { IfOk result (λ r. (words.new, r.items) ≡ made.opening (setting_of ground.now) words.old) }
 {
     let mut ops = Vec::new(alloc);
     for number in 0..ground.objects.len() {
@@ -52,8 +55,9 @@ fn open_object(
     words: &mut Words,
     ops: &mut Vec<Operation>,
 ) -> Result<(), Memory>
-    ensures { (deeds : List Deed) → Stands (setting_of ground.now) words.old → AreDeeds words.old.terms ops.old.items deeds
+    ensures does { (deeds : List Deed) → Stands (setting_of ground.now) words.old → AreDeeds words.old.terms ops.old.items deeds
         → IfOk result (λ u. Does words.old words.new ops.new.items (deeds ++ of.object_opens (setting_of ground.now) (slice_get ground.now.layout.now.firsts number) (slice_get ground.now.objects.now number))) }
+    ensures made { IfOk result (λ u. (words.new, ops.new.items) ≡ made.open_object (setting_of ground.now) words.old ops.old.items number) }
 {
     let Ok(index) = u32::try_from(number) else {
         return Err(Memory);
@@ -72,8 +76,9 @@ fn open_at(
     words: &mut Words,
     ops: &mut Vec<Operation>,
 ) -> Result<(), Memory>
-    ensures { (deeds : List Deed) → Stands (setting_of ground.now) words.old → slice_get ground.now.layout.now.firsts number ≡ Some first → AreDeeds words.old.terms ops.old.items deeds
+    ensures does { (deeds : List Deed) → Stands (setting_of ground.now) words.old → slice_get ground.now.layout.now.firsts number ≡ Some first → AreDeeds words.old.terms ops.old.items deeds
         → IfOk result (λ u. Does words.old words.new ops.new.items (deeds ++ of.object_opens (setting_of ground.now) (Some first) (slice_get ground.now.objects.now number))) }
+    ensures made { IfOk result (λ u. (words.new, ops.new.items) ≡ made.open_at (setting_of ground.now) words.old ops.old.items first number) }
 {
     match ground.objects.get(number) {
         None => Ok(()),
@@ -89,9 +94,10 @@ fn open_elements(
     words: &mut Words,
     ops: &mut Vec<Operation>,
 ) -> Result<(), Memory>
-    ensures { (deeds : List Deed) → IsArray words.old.terms.cells first (lay.elements_of object.now) → slice_index words.old.terms.cells first ≡ width_of object.now.kind model
+    ensures does { (deeds : List Deed) → IsArray words.old.terms.cells first (lay.elements_of object.now) → slice_index words.old.terms.cells first ≡ width_of object.now.kind model
         → AreDeeds words.old.terms ops.old.items deeds
         → IfOk result (λ u. Does words.old words.new ops.new.items (deeds ++ of.first_sets first (width_of object.now.kind model) object.now (lay.elements_of object.now))) }
+    ensures made { IfOk result (λ u. (words.new, ops.new.items) ≡ made.open_elements words.old ops.old.items first object.now model) }
 {
     let bits = width(object.kind, model);
     let count = elements_of(object);

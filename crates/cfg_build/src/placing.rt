@@ -2,11 +2,14 @@
 
 ghost use Rattle.std.specs.Prelude.{◌≡◌, ◌↔◌, ℕ, IfOk, IfSome, IsTrue, Some, slice_get};
 ghost use Rattle.c_terms.specs.Shown.{Grows};
+ghost use Rattle.c_terms.specs.declared.words.Words.{Words};
 ghost use Rattle.code_moves.specs.Setting.{setting_of, Stands};
 ghost use Rattle.slot_code.specs.declared.flat.Instruction.{Instruction};
 ghost use Rattle.cfg_build.specs.Steps.{Built, next_of, node_id};
 ghost use Rattle.cfg_build.specs.Placed.{CanCall, CanFollow, CanStand, IsCalled};
 ghost use Rattle.cfg_build.specs.Follows as of;
+ghost use Rattle.cfg_build.specs.Made as made;
+ghost use Rattle.cfg_build.specs.Made.{drawn_of};
 ghost use Rattle.cfg_build.specs.Follows.{plan_of, Begins, LiesBelow, Exit, Follows, PlacesFollow, StandsAt};
 
 use crate::draft::Draft;
@@ -77,6 +80,7 @@ fn owner_of(places: &Places<'_>, place: usize) -> Option<u32>
 fn called(places: &Places<'_>, place: usize, slot: usize) -> Option<u32>
     ensures begins { IfSome result (λ f. Begins places.now.whole.ranges.now places.now.range f place slot) }
     ensures whole { (f : ℕ) → Begins places.now.whole.ranges.now places.now.range f place slot → slice_get places.now.whole.owners.now place ≡ Some f → result ≡ Some f }
+    ensures made { IfSome result (λ f. f ≡ made.called places.now.whole.owners.now place) }
 {
     let Some(function) = owner_of(places, place) else {
         return None;
@@ -116,6 +120,7 @@ fn add_call(
 ) -> Result<bool, Memory>
     ensures built { IfOk result (λ b. IsTrue b → Built draft.old draft.new (of.Calls (plan_of places.now) (setting_of ground.now) goal slot next)) }
     ensures whole { IsCalled places.now.whole ground.now.layout.now places.now.range goal slot → IfOk result (λ b. IsTrue b) }
+    ensures made { (w : Words) → IfOk result (λ b. IsTrue b → drawn_of w draft.new ≡ made.add_call places.now.whole.owners.now (drawn_of w draft.old) goal next) }
 {
     let Some(function) = called(places, goal, slot) else {
         return Ok(false);
@@ -131,6 +136,7 @@ fn add_call(
 fn add_last(node: Node, draft: &mut Draft) -> Result<bool, Memory>
     ensures built { IfOk result (λ b. Built draft.old draft.new (of.Last node)) }
     ensures whole { IfOk result (λ b. IsTrue b) }
+    ensures made { (w : Words) → IfOk result (λ b. drawn_of w draft.new ≡ made.add_node (drawn_of w draft.old) node) }
 {
     draft.node(node)?;
     Ok(true)
@@ -149,6 +155,7 @@ fn add_place(
     ensures built { Stands (setting_of ground.now) words.old
         → IfOk result (λ b. IsTrue b → Grows words.old words.new × Built draft.old draft.new (Follows (plan_of places.now) (setting_of ground.now) words.new.terms place instruction)) }
     ensures whole { CanCall places.now.whole ground.now.layout.now places.now.range instruction → IfOk result (λ b. IsTrue b) }
+    ensures made { IfOk result (λ b. IsTrue b → drawn_of words.new draft.new ≡ made.add_place (plan_of places.now) places.now.whole.owners.now (setting_of ground.now) (drawn_of words.old draft.old) place instruction) }
 {
     let following = behind(place, 1)?;
     let next = node_of(places, following);
@@ -206,6 +213,7 @@ fn add_next(
     ensures built { Stands (setting_of ground.now) words.old
         → IfOk result (λ b. IsTrue b → Grows words.old words.new × Built draft.old draft.new (StandsAt (plan_of places.now) (setting_of ground.now) words.new.terms place)) }
     ensures whole { (x : Instruction) → CanStand places.now ground.now.layout.now place (next_of draft.old) x → IfOk result (λ b. IsTrue b) }
+    ensures made { IfOk result (λ b. IsTrue b → drawn_of words.new draft.new ≡ made.add_next (plan_of places.now) places.now.whole.owners.now (setting_of ground.now) (drawn_of words.old draft.old) place) }
 {
     let Some(instruction) = places.whole.code.get(place).copied() else {
         return Ok(false);
@@ -224,6 +232,7 @@ fn add_next(
 fn add_exit(places: &Places<'_>, draft: &mut Draft) -> Result<bool, Memory>
     ensures built { IfOk result (λ b. IsTrue b → Built draft.old draft.new (Exit (plan_of places.now))) }
     ensures whole { places.now.exit ≡ node_id (next_of draft.old) → IfOk result (λ b. IsTrue b) }
+    ensures made { (w : Words) → IfOk result (λ b. IsTrue b → drawn_of w draft.new ≡ made.add_exit (drawn_of w draft.old)) }
 {
     let number = draft.next()?;
     if number.0 != places.exit.0 {
@@ -246,6 +255,7 @@ pub(crate) fn add_places(
     ensures built { Stands (setting_of ground.now) words.old
         → IfOk result (λ b. IsTrue b → Grows words.old words.new × Built draft.old draft.new (PlacesFollow (plan_of places.now) (setting_of ground.now) words.new.terms)) }
     ensures whole { Stands (setting_of ground.now) words.old → CanFollow places.now ground.now.layout.now (next_of draft.old) → IfOk result (λ b. IsTrue b) }
+    ensures made { IfOk result (λ b. IsTrue b → drawn_of words.new draft.new ≡ made.add_places (plan_of places.now) places.now.whole.owners.now (setting_of ground.now) (drawn_of words.old draft.old)) }
 {
     let count = places.range.end.saturating_sub(places.range.entry);
     for number in 0..count {

@@ -21,7 +21,8 @@ use std::alloc::Global;
 
 /// The number of `main`.
 pub(crate) fn main_of(typed: &Typed) -> u32
-    ensures { (main : ℕ) → run.main_number (tree_of typed.now).functions ≡ Some main → main < 4294967296 → result ≡ main }
+    ensures main { (main : ℕ) → run.main_number (tree_of typed.now).functions ≡ Some main → main < 4294967296 → result ≡ main }
+    ensures value { result ≡ of.main_or (run.main_number (tree_of typed.now).functions) }
 {
     match main_number(typed.functions()) {
         None => 0,
@@ -40,7 +41,8 @@ fn is_main(typed: &Typed, main: u32) -> bool
 
 // A range without a place for each of so many functions.
 fn no_ranges(alloc: Global, functions: usize) -> Result<Vec<Range>, Memory>
-    ensures { IfOk result (λ r. length r.items ≡ functions) }
+    ensures count { IfOk result (λ r. length r.items ≡ functions) }
+    ensures made { IfOk result (λ r. r.items ≡ of.no_ranges functions) }
 {
     let mut ranges = Vec::new(alloc);
     for number in 0..functions {
@@ -108,9 +110,10 @@ pub(crate) fn ranges_of(
     code: &Code,
     slots: usize,
 ) -> Result<Vec<Range>, Memory>
-    ensures { (all : List Range) → length all ≡ length (tree_of typed.now).functions
+    ensures stand { (all : List Range) → length all ≡ length (tree_of typed.now).functions
         → AreRanges (length code.now.instructions.items) slots (links_of code.now.links.items) all → AllLinked (links_of code.now.links.items) (length all)
         → IfOk result (λ r. r.items ≡ all) }
+    ensures made { IfOk result (λ r. r.items ≡ of.ranges_to (length code.now.instructions.items) slots (links_of code.now.links.items) (of.no_ranges (length (tree_of typed.now).functions))) }
 {
     let mut ranges = no_ranges(alloc, typed.functions().len())?;
     for number in 0..code.links.len() {

@@ -6,12 +6,15 @@ ghost use Rattle.lv_base.specs.Integers.{residue};
 ghost use Rattle.bv_term.specs.Numbers.{truth};
 ghost use Rattle.c_terms.specs.Numbers.{nonzero};
 ghost use Rattle.c_terms.specs.Shown.{Grows};
+ghost use Rattle.c_terms.specs.declared.words.Words.{Words};
 ghost use Rattle.c_terms.specs.declared.failing.Tests.TheVariants as Tests;
 ghost use Rattle.c_graph.specs.declared.graph.Operation.TheVariants as Operation;
 ghost use Rattle.code_moves.specs.Setting.{setting_of, Stands};
 ghost use Rattle.code_moves.specs.Values.{slot_value};
 ghost use Rattle.code_moves.specs.Deeds.{Tells};
 ghost use Rattle.cfg_build.specs.Steps as s;
+ghost use Rattle.cfg_build.specs.Made as made;
+ghost use Rattle.cfg_build.specs.Made.{drawn_of};
 ghost use Rattle.cfg_build.specs.Steps.{Adds, Behind, Built, Checked, Fork, Goes, IsTurned, Way, edge, node_id, next_of};
 
 use crate::draft::Draft;
@@ -48,7 +51,8 @@ fn offset_of(instruction: Instruction) -> u32
 
 /// A node from which one edge leads on.
 pub(crate) fn add_way(draft: &mut Draft, to: NodeId) -> Result<(), Memory>
-    ensures { IfOk result (λ u. Built draft.old draft.new (Way to)) }
+    ensures built { IfOk result (λ u. Built draft.old draft.new (Way to)) }
+    ensures made { (w : Words) → IfOk result (λ u. drawn_of w draft.new ≡ made.add_way (drawn_of w draft.old) to) }
 {
     let from = draft.node(Node::Plain)?;
     draft.plain_edge(from, to)?;
@@ -63,8 +67,9 @@ fn add_branch(
     to: NodeId,
     other: NodeId,
 ) -> Result<(), Memory>
-    ensures { (f : List ℕ → ℕ) → Tells words.old.terms test 1 f
+    ensures built { (f : List ℕ → ℕ) → Tells words.old.terms test 1 f
         → IfOk result (λ u. Grows words.old words.new × Built draft.old draft.new (Fork words.new.terms f to other)) }
+    ensures made { IfOk result (λ u. drawn_of words.new draft.new ≡ made.add_branch (drawn_of words.old draft.old) test to other) }
 {
     let from = draft.node(Node::Plain)?;
     draft.edge_if(from, to, Operation::Assume(test))?;
@@ -82,8 +87,9 @@ pub(crate) fn add_skip_zero(
     words: &mut Words,
     draft: &mut Draft,
 ) -> Result<(), Memory>
-    ensures { Stands (setting_of ground.now) words.old
+    ensures built { Stands (setting_of ground.now) words.old
         → IfOk result (λ u. Grows words.old words.new × Built draft.old draft.new (Fork words.new.terms (λ store. nonzero (slot_value (setting_of ground.now) store slot)) next to)) }
+    ensures made { IfOk result (λ u. drawn_of words.new draft.new ≡ made.add_skip_zero (setting_of ground.now) (drawn_of words.old draft.old) slot next to) }
 {
     let value = ground.slot(words, slot)?;
     let is_zero = words.is_zero(value)?;
@@ -101,8 +107,9 @@ pub(crate) fn add_skip_equal(
     words: &mut Words,
     draft: &mut Draft,
 ) -> Result<(), Memory>
-    ensures { Stands (setting_of ground.now) words.old
+    ensures built { Stands (setting_of ground.now) words.old
         → IfOk result (λ u. Grows words.old words.new × Built draft.old draft.new (Fork words.new.terms (λ store. truth (slot_value (setting_of ground.now) store slot == residue 64 value)) to next)) }
+    ensures made { IfOk result (λ u. drawn_of words.new draft.new ≡ made.add_skip_equal (setting_of ground.now) (drawn_of words.old draft.old) slot value next to) }
 {
     let held = ground.slot(words, slot)?;
     let wanted = words.constant(value)?;
@@ -121,6 +128,7 @@ fn add_check(
     ensures passes { (f : List ℕ → ℕ) → Tells words.old.terms fails.when 1 f
         → IfOk result (λ t. Grows words.old words.new × IsTurned words.new.terms t fails.when) }
     ensures adds { IfOk result (λ t. Adds draft.old draft.new (Node.Error fails.kind at ∷ []) (edge from (node_id (next_of draft.old)) (Operation.Assume fails.when ∷ []) ∷ [])) }
+    ensures made { IfOk result (λ t. (drawn_of words.new draft.new, t) ≡ made.add_check (drawn_of words.old draft.old) from fails at) }
 {
     draft.error(from, Operation::Assume(fails.when), fails.kind, at)?;
     let passed = words.not(fails.when)?;
@@ -138,8 +146,9 @@ fn add_last(
     draft: &mut Draft,
     first: Vec<Operation>,
 ) -> Result<(), Memory>
-    ensures { Stands (setting_of ground.now) words.old
+    ensures goes { Stands (setting_of ground.now) words.old
         → IfOk result (λ u. Grows words.old words.new × Goes (setting_of ground.now) words.new.terms draft.old draft.new instruction from next first.items) }
+    ensures made { IfOk result (λ u. drawn_of words.new draft.new ≡ made.add_last (setting_of ground.now) (drawn_of words.old draft.old) instruction from next first.items) }
 {
     let mut moves = Vec::new(alloc);
     ground.moves(words, instruction, &mut moves)?;
@@ -159,8 +168,9 @@ fn checked_once(
     words: &mut Words,
     draft: &mut Draft,
 ) -> Result<(), Memory>
-    ensures { (f : List ℕ → ℕ) → Stands (setting_of ground.now) words.old → Tells words.old.terms fails.when 1 f
+    ensures built { (f : List ℕ → ℕ) → Stands (setting_of ground.now) words.old → Tells words.old.terms fails.when 1 f
         → IfOk result (λ u. Grows words.old words.new × Built draft.old draft.new (Behind (setting_of ground.now) words.new.terms instruction next (Tests.One fails))) }
+    ensures made { IfOk result (λ u. drawn_of words.new draft.new ≡ made.checked_once (setting_of ground.now) (drawn_of words.old draft.old) instruction next fails) }
 {
     let from = draft.node(Node::Plain)?;
     let passed = add_check(words, draft, from, fails, offset_of(instruction))?;
@@ -181,8 +191,9 @@ fn checked_twice(
     words: &mut Words,
     draft: &mut Draft,
 ) -> Result<(), Memory>
-    ensures { (f h : List ℕ → ℕ) → Stands (setting_of ground.now) words.old → Tells words.old.terms first.when 1 f → Tells words.old.terms second.when 1 h
+    ensures built { (f h : List ℕ → ℕ) → Stands (setting_of ground.now) words.old → Tells words.old.terms first.when 1 f → Tells words.old.terms second.when 1 h
         → IfOk result (λ u. Grows words.old words.new × Built draft.old draft.new (Behind (setting_of ground.now) words.new.terms instruction next (Tests.Two first second))) }
+    ensures made { IfOk result (λ u. drawn_of words.new draft.new ≡ made.checked_twice (setting_of ground.now) (drawn_of words.old draft.old) instruction next first second) }
 {
     let at = offset_of(instruction);
     let from = draft.node(Node::Plain)?;
@@ -205,8 +216,9 @@ pub(crate) fn add_moves(
     words: &mut Words,
     draft: &mut Draft,
 ) -> Result<(), Memory>
-    ensures { Stands (setting_of ground.now) words.old
+    ensures built { Stands (setting_of ground.now) words.old
         → IfOk result (λ u. Grows words.old words.new × Built draft.old draft.new (Checked (setting_of ground.now) words.new.terms instruction next)) }
+    ensures made { IfOk result (λ u. drawn_of words.new draft.new ≡ made.add_moves (setting_of ground.now) (drawn_of words.old draft.old) instruction next) }
 {
     let tests = ground.checks(words, instruction)?;
     match tests {

@@ -9,13 +9,16 @@ use Rattle.c_graph.specs.Shape.{Flow}
 use Rattle.c_graph.specs.Functions.{Flows, AreFlows}
 use Rattle.c_graph.specs.Parts.{error_flows}
 use Rattle.slot_laws.specs.Laws.{IsOrder}
+use Rattle.cfg_build.specs.Built.{built}
 use Rattle.cfg_build.specs.Graphs.{ProgramFollows}
+use Rattle.call_inline.specs.Inlined.{inlined}
 use Rattle.call_inline.specs.Inlining.{IsInlining}
 use Rattle.call_inline.specs.Sizes.{TooMany, copy_nodes}
 use Rattle.program_graphs.specs.Standing.{ErrorsFollow}
 use Rattle.program_graphs.specs.Returning.{ErrorsComeBack}
 use Rattle.source_graph_laws.proofs.Inlined.{inlined_graphs_stand}
 use Rattle.source_graphs.specs.Refusals.{IsTooBig}
+use Rattle.source_graphs.specs.Whole.{graph_of}
 use Rattle.source_graphs.specs.Refusals.IsTooBig.{copies, memory}
 
 pub answer_follows :
@@ -59,3 +62,7 @@ pub answer_refused : (t : Parts) (order : List ℕ) (p : Flows) (r : Result Flow
     → IfErr r (TooMany p) → IfErr r (IsTooBig t order)
 answer_refused t order p (Ok g) ordered made many = tt
 answer_refused t order p (Err e) ordered made many = inlining_refused t order p e ordered made many
+
+-- the copies of graphs that are the program's are the program's graph
+pub answer_is : (t : Parts) (order : List ℕ) (p : Flows) (r : Result Flow SourceFail) → p ≡ built t order → IfOk r (λ g. g ≡ inlined p) → IfOk r (λ g. g ≡ graph_of t order)
+answer_is t order p r e h = subst (λ (q : Flows). IfOk r (λ g. g ≡ inlined q)) e h

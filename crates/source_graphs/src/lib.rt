@@ -1,7 +1,7 @@
 //! From a file to the graph of its blocks, for programs that measure or try what is done with such graphs.
 #![tactic(auto)]
 
-ghost use Rattle.std.specs.Prelude.{IfErr, IfOk};
+ghost use Rattle.std.specs.Prelude.{◌≡◌, IfErr, IfOk};
 ghost use Rattle.c_typed.specs.Parts.{tree_of};
 ghost use Rattle.program_graphs.specs.Standing.{ErrorsFollow, StandsFor};
 ghost use Rattle.program_graphs.specs.Returning.{ErrorsComeBack};
@@ -11,6 +11,7 @@ ghost use Rattle.block_join.specs.Living.{live_at};
 ghost use Rattle.witness_visit_laws.specs.Visited.{CellsStand, VisitsMarked};
 ghost use Rattle.source_graphs.specs.Refusals.{IsTooBig};
 ghost use Rattle.source_graphs.specs.Visits.{VisitsInBlocks};
+ghost use Rattle.source_graphs.specs.Whole.{graph_of};
 
 use block_join::{Joined, join_blocks_live};
 use c_graph::Graph;
@@ -70,11 +71,13 @@ pub fn examined(alloc: Global, source: &[u8], model: Model) -> Result<Examined, 
     source_checks::accepted(alloc, &unit, model)
 }
 
-/// The graph of a program with each call a copy, a node for each instruction: each run of the program that ends in an error has a run
+/// The graph of a program with each call a copy, a node for each instruction, which is one function of its typed tree and the order of its
+/// functions: each run of the program that ends in an error has a run
 /// of the graph to that error, and each run of the graph to an error is one of the program. Each visit of a listed loop has a run to the
 /// loop's node, in a store that shows what the objects hold, in cells that lie as the program's layout says. Fails with `Over` for limit 4
 /// or 5.
 pub fn whole_graph(alloc: Global, examined: &Examined) -> Result<Graph, SourceFail>
+    ensures one { IfOk result (λ g. g ≡ graph_of examined.now.typed examined.now.order) }
     ensures follow { IfOk result (ErrorsFollow (tree_of examined.now.typed)) }
     ensures back { IfOk result (ErrorsComeBack (tree_of examined.now.typed)) }
     ensures visits { IfOk result (VisitsFollow (program_setting examined.now.typed examined.now.order) (tree_of examined.now.typed)) }

@@ -1,13 +1,24 @@
-use Rattle.std.proofs.Common.{inl, subst}
+use Rattle.std.proofs.Common.{◌≡◌, inl, subst}
 use Rattle.std.proofs.lemmas.Result.{err_from_is_err_and}
 use Rattle.c_typed.specs.Facts.{IsTyped}
 use Rattle.c_typed.specs.Parts.{tree_of}
+use Rattle.cfg_build.specs.Built.{built}
 use Rattle.cfg_build.specs.Graphs.{program_setting}
 use Rattle.program_visits.specs.Visiting.{VisitsFollow}
 use Rattle.witness_visit_laws.specs.Visited.{CellsStand}
 use Rattle.source_graphs.specs.Refusals.IsTooBig.{parts}
-use Rattle.source_graphs.proofs.Standing.{answer_comes_back, answer_follows, answer_refused, answer_visits}
+use Rattle.source_graphs.proofs.Standing.{answer_comes_back, answer_follows, answer_is, answer_refused, answer_visits}
 use Rattle.source_graphs.proofs.whole_graph.Goals as goal
+
+pub returns-clause-one : goal.returns-clause-one
+returns-clause-one c =
+    let t = c.args.examined.now.typed in
+    let order = c.args.examined.now.order in
+    let typed : IsTyped (tree_of t) = subst (λ x. IsTyped (tree_of x)) c.typed-typed.ensures.value c.model-model.ensures.typed in
+    let passes = c.typed_code_passes.ensures t order typed c.order-order.ensures.examined.ordered in
+    let follows = c.in_ok-graphs.ensures.whole c.following_makes_flows.ensures passes in
+    let is : c.in_ok-graphs.graphs ≡ built t order = c.in_ok-graphs.ensures.one c.following_makes_flows.ensures passes in
+    answer_is t order c.in_ok-graphs.graphs c.inline.result is (c.inline.ensures.one (c.built_is_sparse.ensures t order c.in_ok-graphs.graphs (inl follows)))
 
 pub returns-clause-follow : goal.returns-clause-follow
 returns-clause-follow c =

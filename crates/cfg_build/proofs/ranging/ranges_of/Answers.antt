@@ -5,6 +5,7 @@ use Rattle.slot_values.specs.Linked.{link_of}
 use Rattle.cfg_build.specs.declared.placing.Range.{Range}
 use Rattle.cfg_build.specs.Ranges.{range_of, entry_or, slot_or}
 use Rattle.cfg_build.proofs.Linking.{range-there, alike-more, ranges-same}
+use Rattle.cfg_build.proofs.Laying.{laid-more, laid-whole}
 use Rattle.cfg_build.proofs.ranging.ranges_of.Goals as goal
 
 pub loop-number-preserved : goal.loop-number-preserved
@@ -24,10 +25,17 @@ loop-number-preserved c =
       ap length c.put_range.ensures ∙ length-set c.loop-number.ranges.items r.function r ∙ long,
       λ all many stand. alike-more all c.loop-number.ranges.items c.put_range.new.ranges.items links n (n + 1) _ _ x there next (long ∙ sym many)
           (range-there end c.args.slots links all n (n + 1) x stand there (sym next)) put (c.loop-number.invariant.1 all many stand),
+      laid-more end c.args.slots links n (n + 1) x _ _ _ there next put c.loop-number.invariant.2,
     )
 
-pub returns : goal.returns
-returns c = λ all many stand has.
+pub returns-clause-stand : goal.returns-clause-stand
+returns-clause-stand c = λ all many stand has.
     let links = c.args.code.now.links.items in
     let past : length links ≤ c.loop-number.number = search rules in
     ranges-same c.loop-number.ranges.items all links c.loop-number.number past (c.loop-number.invariant.0 ∙ sym many) has (c.loop-number.invariant.1 all many stand)
+
+pub returns-clause-made : goal.returns-clause-made
+returns-clause-made c =
+    let links = c.args.code.now.links.items in
+    let past : length links ≤ c.loop-number.number = search rules in
+    laid-whole (length c.args.code.now.instructions.items) c.args.slots links c.loop-number.number _ _ past c.loop-number.invariant.2

@@ -2,15 +2,17 @@ use Rattle.std.proofs.Common.{refl, ap, ◌∙◌, ◌∷◌, [], ◌++◌, List
 use Rattle.c_graph.specs.declared.graph.Operation.{Operation}
 use Rattle.c_graph.specs.declared.graph.Operation.TheVariants.{Assume}
 use Rattle.c_terms.proofs.Putting.{grows-twice}
+use Rattle.code_moves.specs.Setting.{setting_of}
 use Rattle.code_moves.proofs.Standing.{stand-later}
 use Rattle.code_moves.proofs.Doing.{tells-later}
 use Rattle.cfg_build.proofs.Adding.{turned-later, once}
+use Rattle.cfg_build.proofs.Drawing.{once-drawn}
 use Rattle.cfg_build.proofs.steps.checked_once.Goals as goal
 
-pub returns : goal.returns
-returns c = λ f h t.
+pub returns-clause-built : goal.returns-clause-built
+returns-clause-built c = λ f h t.
     let k = c.in_ok-passed.ensures.passes f t in
-    let l = c.in_ok-add_last.ensures (stand-later _ _ _ k.0 h) in (
+    let l = c.in_ok-add_last.ensures.goes (stand-later _ _ _ k.0 h) in (
       grows-twice _ _ _ k.0 l.0,
       record {
         nodes = _;
@@ -29,3 +31,8 @@ returns c = λ f h t.
         };
       },
     )
+
+pub returns-clause-made : goal.returns-clause-made
+returns-clause-made c =
+    once-drawn (setting_of c.args.ground.now) c.args.words.now c.add_check.new.words _ c.args.draft.now c.node.new.self c.add_check.new.draft c.add_last.new.draft c.args.instruction c.in_ok-from.from c.args.next c.args.fails _ c.in_ok-passed.passed _ _ c.in_ok-from.ensures.number c.offset_of.ensures c.new-ops.ensures.items c.in_ok-push.ensures.items
+    c.in_ok-from.ensures.adds c.in_ok-passed.ensures.made c.in_ok-add_last.ensures.made
