@@ -24,13 +24,13 @@ use Rattle.call_inline.specs.Layout.{AreSparse}
 use Rattle.edge_count_laws.specs.Sparse.{BuiltIsSparse}
 
 -- where a function's code stands, by the name of its type
-abbrev of_type : (A : Type 0) → A → Type 0
+abbrev pub of_type : (A : Type 0) → A → Type 0
 of_type A x = A
 
-abbrev first_link : Link
+abbrev pub first_link : Link
 first_link = record { function = 0; entry = 0; slot = 0 }
 
-abbrev Range : Type 0
+abbrev pub Range : Type 0
 Range = of_type _ (range_of first_link 0 0)
 
 -- no more than two edges for each node

@@ -152,6 +152,7 @@ fn runs_over_graphs_that_come_back() {
     inline_back_laws::met_errors_come_back();
     inline_back_laws::inlined_errors_come_back();
     edge_count_laws::built_is_sparse();
+    edge_count_laws::graphs_branch();
 }
 
 #[test]
