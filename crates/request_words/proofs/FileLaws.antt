@@ -1,11 +1,11 @@
 -- The names of the files that words ask to be written.
-use Rattle.std.proofs.Common.{◌≡◌, ℕ, List, [], ◌∷◌, Bool, true, false, refl, sym, subst, rules}
+use Rattle.std.proofs.Common.{◌≡◌, ℕ, List, [], ◌∷◌, Bool, true, false, refl, subst}
 use Rattle.std.specs.Prelude.{Option, Some, None, ◌||◌, if◌then◌else◌, codes}
 use Rattle.std.specs.Str.{bytes_eq}
 use Rattle.request_words.specs.declared.options.Choice.{Choice}
 use Rattle.request_words.specs.declared.commands.Command.TheVariants as command
 use Rattle.request_words.specs.Words.{Given, nothing_given, with_words}
-use Rattle.request_words.specs.Asked.{Asked, Check, Verify, Generate, is_named, is_named_in, check_at, check_by, verify_with, verify_of, verify_at, verify_by, generate_at, generate_by, asked_of, IsApart, NamesAreApart}
+use Rattle.request_words.specs.Asked.{Asked, is_named, is_named_in, check_at, check_by, verify_with, verify_at, verify_by, generate_at, generate_by, asked_of, IsApart, NamesAreApart}
 
 neither : (a b : Bool) → a || b ≡ false → (a ≡ false) × (b ≡ false)
 neither true b h = absurd (cc)

@@ -3,6 +3,7 @@ pub mod GivenLaws
 pub mod NumberLaws
 pub mod OwnLaws
 pub mod ParseLaws
+pub mod SeedLaws
 pub mod StepLaws
 pub mod TurnLaws
 pub mod UseLaws

@@ -33,7 +33,7 @@ picked : (b : Bool) (x y : ℕ) → (if b then Some x else None) ≡ Some y → 
 picked true x y h = (refl, cc)
 picked false x y h = absurd (cc)
 
-added : (most n b m : ℕ) → digit_added most n b ≡ Some m → IsAdded most n b m
+pub added : (most n b m : ℕ) → digit_added most n b ≡ Some m → IsAdded most n b m
 added most n b m h =
     let p = picked (nat_le 48 b && nat_le b 57 && nat_le (n * 10 + (b - 48)) most) (n * 10 + (b - 48)) m h in
     let t : nat_le 48 b && nat_le b 57 && nat_le (n * 10 + (b - 48)) most ≡ true = p.0 in

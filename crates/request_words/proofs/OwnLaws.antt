@@ -7,7 +7,7 @@ use Rattle.clap.specs.Walk.{Text}
 use Rattle.request_words.specs.declared.options.Choice.{Choice}
 use Rattle.request_words.specs.declared.options.Choice.TheVariants.{OfModel, OfUnits, OfLearn, OfWorkers, OfTurns, OfCert, OfRun, OfWitness}
 use Rattle.request_words.specs.declared.commands.Command.{Command}
-use Rattle.request_words.specs.declared.commands.Command.TheVariants.{Verify}
+use Rattle.request_words.specs.declared.commands.Command.TheVariants.{Verify, Generate}
 use Rattle.request_words.specs.Options.{choice_named, joined_of}
 use Rattle.request_words.specs.Texts.{has_all, whole}
 use Rattle.request_words.specs.Values.{is_name_byte, is_name_of, model_of, number_behind, number_of}
@@ -64,7 +64,7 @@ unawaited uses g e = ap (λ (x : Given). x.awaited) (sym (if_some _ _ g e))
 
 -- ---- a word behind a hyphen is no value and no name
 
-some_length : (n : ℕ) → (suc n == 0) ≡ false
+pub some_length : (n : ℕ) → (suc n == 0) ≡ false
 some_length n = ne_eqb (suc n) 0 (λ e. omega arith)
 
 none_number : (most : ℕ) (rest : Text) → number_behind most None rest ≡ None
@@ -74,7 +74,7 @@ none_number most (b ∷ rest) = refl
 dashed_number : (most : ℕ) (rest : Text) → number_of most (45 ∷ rest) ≡ None
 dashed_number most rest = ap (λ (b : Bool). if b || false then None else number_behind most None rest) (some_length (length rest)) ∙ none_number most rest
 
-hyphen_name : (rest : Text) → is_name_of (45 ∷ rest) ≡ false
+pub hyphen_name : (rest : Text) → is_name_of (45 ∷ rest) ≡ false
 hyphen_name rest = ap (λ (b : Bool). if b || true then false else list_all is_name_byte (45 ∷ rest)) (some_length (length rest))
 
 model_none : (g : Given) (o : Option Model) → with_model g o None ≡ None
@@ -290,7 +290,21 @@ stands_second None word stands h e = absurd (cc)
 stands_second (Some g) word stands h e =
     subst (At two) (named_is (is_name_of word) g.second (record g { second = Some word; awaited = None }) h e) ((stands g refl).0, refl)
 
--- ---- a second name of a verification stays, and there it is one too many
+-- ---- a second name stays, and where a command has one it is one too many
+
+-- a command with one name
+abbrev pub Single : Command → Type 0
+Single command = (a b : Option Text) (x : Option Choice) → is_some b ≡ true → has_all command a b x ≡ false
+
+pub single_verify : Single Verify
+single_verify a None x e = absurd (true≢false (sym e))
+single_verify None (Some t) x e = refl
+single_verify (Some s) (Some t) x e = refl
+
+pub single_generate : Single Generate
+single_generate a None x e = absurd (true≢false (sym e))
+single_generate None (Some t) x e = refl
+single_generate (Some s) (Some t) x e = refl
 
 abbrev HasSecond : Option Given → Type 0
 HasSecond o = (h : Given) → o ≡ Some h → is_some h.second ≡ true
@@ -317,33 +331,28 @@ name_has g word e = go (is_name_of word) g.first g.second e
     go true (Some t) None f = has_some (record g { second = Some word; awaited = None }) refl
     go true (Some t) (Some u) f = has_none
 
-word_has : (g : Given) (word : Text) → is_some g.second ≡ true → HasSecond (with_word Verify g word)
-word_has g word e = by_awaited g.awaited
+word_has : (command : Command) (g : Given) (word : Text) → is_some g.second ≡ true → HasSecond (with_word command g word)
+word_has command g word e = by_awaited g.awaited
   where
-    by_joined : (j : Option (Choice × Text)) → HasSecond (with_joined Verify g word j)
-    by_joined (Some p) = if_has (is_option Verify p.0) (with_value g p.0 p.1) (value_has g p.0 p.1 e)
+    by_joined : (j : Option (Choice × Text)) → HasSecond (with_joined command g word j)
+    by_joined (Some p) = if_has (is_option command p.0) (with_value g p.0 p.1) (value_has g p.0 p.1 e)
     by_joined None = name_has g word e
 
-    by_named : (c : Option Choice) → HasSecond (with_free Verify g word c)
-    by_named (Some choice) = if_has (is_option Verify choice) (Some (record g { awaited = Some choice })) (has_some (record g { awaited = Some choice }) e)
+    by_named : (c : Option Choice) → HasSecond (with_free command g word c)
+    by_named (Some choice) = if_has (is_option command choice) (Some (record g { awaited = Some choice })) (has_some (record g { awaited = Some choice }) e)
     by_named None = by_joined (joined_of word)
 
-    by_awaited : (a : Option Choice) → HasSecond (with_word_at Verify g a word)
+    by_awaited : (a : Option Choice) → HasSecond (with_word_at command g a word)
     by_awaited (Some choice) = value_has g choice word e
     by_awaited None = by_named (choice_named word)
 
-pub seconds : (words : List Text) (o : Option Given) → HasSecond o → whole Verify (with_words Verify o words) ≡ None
-seconds words None has = never_whole Verify None refl words
-seconds [] (Some g) has = go g.first g.second (has g refl)
-  where
-    go : (a b : Option Text) → is_some b ≡ true → (if has_all Verify a b g.awaited then Some g else None) ≡ None
-    go a None e = absurd (true≢false (sym e))
-    go None (Some t) e = refl
-    go (Some s) (Some t) e = refl
-seconds (word ∷ words) (Some g) has = seconds words (with_word Verify g word) (word_has g word (has g refl))
+pub seconds : (command : Command) → Single command → (words : List Text) (o : Option Given) → HasSecond o → whole command (with_words command o words) ≡ None
+seconds command single words None has = never_whole command None refl words
+seconds command single [] (Some g) has = ap (λ (t : Bool). if t then Some g else None) (single g.first g.second g.awaited (has g refl))
+seconds command single (word ∷ words) (Some g) has = seconds command single words (with_word command g word) (word_has command g word (has g refl))
 
-pub second_too_many : (g : Given) (word : Text) → At one g → (words : List Text) → whole Verify (with_words Verify (with_name g word) words) ≡ None
-second_too_many g word at words = seconds words (with_name g word) (go (is_name_of word) g.first g.second at.0)
+pub second_too_many : (command : Command) → Single command → (g : Given) (word : Text) → At one g → (words : List Text) → whole command (with_words command (with_name g word) words) ≡ None
+second_too_many command single g word at words = seconds command single words (with_name g word) (go (is_name_of word) g.first g.second at.0)
   where
     go : (b : Bool) (a s : Option Text) → is_some a ≡ true → HasSecond (if b then with_name_at g a s word else None)
     go false a s f = has_none

@@ -13,7 +13,7 @@ use Rattle.clap.specs.Faults.{built_fault, check_fault, given_default_fault, def
 use Rattle.clap.specs.declared.error.kind.ErrorKind.TheVariants as kind
 use Rattle.request_words.specs.declared.options.Choice.{Choice}
 use Rattle.request_words.specs.declared.commands.Command.{Command}
-use Rattle.request_words.specs.declared.commands.Command.TheVariants.{Check, Verify, Replay}
+use Rattle.request_words.specs.declared.commands.Command.TheVariants.{Check, Verify, Replay, Generate}
 use Rattle.request_words.specs.Apps.{app_for}
 use Rattle.request_words.specs.Texts.{given_by, has_all, has_good_texts, texts_in, values_given, whole}
 use Rattle.request_words.specs.Words.{Given, nothing_given, with_word, with_word_at, with_words}
@@ -72,15 +72,21 @@ one_name None b o e = refl
 one_name (Some s) None o e = refl
 one_name (Some s) (Some t) o e = absurd (cc)
 
-no_second : (place : Place) → Room Verify place → (g : Given) → At place g → g.second ≡ None
-no_second none room g at = at.1
-no_second one room g at = at.1
-no_second two room g at = absurd room
+one_seed : (a b : Option Text) (o : Option Given) → b ≡ None → (if has_all Generate a b None then o else None) ≡ (if (true && not (is_some a)) || false then None else o)
+one_seed None b o e = refl
+one_seed (Some s) None o e = refl
+one_seed (Some s) (Some t) o e = absurd (cc)
 
-by_good : (q : Bool) (g : Given) (missing : Bool) → ((if q then Some g else None) ≡ Some g → (if has_all Verify g.first g.second g.awaited then Some g else None) ≡ (if missing then None else Some g))
-    → (if has_all Verify g.first g.second g.awaited then (if q then Some g else None) else None) ≡ (if missing then None else (if q then Some g else None))
-by_good true g missing e = e refl
-by_good false g missing e = go (has_all Verify g.first g.second g.awaited) missing
+no_second : (command : Command) (place : Place) → Room command two ≡ ⊥ → Room command place → (g : Given) → At place g → g.second ≡ None
+no_second command none few room g at = at.1
+no_second command one few room g at = at.1
+no_second command two few room g at = absurd (subst (λ (X : Type 0). X) few room)
+
+by_good : (command : Command) (q : Bool) (g : Given) (missing : Bool)
+    → ((if q then Some g else None) ≡ Some g → (if has_all command g.first g.second g.awaited then Some g else None) ≡ (if missing then None else Some g))
+    → (if has_all command g.first g.second g.awaited then (if q then Some g else None) else None) ≡ (if missing then None else (if q then Some g else None))
+by_good command true g missing e = e refl
+by_good command false g missing e = go (has_all command g.first g.second g.awaited) missing
   where
     go : (a b : Bool) → ◌≡◌ {A = Option Given} (if a then None else None) (if b then None else None)
     go true true = refl
@@ -101,9 +107,15 @@ complete Replay place uses room stands =
     ∙ ap₂ (λ (a b : Bool). if (true && not a) || ((true && not b) || false) then None else given_at uses) (sym (given_is uses (codes "source"))) (sym (given_is uses (codes "second")))
 complete Verify place uses room stands =
     let t = texts_in (rows_of_uses uses) in
-    whole_if Verify (has_good_texts t) (values_given t) ∙ by_good (has_good_texts t) (values_given t) (is_missing Verify (rows_of_uses uses))
-    (λ e. let second : t.second ≡ None = no_second place room (values_given t) (stands (values_given t) e) in
+    whole_if Verify (has_good_texts t) (values_given t) ∙ by_good Verify (has_good_texts t) (values_given t) (is_missing Verify (rows_of_uses uses))
+    (λ e. let second : t.second ≡ None = no_second Verify place refl room (values_given t) (stands (values_given t) e) in
     one_name t.first t.second (Some (values_given t)) second
+    ∙ ap (λ (a : Bool). if (true && not a) || false then None else Some (values_given t)) (sym (given_is uses (codes "source"))))
+complete Generate place uses room stands =
+    let t = texts_in (rows_of_uses uses) in
+    whole_if Generate (has_good_texts t) (values_given t) ∙ by_good Generate (has_good_texts t) (values_given t) (is_missing Generate (rows_of_uses uses))
+    (λ e. let second : t.second ≡ None = no_second Generate place refl room (values_given t) (stands (values_given t) e) in
+    one_seed t.first t.second (Some (values_given t)) second
     ∙ ap (λ (a : Bool). if (true && not a) || false then None else Some (values_given t)) (sym (given_is uses (codes "source"))))
 
 -- what is found at the end of the words, behind the fault of the words
@@ -133,6 +145,9 @@ has_awaited Replay (Some s) (Some t) choice = refl
 has_awaited Verify None b choice = refl
 has_awaited Verify (Some s) None choice = refl
 has_awaited Verify (Some s) (Some t) choice = refl
+has_awaited Generate None b choice = refl
+has_awaited Generate (Some s) None choice = refl
+has_awaited Generate (Some s) (Some t) choice = refl
 
 awaited_end : (command : Command) (o : Option Given) (choice : Choice) → whole command (option_map (λ (g : Given). record g { awaited = Some choice }) o) ≡ None
 awaited_end command None choice = refl
@@ -209,7 +224,7 @@ words_from command (word ∷ words) uses last place none_ends fits room stands =
 ends_dashed : IsDashed (codes "--")
 ends_dashed = record { rest = codes "-"; is = refl }
 
-end_word : (command : Command) (g : Given) → with_word command g (codes "--") ≡ None
+pub end_word : (command : Command) (g : Given) → with_word command g (codes "--") ≡ None
 end_word command g = go g.awaited
   where
     go : (a : Option Choice) → with_word_at command g a (codes "--") ≡ None
@@ -232,16 +247,19 @@ pub simple_app : (command : Command) → is_simple (app_for command) ≡ true
 simple_app Check = refl
 simple_app Verify = refl
 simple_app Replay = refl
+simple_app Generate = refl
 
 pub free_app : (command : Command) → is_simple_and_free (app_for command) ≡ true
 free_app Check = refl
 free_app Verify = refl
 free_app Replay = refl
+free_app Generate = refl
 
 all_words : (command : Command) (words : List Text) → argument_words (app_for command) words ≡ words
 all_words Check words = refl
 all_words Verify words = refl
 all_words Replay words = refl
+all_words Generate words = refl
 
 abbrev app_at : Command → App
 app_at command = record { top = shape command; subs = [] }

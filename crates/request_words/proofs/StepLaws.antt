@@ -11,7 +11,7 @@ use Rattle.clap.specs.Faults.{bundle_step_fault, flag_word_fault, flags_fault, o
 use Rattle.request_words.specs.declared.options.Choice.{Choice}
 use Rattle.request_words.specs.declared.options.Choice.TheVariants.{OfModel, OfUnits, OfLearn, OfWorkers, OfTurns, OfCert, OfRun, OfWitness}
 use Rattle.request_words.specs.declared.commands.Command.{Command}
-use Rattle.request_words.specs.declared.commands.Command.TheVariants.{Check, Verify, Replay}
+use Rattle.request_words.specs.declared.commands.Command.TheVariants.{Check, Verify, Replay, Generate}
 use Rattle.request_words.specs.Words.{is_option}
 use Rattle.request_words.proofs.WordWalk.{Last, Place, Slot, Uses, awaits, choice_id, first, held_at, id_of, none, nothing, of, one, position_at, rule, rules, second, shape, two, valued}
 use Rattle.request_words.proofs.UseLaws.{rows_of_uses, used_once, with_use}
@@ -23,6 +23,7 @@ has_slot command first = true
 has_slot Check second = true
 has_slot Verify second = false
 has_slot Replay second = true
+has_slot Generate second = false
 has_slot command (of choice) = is_option command choice
 
 abbrev pub Fits : Command → Last → Type 0
@@ -61,6 +62,9 @@ found_by_id Verify (of OfLearn) e = refl
 found_by_id Verify (of OfCert) e = refl
 found_by_id Verify (of OfRun) e = refl
 found_by_id Verify (of OfWitness) e = refl
+found_by_id Generate first e = refl
+found_by_id Generate second e = absurd (true≢false (sym e))
+found_by_id Generate (of choice) e = absurd (true≢false (sym e))
 
 abbrev pub option_rule_of : Command → Choice → Option Rule
 option_rule_of command choice = if is_option command choice then Some (rule (of choice)) else None
@@ -90,6 +94,14 @@ found_by_long Verify OfLearn = refl
 found_by_long Verify OfCert = refl
 found_by_long Verify OfRun = refl
 found_by_long Verify OfWitness = refl
+found_by_long Generate OfModel = refl
+found_by_long Generate OfUnits = refl
+found_by_long Generate OfLearn = refl
+found_by_long Generate OfWorkers = refl
+found_by_long Generate OfTurns = refl
+found_by_long Generate OfCert = refl
+found_by_long Generate OfRun = refl
+found_by_long Generate OfWitness = refl
 
 pub none_by_long : (command : Command) (name : Text) → ((choice : Choice) → bytes_eq (choice_id choice) name ≡ false) → arg_by_long (rules command) name ≡ None
 none_by_long Check name other =
@@ -109,17 +121,20 @@ none_by_long Verify name other =
     let r : bytes_eq (choice_id OfRun) name ≡ false = other OfRun in
     let t : bytes_eq (choice_id OfWitness) name ≡ false = other OfWitness in
     rw (m, u, l, w, c, r, t) refl
+none_by_long Generate name other = refl
 
 pub none_by_short : (command : Command) (x : ℕ) → arg_by_short (rules command) x ≡ None
 none_by_short Check x = refl
 none_by_short Verify x = refl
 none_by_short Replay x = refl
+none_by_short Generate x = refl
 
 abbrev pub by_place : Command → Place → Option Slot
 by_place command none = Some first
 by_place Check one = Some second
 by_place Verify one = None
 by_place Replay one = Some second
+by_place Generate one = None
 by_place command two = None
 
 abbrev pub next_place : Place → Place
@@ -137,6 +152,9 @@ found_by_index Replay two = refl
 found_by_index Verify none = refl
 found_by_index Verify one = refl
 found_by_index Verify two = refl
+found_by_index Generate none = refl
+found_by_index Generate one = refl
+found_by_index Generate two = refl
 
 pub next_is : (command : Command) (place : Place) (slot : Slot) → by_place command place ≡ Some slot → next_position (rule slot) (position_at place) ≡ position_at (next_place place)
 next_is command none slot e = refl
@@ -153,6 +171,9 @@ place_fits Replay two slot e = cc
 place_fits Verify none slot e = let is : first ≡ slot = cc in subst (λ (s : Slot). has_slot Verify s ≡ true) is refl
 place_fits Verify one slot e = cc
 place_fits Verify two slot e = cc
+place_fits Generate none slot e = let is : first ≡ slot = cc in subst (λ (s : Slot). has_slot Generate s ≡ true) is refl
+place_fits Generate one slot e = cc
+place_fits Generate two slot e = cc
 
 -- ---- what is not used so far is used
 

@@ -11,7 +11,7 @@ use Rattle.clap.specs.Walk as w
 use Rattle.clap.specs.Faults.{bundle_fault, flag_word_fault, flags_fault, long_fault, positional_fault, settle_fault, step_fault, stray_fault, turn_fault, use_fault, word_fault}
 use Rattle.request_words.specs.declared.options.Choice.{Choice}
 use Rattle.request_words.specs.declared.commands.Command.{Command}
-use Rattle.request_words.specs.declared.commands.Command.TheVariants.{Check, Verify, Replay}
+use Rattle.request_words.specs.declared.commands.Command.TheVariants.{Check, Verify, Replay, Generate}
 use Rattle.request_words.specs.Options.{choice_named, joined_of}
 use Rattle.request_words.specs.Texts.{whole}
 use Rattle.request_words.specs.Words.{Given, is_option, with_free, with_joined, with_name, with_value, with_word, with_word_at, with_words}
@@ -19,22 +19,24 @@ use Rattle.request_words.proofs.WordWalk.{Last, Place, Slot, Uses, awaits, choic
 use Rattle.request_words.proofs.UseLaws.{rows_of_uses, used_once, with_use}
 use Rattle.request_words.proofs.GivenLaws.{given_at, given_more, given_twice, with_text}
 use Rattle.request_words.proofs.StepLaws.{Faulty, Fits, Flags, awaited_fault, by_place, faulty_first, faulty_second, fault, fault_is, flags_are, found_by_id, found_by_index, found_by_long, has_kind, has_slot, met_is, next_is, next_place, none_by_long, passed, place_fits, use_fails, use_passes, valued_fault, valued_settles}
-use Rattle.request_words.proofs.OwnLaws.{At, Stands, awaited_same, dashed_name, dashed_value, first_name, given_last, never_whole, none_as, second_name, second_too_many, some_as, stands_awaiting, stands_first, stands_kept, stands_same, stands_second, stands_unawaiting, step, step_as, step_none, third_name, unawaited, value_keeps}
+use Rattle.request_words.proofs.OwnLaws.{At, Stands, awaited_same, dashed_name, dashed_value, first_name, given_last, never_whole, none_as, second_name, second_too_many, single_generate, single_verify, some_as, stands_awaiting, stands_first, stands_kept, stands_same, stands_second, stands_unawaiting, step, step_as, step_none, third_name, unawaited, value_keeps}
 use Rattle.request_words.proofs.WordKinds.{IsDashed, Kind, alone, flags, joins, kind, plain, strange}
 
--- a verification has one name at most
+-- a verification and a seed's source have one name at most
 abbrev pub Room : Command → Place → Type 0
 Room command none = Unit {0}
 Room command one = Unit {0}
 Room Check two = Unit {0}
 Room Verify two = ⊥
 Room Replay two = Unit {0}
+Room Generate two = ⊥
 
 next_room : (command : Command) (place : Place) (slot : Slot) → by_place command place ≡ Some slot → Room command (next_place place)
 next_room command none slot e = tt
 next_room Check one slot e = tt
 next_room Replay one slot e = tt
 next_room Verify one slot e = absurd (cc)
+next_room Generate one slot e = absurd (cc)
 next_room command two slot e = absurd (cc)
 
 pub data Turned (command : Command) (uses : Uses) (last : Last) (place : Place) (word : Text) : Type 0 where
@@ -121,6 +123,7 @@ name_gives command none slot e g word at = let is : first ≡ slot = cc in first
 name_gives Check one slot e g word at = let is : second ≡ slot = cc in second_name g word at ∙ ap (λ (s : Slot). with_text s word g) is
 name_gives Replay one slot e g word at = let is : second ≡ slot = cc in second_name g word at ∙ ap (λ (s : Slot). with_text s word g) is
 name_gives Verify one slot e g word at = absurd (cc)
+name_gives Generate one slot e g word at = absurd (cc)
 name_gives command two slot e g word at = absurd (cc)
 
 stands_next : (command : Command) (place : Place) (slot : Slot) → by_place command place ≡ Some slot → (o : Option Given) (word : Text) → Stands place o
@@ -129,6 +132,7 @@ stands_next command none slot e o word stands = let is : first ≡ slot = cc in 
 stands_next Check one slot e o word stands = let is : second ≡ slot = cc in subst (λ (s : Slot). Stands two (option_and_then (with_text s word) o)) is (stands_second o word stands)
 stands_next Replay one slot e o word stands = let is : second ≡ slot = cc in subst (λ (s : Slot). Stands two (option_and_then (with_text s word) o)) is (stands_second o word stands)
 stands_next Verify one slot e o word stands = absurd (cc)
+stands_next Generate one slot e o word stands = absurd (cc)
 stands_next command two slot e o word stands = absurd (cc)
 
 -- where there is none
@@ -139,7 +143,10 @@ stray Check one e word o stands is words = absurd (cc)
 stray Replay one e word o stands is words = absurd (cc)
 stray Verify one e word None stands is words = never_whole Verify None refl words
 stray Verify one e word (Some g) stands is words =
-    ap (λ (o : Option Given). whole Verify (with_words Verify o words)) (is g refl) ∙ second_too_many g word (stands g refl) words
+    ap (λ (o : Option Given). whole Verify (with_words Verify o words)) (is g refl) ∙ second_too_many Verify single_verify g word (stands g refl) words
+stray Generate one e word None stands is words = never_whole Generate None refl words
+stray Generate one e word (Some g) stands is words =
+    ap (λ (o : Option Given). whole Generate (with_words Generate o words)) (is g refl) ∙ second_too_many Generate single_generate g word (stands g refl) words
 stray command two e word None stands is words = never_whole command None refl words
 stray command two e word (Some g) stands is words = never_whole command (with_word command g word) (is g refl ∙ third_name g word (stands g refl)) words
 

@@ -2,7 +2,7 @@
 use Rattle.std.proofs.Common.{◌≡◌, ℕ, List, [], ◌∷◌, None, Some, refl, ap, ◌∙◌}
 use Rattle.request_words.specs.Values.{digit_added, number_behind}
 
-none_behind : (most : ℕ) (bytes : List ℕ) → number_behind most None bytes ≡ None
+pub none_behind : (most : ℕ) (bytes : List ℕ) → number_behind most None bytes ≡ None
 none_behind most [] = refl
 none_behind most (b ∷ bytes) = refl
 

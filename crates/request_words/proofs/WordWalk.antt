@@ -8,7 +8,7 @@ use Rattle.clap.specs.Simple.{Shape, built, new_shape}
 use Rattle.request_words.specs.declared.options.Choice.{Choice}
 use Rattle.request_words.specs.declared.options.Choice.TheVariants.{OfModel, OfUnits, OfLearn, OfWorkers, OfTurns, OfCert, OfRun, OfWitness}
 use Rattle.request_words.specs.declared.commands.Command.{Command}
-use Rattle.request_words.specs.declared.commands.Command.TheVariants.{Check, Verify, Replay}
+use Rattle.request_words.specs.declared.commands.Command.TheVariants.{Check, Verify, Replay, Generate}
 use Rattle.request_words.specs.Apps.{app_for}
 
 -- a name by its place, or an option
@@ -73,6 +73,7 @@ abbrev pub slots : Command → List Slot
 slots Check = first ∷ second ∷ of OfModel ∷ of OfWorkers ∷ []
 slots Replay = first ∷ second ∷ of OfModel ∷ of OfTurns ∷ []
 slots Verify = first ∷ of OfModel ∷ of OfUnits ∷ of OfLearn ∷ of OfWorkers ∷ of OfCert ∷ of OfRun ∷ of OfWitness ∷ []
+slots Generate = first ∷ []
 
 abbrev pub rules : Command → List Rule
 rules command = map rule (slots command)
@@ -81,6 +82,7 @@ abbrev pub command_name : Command → Text
 command_name Check = codes "check"
 command_name Replay = codes "replay"
 command_name Verify = codes "verify"
+command_name Generate = codes "generate"
 
 abbrev pub shape : Command → Shape
 shape command = record (new_shape (command_name command)) {
@@ -94,6 +96,7 @@ shape command = record (new_shape (command_name command)) {
 pub built_app : (command : Command) → built (app_for command) ≡ record { top = shape command; subs = [] }
 built_app Check = refl
 built_app Verify = refl
+built_app Generate = refl
 built_app Replay = refl
 
 -- ---- between two words

@@ -3,7 +3,7 @@ use Rattle.std.specs.Prelude.{ℕ, List, [], ◌∷◌, true, Some, codes, fold}
 use Rattle.clap.specs.Words.{App, Rule, new_app, new_rule, with_rule}
 use Rattle.clap.specs.declared.builder.action.ArgAction.TheVariants.{Set}
 use Rattle.request_words.specs.declared.commands.Command.{Command}
-use Rattle.request_words.specs.declared.commands.Command.TheVariants.{Check, Verify, Replay}
+use Rattle.request_words.specs.declared.commands.Command.TheVariants.{Check, Verify, Replay, Generate}
 
 -- a positional word that is there
 abbrev pub name_rule : List ℕ → Rule
@@ -28,7 +28,11 @@ verify_rules =
 abbrev pub replay_rules : List Rule
 replay_rules = name_rule (codes "source") ∷ name_rule (codes "second") ∷ option_rule (codes "model") ∷ option_rule (codes "turns") ∷ []
 
+abbrev pub generate_rules : List Rule
+generate_rules = name_rule (codes "source") ∷ []
+
 abbrev pub app_for : Command → App
 app_for Check = fold with_rule (start_app (codes "check")) check_rules
 app_for Verify = fold with_rule (start_app (codes "verify")) verify_rules
 app_for Replay = fold with_rule (start_app (codes "replay")) replay_rules
+app_for Generate = fold with_rule (start_app (codes "generate")) generate_rules

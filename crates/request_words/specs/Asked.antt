@@ -107,6 +107,11 @@ abbrev pub generate_at : Option ℕ → Option Asked
 generate_at None = None
 generate_at (Some seed) = Some (Generate seed)
 
+-- of two names that there may be, the first alone, which is the seed
+abbrev pub seed_at : Option (List ℕ) → Option (List ℕ) → Option Asked
+seed_at (Some seed) None = generate_at (seed_of seed)
+seed_at _ _ = None
+
 -- one word is the seed, and there is no option
 abbrev pub generate_by : List (List ℕ) → Option Asked
 generate_by (seed ∷ []) = generate_at (seed_of seed)

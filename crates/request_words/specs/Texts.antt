@@ -3,7 +3,7 @@ use Rattle.std.specs.Prelude.{ℕ, List, Bool, true, false, ◌&&◌, if◌then�
 use Rattle.clap.specs.Words.{Row, first_of}
 use Rattle.request_words.specs.declared.options.Choice.{Choice}
 use Rattle.request_words.specs.declared.commands.Command.{Command}
-use Rattle.request_words.specs.declared.commands.Command.TheVariants.{Check, Verify, Replay}
+use Rattle.request_words.specs.declared.commands.Command.TheVariants.{Check, Verify, Replay, Generate}
 use Rattle.request_words.specs.Values.{is_name_of, model_of, number_of}
 use Rattle.request_words.specs.Words.{Given}
 
@@ -80,6 +80,7 @@ abbrev pub has_all : Command → Option (List ℕ) → Option (List ℕ) → Opt
 has_all Check (Some source) (Some cert) None = true
 has_all Replay (Some source) (Some run) None = true
 has_all Verify (Some source) None None = true
+has_all Generate (Some seed) None None = true
 has_all _ _ _ _ = false
 
 -- all names are there and no more, and each option has its value

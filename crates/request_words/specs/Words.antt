@@ -5,7 +5,7 @@ use Rattle.lv_base.specs.declared.kind.Model.{Model}
 use Rattle.request_words.specs.declared.options.Choice.{Choice}
 use Rattle.request_words.specs.declared.options.Choice.TheVariants.{OfModel, OfUnits, OfLearn, OfWorkers, OfTurns, OfCert, OfRun, OfWitness}
 use Rattle.request_words.specs.declared.commands.Command.{Command}
-use Rattle.request_words.specs.declared.commands.Command.TheVariants.{Check, Verify, Replay}
+use Rattle.request_words.specs.declared.commands.Command.TheVariants.{Check, Verify, Replay, Generate}
 use Rattle.request_words.specs.Values.{is_name_of, model_of, number_of}
 use Rattle.request_words.specs.Options.{choice_named, joined_of}
 
@@ -97,6 +97,7 @@ is_option Check OfLearn = false
 is_option Check OfCert = false
 is_option Check OfRun = false
 is_option Check OfWitness = false
+is_option Generate choice = false
 
 -- an option of the command, whose value is the next word
 abbrev pub awaiting : Command → Given → Choice → Option Given

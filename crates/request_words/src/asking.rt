@@ -1,7 +1,7 @@
 ghost use Rattle.std.specs.Prelude.{◌≡◌, IfOk, map, Some};
 ghost use Rattle.std.specs.Option.{option_map};
 ghost use Rattle.request_words.specs.Views.{given_of, asked_by};
-ghost use Rattle.request_words.specs.Asked.{is_named, is_named_in, has_twice, check_by, generate_by, verify_by, verify_of, verify_with, asked_of, NamesAreApart};
+ghost use Rattle.request_words.specs.Asked.{is_named, is_named_in, has_twice, check_by, generate_by, seed_at, verify_by, verify_of, verify_with, asked_of, NamesAreApart};
 ghost use Rattle.request_words.specs.Words.{nothing_given, with_words};
 
 use crate::commands::Command;
@@ -59,7 +59,7 @@ pub fn request<'a>(alloc: Global, words: &'a [&'a str]) -> Result<Option<Asked<'
     match words.split_first() {
         Some((command, behind)) if *command == "check" => check_asked(alloc, behind),
         Some((command, behind)) if *command == "verify" => verify_asked(alloc, behind),
-        Some((command, behind)) if *command == "generate" => Ok(whole_generate(behind)),
+        Some((command, behind)) if *command == "generate" => generate_asked(alloc, behind),
         _ => Ok(None),
     }
 }
@@ -78,6 +78,15 @@ fn verify_asked<'a>(alloc: Global, words: &'a [&'a str]) -> Result<Option<Asked<
 {
     match gathered(alloc, Command::Verify, words)? {
         Some(given) => Ok(whole_verify(given)),
+        None => Ok(None),
+    }
+}
+
+fn generate_asked<'a>(alloc: Global, words: &'a [&'a str]) -> Result<Option<Asked<'a>>, Memory>
+    ensures { IfOk result (λ r. option_map asked_by r ≡ generate_by (map (λ w. w.now) words.entry.now)) }
+{
+    match gathered(alloc, Command::Generate, words)? {
+        Some(given) => Ok(whole_generate(given)),
         None => Ok(None),
     }
 }
@@ -131,12 +140,12 @@ fn verify_given<'a>(given: Given<'a>, source: &'a str) -> Option<Asked<'a>>
     }))
 }
 
-// One word is the seed, and there is no option.
-fn whole_generate<'a>(words: &[&'a str]) -> Option<Asked<'a>>
-    ensures { option_map asked_by result ≡ generate_by (map (λ w. w.now) words.now) }
+// The one name is the seed.
+fn whole_generate<'a>(given: Given<'a>) -> Option<Asked<'a>>
+    ensures { option_map asked_by result ≡ seed_at (given_of given.entry).first (given_of given.entry).second }
 {
-    match words {
-        [seed] => match seed_in(seed.as_bytes()) {
+    match (given.first, given.second) {
+        (Some(seed), None) => match seed_in(seed.as_bytes()) {
             Some(seed) => Some(Asked::Generate(seed)),
             None => None,
         },

@@ -11,6 +11,7 @@ pub enum Command {
     Check,
     Verify,
     Replay,
+    Generate,
 }
 
 /// The names and options of a command, for the words behind it.
@@ -24,6 +25,7 @@ pub(crate) fn parser_for<'a>(
         Command::Check => check_parser(alloc),
         Command::Verify => verify_parser(alloc),
         Command::Replay => replay_parser(alloc),
+        Command::Generate => generate_parser(alloc),
     }
 }
 
@@ -59,6 +61,13 @@ fn replay_parser<'a>(alloc: Global) -> Result<clap::Command<'a>, AllocError>
         .arg(name(alloc, "second"))?
         .arg(option(alloc, "model"))?
         .arg(option(alloc, "turns"))
+}
+
+// The seed stands where the others have the source.
+fn generate_parser<'a>(alloc: Global) -> Result<clap::Command<'a>, AllocError>
+    ensures { IfOk result (λ r. app_of r ≡ app_for Command.Generate) }
+{
+    started(alloc, "generate").arg(name(alloc, "source"))
 }
 
 // Help is asked for by no option.

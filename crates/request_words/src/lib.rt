@@ -5,7 +5,7 @@
 //! stands at most once. A name is not empty, does not begin with `-`, and has no byte below 0x20 and no byte 0x7F. A number has
 //! decimal digits without leading zeros and lies in its range. Anything else asks for nothing.
 //!
-//! `clap` takes the words behind `check`, `verify` and `replay` apart, by a command of each. What it does not state is tested here: that
+//! `clap` takes the words behind `check`, `verify`, `replay` and `generate` apart, by a command of each. What it does not state is tested here: that
 //! no word is `--`, and what a name, a data model and a number are. That both together are the rules above is proved of all words.
 #![tactic(auto)]
 

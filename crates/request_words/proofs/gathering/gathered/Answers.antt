@@ -1,9 +1,9 @@
 use Rattle.std.proofs.Common.{◌≡◌, ◌∙◌, ℕ, List, Bor, Bool, true, false, Some, map, codes, sym, ap, inl, inr}
 use Rattle.std.specs.List.{list_any}
 use Rattle.std.specs.Str.{bytes_eq}
-use Rattle.clap.specs.Words.{app_of, found_of, is_simple, is_simple_and_free, kind_of, rows_of}
+use Rattle.clap.specs.Words.{is_simple, is_simple_and_free}
 use Rattle.clap.proofs.WalkLemmas.{list_any-map}
-use Rattle.request_words.specs.Texts.{given_by, texts_in}
+use Rattle.request_words.specs.Texts.{given_by}
 use Rattle.request_words.specs.Words.{nothing_given}
 use Rattle.request_words.proofs.ParseLaws.{free_app, is_end, parse_refused, parse_told, simple_app, words_ended}
 use Rattle.request_words.proofs.gathering.gathered.Goals as goal
