@@ -13,6 +13,7 @@ use Rattle.first_broken.proofs.Least.{joined_is}
 use Rattle.call_order.specs.declared.calls.CallAt.{CallAt}
 use Rattle.call_order.specs.Seen.{all_calls, graph_of}
 use Rattle.call_order.specs.Order.{callees, IsOrder}
+use Rattle.call_order.specs.Walks.{order_by_walk}
 use Rattle.call_order.specs.Layers.{IsBounded, HasNoCycle}
 use Rattle.call_order.proofs.Leading.{cycles_broken}
 use Rattle.c_rules.specs.declared.label.LabelAt.{LabelAt}
@@ -63,12 +64,13 @@ has_no_cycle p x xs h e c n =
     subst HasNoCycle (sym (graph_is xs (r.calls_of_functions p.functions) (sym c ∙ ap (λ (z : g.Gathering). z.calls) e)))
     (cycles_broken (r.calls_of_functions p.functions) (second_empty (r.functions_faults p.functions) (r.recursion_faults p.functions) (good p x h e n)))
 
-pub is_examined : (p : Program) (x : g.Gathering) (xs : List (Vec CallAt Global)) (order : List ℕ) → IsTyped p → x ≡ g.checked p.functions → x.calls ≡ all_calls xs → x.found.least ≡ None → IsOrder (graph_of xs) order →
+pub is_examined : (p : Program) (x : g.Gathering) (xs : List (Vec CallAt Global)) (order : List ℕ) → IsTyped p → x ≡ g.checked p.functions → x.calls ≡ all_calls xs → x.found.least ≡ None → IsOrder (graph_of xs) order → order ≡ order_by_walk (graph_of xs) →
     IsExamined p x.labels order
-is_examined p x xs order h e c n o = record {
+is_examined p x xs order h e c n o w = record {
   good = good p x h e n;
   labels_are = ap (λ (z : g.Gathering). z.labels) e;
   ordered = subst (λ z. IsOrder z order) (graph_is xs (r.calls_of_functions p.functions) (sym c ∙ ap (λ (z : g.Gathering). z.calls) e)) o;
+  walked = w ∙ ap order_by_walk (graph_is xs (r.calls_of_functions p.functions) (sym c ∙ ap (λ (z : g.Gathering). z.calls) e));
 }
 
 -- what is gathered of a typed tree's functions

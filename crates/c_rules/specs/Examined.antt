@@ -3,6 +3,7 @@ use Rattle.std.specs.Prelude.{◌≡◌, ℕ, ◌+◌, ◌<◌, List, [], ◌∷
 use Rattle.c_typed.specs.Tree.{Function, Program}
 use Rattle.c_typed.specs.Rules.{Jump, labels_of_all, broken}
 use Rattle.call_order.specs.Order.{IsOrder, callees}
+use Rattle.call_order.specs.Walks.{order_by_walk}
 use Rattle.c_rules.specs.declared.label.LabelAt.{LabelAt}
 
 -- those of a function, in their order
@@ -18,3 +19,4 @@ pub record IsExamined (program : Program) (labels : List LabelAt) (order : List 
   pub good : broken program ≡ []
   pub labels_are : labels ≡ labels_from 0 program.functions
   pub ordered : IsOrder (callees program) order
+  pub walked : order ≡ order_by_walk (callees program)

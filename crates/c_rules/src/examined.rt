@@ -8,7 +8,8 @@ use std::marker::Model;
 
 /// A typed tree that breaks no rule of labels, jumps, unsequenced effects, calls in a circle, and of `break`, `continue`, `case`,
 /// `default` and `return` in their places. Its type keeps this, that `labels` are the tree's labels, by function and in their
-/// order, and that `order` has the number of each function once, behind the numbers of all functions that it calls.
+/// order, and that `order` has the number of each function once, behind the numbers of all functions that it calls, as a walk along the
+/// calls leaves them.
 #[derive(Drop)]
 pub struct Examined {
     typed: Typed,

@@ -6,3 +6,4 @@ mod Acyclic
 mod Peeling
 mod Confirming
 pub mod Arms
+mod Walking

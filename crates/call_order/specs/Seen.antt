@@ -4,7 +4,9 @@ use Rattle.std.proofs.Common.{Global}
 use Rattle.c_typed.specs.Rules as r
 use Rattle.call_order.specs.declared.calls.CallAt.{CallAt}
 use Rattle.call_order.specs.declared.order.Taking.{Taking}
+use Rattle.call_order.specs.declared.walk.Walk.{Walk}
 use Rattle.call_order.specs.Peel as p
+use Rattle.call_order.specs.Walks as walks
 
 abbrev pub call_of : CallAt → r.Call
 call_of c = record { at = c.at; to = c.to }
@@ -25,3 +27,15 @@ graph_of xs = map (λ x. targets x.items) xs
 
 abbrev pub taking_of : Taking → p.Taking
 taking_of x = record { taken = x.taken.items; order = x.order.items }
+
+abbrev pub walk_of : Walk → walks.Walk
+walk_of w = record {
+  places = w.places.items;
+  path = w.path.items;
+  unclosed = w.unclosed.items;
+  next = w.next;
+  entered = w.entered;
+  closed = w.closed;
+  order = w.guess.order.items;
+  parts = w.guess.parts.items;
+}

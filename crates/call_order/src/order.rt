@@ -4,6 +4,7 @@ ghost use Rattle.call_order.specs.Layers.{IsBounded, HasNoCycle};
 ghost use Rattle.call_order.specs.Order.{IsOrder};
 ghost use Rattle.call_order.specs.Peel as peel;
 ghost use Rattle.call_order.specs.Seen as seen;
+ghost use Rattle.call_order.specs.Walks.{order_by_walk};
 
 use crate::calls::CallAt;
 use crate::marks::{is_marked, mark};
@@ -143,7 +144,8 @@ fn order_in(taking: Taking) -> Vec<u32>
 pub fn order_of(alloc: Global, calls: &[Vec<CallAt>]) -> Result<Vec<u32>, Memory>
     requires bounded { IsBounded (seen.graph_of calls.now) }
     requires acyclic { HasNoCycle (seen.graph_of calls.now) }
-    ensures { IfOk result (λ x. IsOrder (seen.graph_of calls.now) x.items) }
+    ensures order { IfOk result (λ x. IsOrder (seen.graph_of calls.now) x.items) }
+    ensures made { IfOk result (λ x. x.items ≡ order_by_walk (seen.graph_of calls.now)) }
 {
     let guess = make_guess(alloc, calls)?;
     let mut taking = guided(alloc, calls, &guess.order)?;

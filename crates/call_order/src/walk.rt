@@ -1,3 +1,7 @@
+ghost use Rattle.std.specs.Prelude.{◌≡◌, [], IfOk, None, Some, slice_get, slice_set};
+ghost use Rattle.call_order.specs.Seen as seen;
+ghost use Rattle.call_order.specs.Walks as walks;
+
 use crate::calls::CallAt;
 use lv_base::Memory;
 use std::alloc::Global;
@@ -25,24 +29,32 @@ struct Place {
 struct Walk {
     places: Vec<Place>,
     path: Vec<u32>,
-    open: Vec<u32>,
+    unclosed: Vec<u32>,
     next: u32,
     entered: u32,
     closed: u32,
     guess: Guess,
 }
 
-fn begin(alloc: Global, count: usize) -> Result<Walk, Memory> {
-    let place = Place {
-        entered: 0,
-        lowest: 0,
+// A function that is entered with this number.
+fn fresh(entered: u32) -> Place
+    ensures { result ≡ walks.fresh entered }
+{
+    Place {
+        entered,
+        lowest: entered,
         looked: 0,
         is_closed: false,
-    };
+    }
+}
+
+fn begin(alloc: Global, count: usize) -> Result<Walk, Memory>
+    ensures { IfOk result (λ w. seen.walk_of w ≡ walks.begin count) }
+{
     Ok(Walk {
-        places: vec![in alloc; place; count]?,
+        places: vec![in alloc; fresh(0); count]?,
         path: Vec::new(alloc),
-        open: Vec::new(alloc),
+        unclosed: Vec::new(alloc),
         next: 0,
         entered: 0,
         closed: 0,
@@ -53,115 +65,232 @@ fn begin(alloc: Global, count: usize) -> Result<Walk, Memory> {
     })
 }
 
-fn enter(walk: &mut Walk, function: u32) -> Result<(), Memory> {
-    if let Some(place) = walk.places.get_mut(function as usize) {
-        walk.entered = walk.entered.saturating_add(1);
-        place.entered = walk.entered;
-        place.lowest = walk.entered;
-        walk.path.push(function)?;
-        walk.open.push(function)?;
+fn following(number: u32) -> u32
+    ensures { result ≡ walks.following number }
+{
+    number.saturating_add(1)
+}
+
+fn place_at(places: &[Place], function: u32) -> Option<Place>
+    ensures { result ≡ slice_get places.now function }
+{
+    places.get(function as usize).copied()
+}
+
+// Changes nothing past the places.
+fn put(places: &mut [Place], function: u32, place: Place)
+    ensures { places.new ≡ slice_set places.old function place }
+{
+    let at = function as usize;
+    if at < places.len() {
+        places[at] = place;
     }
+}
+
+fn last_of(functions: &[u32]) -> Option<u32>
+    ensures { result ≡ walks.last_of functions.now }
+{
+    functions.last().copied()
+}
+
+// Whether a function was entered and its part is still open.
+fn is_open(place: Place) -> bool
+    ensures { result ≡ walks.is_open place }
+{
+    place.entered > 0 && !place.is_closed
+}
+
+fn is_entered(places: &[Place], function: u32) -> bool
+    ensures { result ≡ walks.is_entered places.now function }
+{
+    match place_at(places, function) {
+        None => true,
+        Some(place) => place.entered > 0,
+    }
+}
+
+fn enter(walk: &mut Walk, function: u32) -> Result<(), Memory>
+    ensures { IfOk result (λ _. seen.walk_of walk.new ≡ walks.enter function (seen.walk_of walk.old)) }
+{
+    walk.entered = following(walk.entered);
+    put(&mut walk.places, function, fresh(walk.entered));
+    walk.path.push(function)?;
+    walk.unclosed.push(function)?;
     Ok(())
 }
 
-// The place of a function that was entered, if its part is still open.
-fn open_at(walk: &Walk, function: u32) -> Option<Place> {
-    match walk.places.get(function as usize) {
-        Some(place) if place.entered > 0 && !place.is_closed => Some(*place),
-        _ => None,
-    }
-}
-
-fn is_entered(walk: &Walk, function: u32) -> bool {
-    match walk.places.get(function as usize) {
-        Some(place) => place.entered > 0,
-        None => true,
-    }
-}
-
 // Calls from the function lead to one that was entered with this number.
-fn lower(walk: &mut Walk, function: u32, entered: u32) {
-    if let Some(place) = walk.places.get_mut(function as usize) {
-        place.lowest = place.lowest.min(entered);
+fn lower(places: &mut [Place], function: u32, entered: u32)
+    ensures { places.new ≡ walks.lower function entered places.old }
+{
+    if let Some(place) = place_at(places, function) {
+        let lowest = place.lowest.min(entered);
+        put(places, function, Place { lowest, ..place });
     }
 }
 
-// The next call of a function.
-fn take_call(walk: &mut Walk, own: &[CallAt], function: u32) -> Option<CallAt> {
-    let place = walk.places.get_mut(function as usize)?;
+// The function that the next call of a function calls.
+fn next_call(places: &[Place], own: &[CallAt], function: u32) -> Option<u32>
+    ensures { result ≡ walks.next_call places.now (seen.targets own.now) function }
+{
+    let place = place_at(places, function)?;
     let call = own.get(place.looked)?;
-    place.looked = place.looked.saturating_add(1);
-    Some(*call)
+    Some(call.to)
+}
+
+// One more of the function's calls was looked at.
+fn look(places: &mut [Place], function: u32)
+    ensures { places.new ≡ walks.look function places.old }
+{
+    if let Some(place) = place_at(places, function) {
+        let looked = place.looked.saturating_add(1);
+        put(places, function, Place { looked, ..place });
+    }
+}
+
+fn shut_place(places: &mut [Place], function: u32)
+    ensures { places.new ≡ walks.shut_at function places.old (slice_get places.old function) }
+{
+    if let Some(place) = place_at(places, function) {
+        let is_closed = true;
+        put(places, function, Place { is_closed, ..place });
+    }
+}
+
+// Changes nothing past the parts.
+fn put_part(parts: &mut [u32], function: u32, part: u32)
+    ensures { parts.new ≡ slice_set parts.old function part }
+{
+    let at = function as usize;
+    if at < parts.len() {
+        parts[at] = part;
+    }
+}
+
+// The function, the last that is open, is in the part that is closed now.
+fn shut(walk: &mut Walk, function: u32)
+    ensures { seen.walk_of walk.new ≡ walks.shut function (seen.walk_of walk.old) }
+{
+    shut_place(&mut walk.places, function);
+    let _ = walk.unclosed.pop();
+    put_part(&mut walk.guess.parts, function, walk.closed);
 }
 
 // Closes the part that begins with this function.
-fn close(walk: &mut Walk, function: u32) {
-    for _open in 0..walk.open.len() {
-        let Some(last) = walk.open.pop() else {
+fn close(walk: &mut Walk, function: u32)
+    ensures { seen.walk_of walk.new ≡ walks.close function (seen.walk_of walk.old) }
+{
+    for _open in 0..walk.unclosed.len() {
+        let Some(last) = last_of(&walk.unclosed) else {
             return;
         };
-        if let Some(place) = walk.places.get_mut(last as usize) {
-            place.is_closed = true;
-        }
-        if let Some(part) = walk.guess.parts.get_mut(last as usize) {
-            *part = walk.closed;
-        }
+        shut(walk, last);
         if last == function {
             return;
         }
     }
 }
 
-// All calls of the last function on the path were looked at.
-fn leave(walk: &mut Walk, function: u32) -> Result<(), Memory> {
-    let _ = walk.path.pop();
-    walk.guess.order.push(function)?;
-    let Some(place) = open_at(walk, function) else {
-        return Ok(());
-    };
+// Tells the caller of a function that is left what is reached from it.
+fn pass_on(walk: &mut Walk, place: Place)
+    ensures { seen.walk_of walk.new ≡ walks.pass_on place (seen.walk_of walk.old) (walks.last_of walk.old.path.items) }
+{
+    if let Some(caller) = last_of(&walk.path) {
+        lower(&mut walk.places, caller, place.lowest);
+    }
+}
+
+fn leave_open(walk: &mut Walk, function: u32, place: Place)
+    ensures { seen.walk_of walk.new ≡ walks.leave_open function place (seen.walk_of walk.old) }
+{
     if place.lowest == place.entered {
         close(walk, function);
-        walk.closed = walk.closed.saturating_add(1);
-    } else if let Some(caller) = walk.path.last() {
-        let caller = *caller;
-        lower(walk, caller, place.lowest);
+        walk.closed = following(walk.closed);
+    } else {
+        pass_on(walk, place);
+    }
+}
+
+// All calls of the last function on the path were looked at.
+fn leave(walk: &mut Walk, function: u32) -> Result<(), Memory>
+    ensures { IfOk result (λ _. seen.walk_of walk.new ≡ walks.leave function (seen.walk_of walk.old)) }
+{
+    let _ = walk.path.pop();
+    walk.guess.order.push(function)?;
+    let Some(place) = place_at(&walk.places, function) else {
+        return Ok(());
+    };
+    if is_open(place) {
+        leave_open(walk, function, place);
     }
     Ok(())
+}
+
+// A function that is called was entered before.
+fn meet(walk: &mut Walk, function: u32, to: u32)
+    ensures { seen.walk_of walk.new ≡ walks.meet function (seen.walk_of walk.old) (slice_get walk.old.places.items to) }
+{
+    let Some(place) = place_at(&walk.places, to) else {
+        return;
+    };
+    if is_open(place) {
+        lower(&mut walk.places, function, place.entered);
+    }
 }
 
 // Enters a function that is called.
-fn follow(walk: &mut Walk, function: u32, call: CallAt) -> Result<(), Memory> {
-    if !is_entered(walk, call.to) {
-        return enter(walk, call.to);
+fn follow(walk: &mut Walk, function: u32, to: u32) -> Result<(), Memory>
+    ensures { IfOk result (λ _. seen.walk_of walk.new ≡ walks.follow function to (seen.walk_of walk.old)) }
+{
+    if is_entered(&walk.places, to) {
+        meet(walk, function, to);
+        return Ok(());
     }
-    if let Some(place) = open_at(walk, call.to) {
-        lower(walk, function, place.entered);
+    enter(walk, to)
+}
+
+// Looks at one call of a function, or leaves it.
+fn call_or_leave(walk: &mut Walk, function: u32, own: &[CallAt]) -> Result<(), Memory>
+    ensures { IfOk result (λ _. seen.walk_of walk.new ≡ walks.at_calls function (seen.walk_of walk.old) (Some (seen.targets own.now))) }
+{
+    match next_call(&walk.places, own, function) {
+        None => leave(walk, function),
+        Some(to) => {
+            look(&mut walk.places, function);
+            follow(walk, function, to)
+        }
     }
-    Ok(())
+}
+
+// Begins at the next function, unless it was entered.
+fn begin_next(walk: &mut Walk) -> Result<(), Memory>
+    ensures { IfOk result (λ _. seen.walk_of walk.new ≡ walks.step_at [] (seen.walk_of walk.old) None) }
+{
+    let function = walk.next;
+    walk.next = following(function);
+    if is_entered(&walk.places, function) {
+        return Ok(());
+    }
+    enter(walk, function)
 }
 
 // Looks at one call of the last function on the path, or leaves it; without a path, at the next function.
-fn step(walk: &mut Walk, calls: &[Vec<CallAt>]) -> Result<(), Memory> {
-    let Some(last) = walk.path.last() else {
-        let function = walk.next;
-        walk.next = function.saturating_add(1);
-        if is_entered(walk, function) {
-            return Ok(());
-        }
-        return enter(walk, function);
+fn step(walk: &mut Walk, calls: &[Vec<CallAt>]) -> Result<(), Memory>
+    ensures { IfOk result (λ _. seen.walk_of walk.new ≡ walks.step (seen.graph_of calls.now) (seen.walk_of walk.old)) }
+{
+    let Some(function) = last_of(&walk.path) else {
+        return begin_next(walk);
     };
-    let function = *last;
-    let Some(own) = calls.get(function as usize) else {
-        return leave(walk, function);
-    };
-    match take_call(walk, own, function) {
-        Some(call) => follow(walk, function, call),
+    match calls.get(function as usize) {
         None => leave(walk, function),
+        Some(own) => call_or_leave(walk, function, own),
     }
 }
 
 // How many steps there are at most: one for each call, and two for each function.
-fn count_steps(calls: &[Vec<CallAt>]) -> usize {
+fn count_steps(calls: &[Vec<CallAt>]) -> usize
+    ensures { result ≡ walks.count_steps (seen.graph_of calls.now) }
+{
     let mut count = calls.len().saturating_mul(2);
     for own in calls {
         count = count.saturating_add(own.len());
@@ -169,13 +298,22 @@ fn count_steps(calls: &[Vec<CallAt>]) -> usize {
     count
 }
 
-/// A walk along the calls, each looked at once.
-///
-/// Fails with `Memory` where there is no more memory for a number for each function.
-pub(crate) fn make_guess(alloc: Global, calls: &[Vec<CallAt>]) -> Result<Guess, Memory> {
+fn walked(alloc: Global, calls: &[Vec<CallAt>]) -> Result<Walk, Memory>
+    ensures { IfOk result (λ w. seen.walk_of w ≡ walks.walked (seen.graph_of calls.now)) }
+{
     let mut walk = begin(alloc, calls.len())?;
     for _step in 0..count_steps(calls) {
         step(&mut walk, calls)?;
     }
+    Ok(walk)
+}
+
+/// A walk along the calls, each looked at once.
+///
+/// Fails with `Memory` where there is no more memory for a number for each function.
+pub(crate) fn make_guess(alloc: Global, calls: &[Vec<CallAt>]) -> Result<Guess, Memory>
+    ensures order { IfOk result (λ g. g.order.items ≡ (walks.walked (seen.graph_of calls.now)).order) }
+{
+    let walk = walked(alloc, calls)?;
     Ok(walk.guess)
 }

@@ -23,7 +23,7 @@ pub new-requires : goal.new-requires
 new-requires c =
     is_examined (tree_of c.args.typed) (gathering_of c.in_ok-gathered.gathered) c.deref.result.now c.in_ok-order-in-None.order.items c.functions.ensures.typed
     (known c.args.typed c.functions.result.now (gathering_of c.in_ok-gathered.gathered) c.functions.ensures.typed c.functions.ensures.value c.in_ok-gathered.ensures)
-    (ap all_calls (sym c.deref.ensures.value)) (ap option_of c.in-None.is) c.in_ok-order-in-None.ensures
+    (ap all_calls (sym c.deref.ensures.value)) (ap option_of c.in-None.is) c.in_ok-order-in-None.ensures.order c.in_ok-order-in-None.ensures.made
 
 pub returns-in-Some-clause-refused : goal.returns-in-Some-clause-refused
 returns-in-Some-clause-refused c =
