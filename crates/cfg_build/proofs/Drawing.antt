@@ -23,7 +23,7 @@ use Rattle.c_terms.specs.declared.failing.Tests.{Tests}
 use Rattle.c_terms.specs.declared.failing.Tests.TheVariants as tests
 use Rattle.c_terms.specs.Made as term
 use Rattle.c_terms.proofs.Choosing.{two, three}
-use Rattle.code_moves.specs.Setting.{Setting}
+use Rattle.code_moves.specs.Setting.{Setting, Site, site_of}
 use Rattle.code_moves.specs.Made as move
 use Rattle.cfg_build.specs.declared.draft.Draft.{Draft}
 use Rattle.cfg_build.specs.Steps.{Adds, IsEmpty, edge, node_id, next_of, offset_of}
@@ -62,7 +62,7 @@ pub check-drawn : (w v : Words) (a b : Draft) (from : NodeId) (fails : Fails) (a
 check-drawn w v a b from fails at turned h m =
     two (λ (x : Drawn) (p : Words × TermId). (beside x p.0, p.1)) (both-drawn w a b (Error fails.kind at) from (node_id (next_of a)) (Assume fails.when ∷ []) h) m
 
-pub last-drawn : (g : Setting) (w v : Words) (a b : Draft) (x : Instruction) (from next : NodeId) (first start moves ops : List Operation) → start ≡ [] → (v, moves) ≡ move.moves g w start x → ops ≡ first ++ moves
+pub last-drawn : (g : Site) (w v : Words) (a b : Draft) (x : Instruction) (from next : NodeId) (first start moves ops : List Operation) → start ≡ [] → (v, moves) ≡ move.moves g w start x → ops ≡ first ++ moves
     → Adds a b [] (edge from next ops ∷ []) → drawn_of v b ≡ made.add_last g (drawn_of w a) x from next first
 last-drawn g w v a b x from next first start moves ops e m o h =
     edge-drawn v a b from next ops h
@@ -75,14 +75,14 @@ checked-drawn : (w v : Words) (a b c : Draft) (x : Instruction) (from : NodeId) 
 checked-drawn w v a b c x from fails at passed e o h m =
     m ∙ three (λ (d : Drawn) (n : NodeId) (z : ℕ). made.add_check d n fails z) (node-drawn w a b Plain h) e o
 
-pub once-drawn : (g : Setting) (w v u : Words) (a b c d : Draft) (x : Instruction) (from next : NodeId) (fails : Fails) (at : ℕ) (passed : TermId) (start ops : List Operation)
+pub once-drawn : (g : Site) (w v u : Words) (a b c d : Draft) (x : Instruction) (from next : NodeId) (fails : Fails) (at : ℕ) (passed : TermId) (start ops : List Operation)
     → from ≡ node_id (next_of a) → at ≡ offset_of x → start ≡ [] → ops ≡ start ++ Assume passed ∷ [] → Adds a b (Plain ∷ []) []
     → (drawn_of v c, passed) ≡ made.add_check (drawn_of w b) from fails at → drawn_of u d ≡ made.add_last g (drawn_of v c) x from next ops → drawn_of u d ≡ made.checked_once g (drawn_of w a) x next fails
 once-drawn g w v u a b c d x from next fails at passed start ops e o s q h m l =
     l ∙ ap (λ (os : List Operation). made.add_last g (drawn_of v c) x from next os) (q ∙ ap (λ (os : List Operation). os ++ Assume passed ∷ []) s)
     ∙ two (λ (p : Drawn × TermId) (n : NodeId). made.add_last g p.0 x n next (Assume p.1 ∷ [])) (checked-drawn w v a b c x from fails at passed e o h m) e
 
-again-drawn : (g : Setting) (v y u : Words) (c d e f k : Draft) (x : Instruction) (from between next : NodeId) (fails : Fails) (at : ℕ) (passed last : TermId) (start ops : List Operation)
+again-drawn : (g : Site) (v y u : Words) (c d e f k : Draft) (x : Instruction) (from between next : NodeId) (fails : Fails) (at : ℕ) (passed last : TermId) (start ops : List Operation)
     → between ≡ node_id (next_of c) → at ≡ offset_of x → start ≡ [] → ops ≡ start ++ Assume last ∷ [] → Adds c d (Plain ∷ []) [] → Adds d e [] (edge from between (Assume passed ∷ []) ∷ [])
     → (drawn_of y f, last) ≡ made.add_check (drawn_of v e) between fails at → drawn_of u k ≡ made.add_last g (drawn_of y f) x between next ops
     → drawn_of u k ≡ made.checked_again g (drawn_of v c, passed) x from next fails
@@ -94,7 +94,7 @@ again-drawn g v y u c d e f k x from between next fails at passed last start ops
     l ∙ ap (λ (os : List Operation). made.add_last g (drawn_of y f) x between next os) (q ∙ ap (λ (os : List Operation). os ++ Assume last ∷ []) s)
     ∙ two (λ (p : Drawn × TermId) (n : NodeId). made.add_last g p.0 x n next (Assume p.1 ∷ [])) checked b
 
-pub twice-drawn : (g : Setting) (w v y u : Words) (a b c d e f k : Draft) (x : Instruction) (from between next : NodeId) (first second : Fails) (at : ℕ) (passed last : TermId) (start ops : List Operation)
+pub twice-drawn : (g : Site) (w v y u : Words) (a b c d e f k : Draft) (x : Instruction) (from between next : NodeId) (first second : Fails) (at : ℕ) (passed last : TermId) (start ops : List Operation)
     → from ≡ node_id (next_of a) → between ≡ node_id (next_of c) → at ≡ offset_of x → start ≡ [] → ops ≡ start ++ Assume last ∷ [] → Adds a b (Plain ∷ []) []
     → (drawn_of v c, passed) ≡ made.add_check (drawn_of w b) from first at → Adds c d (Plain ∷ []) [] → Adds d e [] (edge from between (Assume passed ∷ []) ∷ [])
     → (drawn_of y f, last) ≡ made.add_check (drawn_of v e) between second at → drawn_of u k ≡ made.add_last g (drawn_of y f) x between next ops
@@ -104,11 +104,11 @@ twice-drawn g w v y u a b c d e f k x from between next first second at passed l
     ∙ two (λ (z : Drawn × TermId) (n : NodeId). made.checked_again g z x n next second) (checked-drawn w v a b c x from first at passed p o h m) p
 
 -- no check
-pub unchecked-drawn : (g : Setting) (v : Words) (a b : Draft) (x : Instruction) (from next : NodeId) (ops : List Operation) → from ≡ node_id (next_of a) → ops ≡ [] → Adds a b (Plain ∷ []) []
+pub unchecked-drawn : (g : Site) (v : Words) (a b : Draft) (x : Instruction) (from next : NodeId) (ops : List Operation) → from ≡ node_id (next_of a) → ops ≡ [] → Adds a b (Plain ∷ []) []
     → made.add_last g (drawn_of v b) x from next ops ≡ made.add_tested g (drawn_of v a) x next tests.None
 unchecked-drawn g v a b x from next ops e o h = three (λ (d : Drawn) (n : NodeId) (os : List Operation). made.add_last g d x n next os) (node-drawn v a b Plain h) e o
 
-pub tested-drawn : (g : Setting) (w v : Words) (a : Draft) (x : Instruction) (next : NodeId) (tests shape : Tests) → tests ≡ shape → (v, tests) ≡ move.checks g w x
+pub tested-drawn : (g : Site) (w v : Words) (a : Draft) (x : Instruction) (next : NodeId) (tests shape : Tests) → tests ≡ shape → (v, tests) ≡ move.checks g w x
     → made.add_tested g (drawn_of v a) x next shape ≡ made.add_moves g (drawn_of w a) x next
 tested-drawn g w v a x next tests shape e m =
     ap (λ (z : Tests). made.add_tested g (drawn_of v a) x next z) (sym e) ∙ ap (λ (p : Words × Tests). made.add_tested g (beside (drawn_of w a) p.0) x next p.1) m
@@ -144,19 +144,19 @@ got xs i (Some x) h = ap Some h.1 ∙ sym (get-there xs i x.now h.3.0)
 pub empty-drawn : (w : Words) (a : Draft) → IsEmpty a → drawn_of w a ≡ made.blank w
 empty-drawn w a e = two (drawn w) e.0 e.1
 
-pub own-drawn : (w v : Words) (a b : Draft) (p : Plan) (owners : List ℕ) (g : Setting) (r : FnFlow) (loops : List LoopAt) → IsEmpty a → drawn_of v b ≡ made.add_places p owners g (drawn_of w a)
+pub own-drawn : (w v : Words) (a b : Draft) (p : Plan) (owners : List ℕ) (g : Site) (r : FnFlow) (loops : List LoopAt) → IsEmpty a → drawn_of v b ≡ made.add_places p owners g (drawn_of w a)
     → loops ≡ [] → r ≡ made.flow (drawn_of v b) loops → (v, r) ≡ made.own_graph p owners g w
 own-drawn w v a b p owners g r loops e h l k =
     ap (λ (x : FnFlow). (v, x)) (k ∙ ap (made.flow (drawn_of v b)) l)
     ∙ ap (λ (d : Drawn). (d.words, made.flow d [])) (h ∙ ap (made.add_places p owners g) (empty-drawn w a e))
 
 pub main-drawn : (w u v : Words) (a b c : Draft) (p : Plan) (owners : List ℕ) (g : Setting) (functions : List Function) (main : ℕ) (r : FnFlow) (offsets : List ℕ) (loops : List LoopAt) → IsEmpty a
-    → ◌≡◌ {A = Words × List Node × List Edge} (u, b.nodes.items, b.edges.items) (add_opening g w a.nodes.items a.edges.items) → drawn_of v c ≡ made.add_places p owners g (drawn_of u b)
-    → offsets ≡ main_loops functions main → loops ≡ loops_at p offsets → r ≡ made.flow (drawn_of v c) loops → (v, r) ≡ made.main_graph p owners g functions main w
+    → ◌≡◌ {A = Words × List Node × List Edge} (u, b.nodes.items, b.edges.items) (add_opening g w a.nodes.items a.edges.items) → drawn_of v c ≡ made.add_places p owners (site_of g) (drawn_of u b)
+    → offsets ≡ main_loops functions main → loops ≡ loops_at p offsets → r ≡ made.flow (drawn_of v c) loops → (v, r) ≡ made.main_graph p owners (site_of g) (made.opened g) functions main w
 main-drawn w u v a b c p owners g functions main r offsets loops e m h o l k =
     let start : drawn_of u b ≡ made.opened g w = ap (λ (t : Words × List Node × List Edge). drawn t.0 t.1 t.2) (m ∙ two (add_opening g w) e.0 e.1) in
     ap (λ (x : FnFlow). (v, x)) (k ∙ ap (made.flow (drawn_of v c)) (l ∙ ap (loops_at p) o))
-    ∙ ap (λ (d : Drawn). (d.words, made.flow d (loops_at p (main_loops functions main)))) (h ∙ ap (made.add_places p owners g) start)
+    ∙ ap (λ (d : Drawn). (d.words, made.flow d (loops_at p (main_loops functions main)))) (h ∙ ap (made.add_places p owners (site_of g)) start)
 
 -- a graph that was made is this too
 pub graph-so : (r : Result (Option FnFlow) Memory) (w : Words) (p q : Words × FnFlow) → IfOk r (λ o. IfSome o (λ x. (w, x) ≡ p)) → p ≡ q → IfOk r (λ o. IfSome o (λ x. (w, x) ≡ q))

@@ -13,10 +13,10 @@ use Rattle.slot_code.specs.Slots.{slots_in}
 use Rattle.slot_code.specs.declared.flat.Instruction.{Instruction}
 use Rattle.c_terms.specs.declared.words.Words.{Words}
 use Rattle.c_terms.proofs.Choosing.{two, three}
-use Rattle.code_moves.specs.Setting.{Setting}
+use Rattle.code_moves.specs.Setting.{Setting, site_of}
 use Rattle.cfg_build.specs.declared.placing.Range.{Range}
 use Rattle.cfg_build.specs.Follows.{Plan}
-use Rattle.cfg_build.specs.Made.{graph_of}
+use Rattle.cfg_build.specs.Made.{graph_of, opened}
 use Rattle.cfg_build.specs.Numbers.{numbers_to, owners_to}
 use Rattle.cfg_build.specs.Ranges.{main_or, no_ranges, ranges_to}
 use Rattle.cfg_build.specs.Graphs.{program_code, program_setting}
@@ -25,14 +25,14 @@ use Rattle.cfg_build.specs.Built.{Graphed, built, first_graphs, first_words, gra
 -- one graph more
 pub graph-added : (code : List Instruction) (numbers owners : List ℕ) (ranges : List Range) (functions : List Function) (main : ℕ) (g : Setting) (a b c : Words) (k m : ℕ)
     (gs all : List FnFlow) (xs ends : List NodeId) (range : Range) (p : Plan) (os : List ℕ) (graph : FnFlow)
-    → graphed b gs xs ≡ first_graphs code numbers owners ranges functions main g a k → (c, graph) ≡ graph_of p os g functions main b → slice_get ranges k ≡ Some range
+    → graphed b gs xs ≡ first_graphs code numbers owners ranges functions main g a k → (c, graph) ≡ graph_of p os (site_of g) (opened g) functions main b → slice_get ranges k ≡ Some range
     → p ≡ plan_in code numbers ranges main range → os ≡ owners → all ≡ gs ++ graph ∷ [] → ends ≡ xs ++ p.exit ∷ [] → suc k ≡ m
     → graphed c all ends ≡ first_graphs code numbers owners ranges functions main g a m
 graph-added code numbers owners ranges functions main g a b c k m gs all xs ends range p os graph before made there plan own are end more =
     let q = plan_in code numbers ranges main range in
-    let is : (c, graph) ≡ graph_of q owners g functions main b = made ∙ two (λ (x : Plan) (y : List ℕ). graph_of x y g functions main b) plan own in
-    let words : c ≡ (graph_of q owners g functions main b).0 = ap (λ (z : Words × FnFlow). z.0) is in
-    let added : graph ≡ (graph_of q owners g functions main b).1 = ap (λ (z : Words × FnFlow). z.1) is in
+    let is : (c, graph) ≡ graph_of q owners (site_of g) (opened g) functions main b = made ∙ two (λ (x : Plan) (y : List ℕ). graph_of x y (site_of g) (opened g) functions main b) plan own in
+    let words : c ≡ (graph_of q owners (site_of g) (opened g) functions main b).0 = ap (λ (z : Words × FnFlow). z.0) is in
+    let added : graph ≡ (graph_of q owners (site_of g) (opened g) functions main b).1 = ap (λ (z : Words × FnFlow). z.1) is in
     three graphed words (are ∙ ap (λ (z : FnFlow). gs ++ z ∷ []) added) (end ∙ ap (λ (z : Plan). xs ++ z.exit ∷ []) plan)
     ∙ two (λ (r : Graphed) o. with_graph code numbers owners ranges functions main g r o) before (sym there)
     ∙ ap (λ (j : ℕ). first_graphs code numbers owners ranges functions main g a j) more

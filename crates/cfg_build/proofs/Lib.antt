@@ -12,3 +12,4 @@ pub mod Numbers
 pub mod Others
 pub mod Passing
 pub mod Walking
+pub mod Alike

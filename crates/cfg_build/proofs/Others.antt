@@ -7,7 +7,7 @@ use Rattle.c_graph.specs.declared.graph.Node.{Node}
 use Rattle.c_graph.specs.declared.graph.Edge.{Edge}
 use Rattle.slot_code.specs.declared.flat.Instruction.{Instruction}
 use Rattle.slot_code.specs.declared.flat.Instruction.TheVariants as i
-use Rattle.code_moves.specs.Setting.{Setting}
+use Rattle.code_moves.specs.Setting.{Setting, Site}
 use Rattle.cfg_build.specs.declared.draft.Draft.{Draft}
 use Rattle.cfg_build.specs.Steps.{Built, Checked}
 use Rattle.cfg_build.specs.Follows.{Plan, Follows, node_of}
@@ -57,7 +57,7 @@ is-other (i.Take slot at from needed) a b c d e f g h = tt
 is-other (i.Fail kind at) a b c d e f g h = g kind at refl
 is-other i.Stop a b c d e f g h = h refl
 
-pub other-drawn : (p : Plan) (owners : List ℕ) (g : Setting) (d : Drawn) (place : ℕ) (x : Instruction) → IsOther x → made.add_moves g d x (node_of p (place + 1)) ≡ made.add_place p owners g d place x
+pub other-drawn : (p : Plan) (owners : List ℕ) (g : Site) (d : Drawn) (place : ℕ) (x : Instruction) → IsOther x → made.add_moves g d x (node_of p (place + 1)) ≡ made.add_place p owners g d place x
 other-drawn p owners g d place (i.Constant slot v) z = refl
 other-drawn p owners g d place (i.Read slot object) z = refl
 other-drawn p owners g d place (i.Element slot at object count) z = refl

@@ -12,13 +12,13 @@ use Rattle.c_typed.specs.Parts.{Parts, tree_of}
 use Rattle.c_typed.specs.Run.{main_number}
 use Rattle.c_terms.specs.declared.words.Words.{Words}
 use Rattle.c_terms.specs.Made.{words_of}
-use Rattle.code_moves.specs.Setting.{Setting}
+use Rattle.code_moves.specs.Setting.{Setting, site_of}
 use Rattle.cfg_build.specs.declared.placing.Range.{Range}
 use Rattle.cfg_build.specs.Steps.{node_id}
 use Rattle.cfg_build.specs.Follows.{Plan}
 use Rattle.cfg_build.specs.Numbers.{first_number, last_number, numbers_to, owners_to}
 use Rattle.cfg_build.specs.Graphs.{program_code, program_setting}
-use Rattle.cfg_build.specs.Made.{graph_of}
+use Rattle.cfg_build.specs.Made.{graph_of, opened}
 use Rattle.cfg_build.specs.Ranges.{main_or, no_ranges, ranges_to}
 
 -- terms, the graphs of the first so many functions, and the nodes at which these return
@@ -48,7 +48,7 @@ module _ (code : List Instruction) (numbers owners : List ℕ) (ranges : List Ra
   with_graph r None = r
   with_graph r (Some range) =
       let p = plan_in code numbers ranges main range in
-      let made = graph_of p owners g functions main r.words in
+      let made = graph_of p owners (site_of g) (opened g) functions main r.words in
       graphed made.0 (r.graphs ++ made.1 ∷ []) (r.exits ++ p.exit ∷ [])
 
   abbrev pub first_graphs : Words → ℕ → Graphed

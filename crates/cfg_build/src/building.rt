@@ -4,7 +4,7 @@ ghost use Rattle.std.specs.Prelude.{◌≡◌, ◌==◌, ◌⊎◌, [], length, 
 ghost use Rattle.c_graph.specs.Parts.{error_flows};
 ghost use Rattle.c_typed.specs.Parts.{tree_of};
 ghost use Rattle.c_terms.specs.Shown.{Grows};
-ghost use Rattle.code_moves.specs.Setting.{setting_of, Stands};
+ghost use Rattle.code_moves.specs.Setting.{setting_of, Stands, site_of};
 ghost use Rattle.slot_code.specs.declared.flat.Instruction.TheVariants as i;
 ghost use Rattle.loop_turns.specs.Turning.{OnlyTurn};
 ghost use Rattle.cfg_build.specs.Follows.{plan_of};
@@ -156,7 +156,7 @@ fn graph_of(
     ensures made { Stands (setting_of ground.now) words.old → IfOk result (λ o. IfSome o (λ r. Grows words.old words.new
         × of.GraphFollows (places.now.range.function == main) (plan_of places.now) (setting_of ground.now) words.new.terms r)) }
     ensures whole { Stands (setting_of ground.now) words.old → CanFollow places.now ground.now.layout.now (first_number main places.now.range.function) → IfOk result (λ o. IsSome o) }
-    ensures value { IfOk result (λ o. IfSome o (λ r. (words.new, r) ≡ made.graph_of (plan_of places.now) places.now.whole.owners.now (setting_of ground.now) (tree_of typed.now).functions main words.old)) }
+    ensures value { IfOk result (λ o. IfSome o (λ r. (words.new, r) ≡ made.graph_of (plan_of places.now) places.now.whole.owners.now (site_of (setting_of ground.now)) (made.opened (setting_of ground.now)) (tree_of typed.now).functions main words.old)) }
 {
     if places.range.function == main {
         main_graph(alloc, typed, places, main, ground, words)
@@ -175,7 +175,7 @@ fn own_graph(
     ensures made { Stands (setting_of ground.now) words.old → IfOk result (λ o. IfSome o (λ r. Grows words.old words.new
         × of.GraphFollows false (plan_of places.now) (setting_of ground.now) words.new.terms r)) }
     ensures whole { Stands (setting_of ground.now) words.old → CanFollow places.now ground.now.layout.now 0 → IfOk result (λ o. IsSome o) }
-    ensures value { IfOk result (λ o. IfSome o (λ r. (words.new, r) ≡ made.own_graph (plan_of places.now) places.now.whole.owners.now (setting_of ground.now) words.old)) }
+    ensures value { IfOk result (λ o. IfSome o (λ r. (words.new, r) ≡ made.own_graph (plan_of places.now) places.now.whole.owners.now (site_of (setting_of ground.now)) words.old)) }
 {
     let mut draft = Draft::new(alloc);
     if !add_places(alloc, places, ground, words, &mut draft)? {
@@ -195,7 +195,7 @@ fn main_graph(
     ensures made { Stands (setting_of ground.now) words.old → IfOk result (λ o. IfSome o (λ r. Grows words.old words.new
         × of.GraphFollows true (plan_of places.now) (setting_of ground.now) words.new.terms r)) }
     ensures whole { Stands (setting_of ground.now) words.old → CanFollow places.now ground.now.layout.now 1 → IfOk result (λ o. IsSome o) }
-    ensures value { IfOk result (λ o. IfSome o (λ r. (words.new, r) ≡ made.main_graph (plan_of places.now) places.now.whole.owners.now (setting_of ground.now) (tree_of typed.now).functions main words.old)) }
+    ensures value { IfOk result (λ o. IfSome o (λ r. (words.new, r) ≡ made.main_graph (plan_of places.now) places.now.whole.owners.now (site_of (setting_of ground.now)) (made.opened (setting_of ground.now)) (tree_of typed.now).functions main words.old)) }
 {
     let mut draft = Draft::new(alloc);
     add_opening(alloc, ground, words, &mut draft)?;

@@ -3,7 +3,7 @@
 ghost use Rattle.std.specs.Prelude.{◌≡◌, ◌↔◌, ℕ, IfOk, IfSome, IsTrue, Some, slice_get};
 ghost use Rattle.c_terms.specs.Shown.{Grows};
 ghost use Rattle.c_terms.specs.declared.words.Words.{Words};
-ghost use Rattle.code_moves.specs.Setting.{setting_of, Stands};
+ghost use Rattle.code_moves.specs.Setting.{setting_of, Stands, site_of};
 ghost use Rattle.slot_code.specs.declared.flat.Instruction.{Instruction};
 ghost use Rattle.cfg_build.specs.Steps.{Built, next_of, node_id};
 ghost use Rattle.cfg_build.specs.Placed.{CanCall, CanFollow, CanStand, IsCalled};
@@ -155,7 +155,7 @@ fn add_place(
     ensures built { Stands (setting_of ground.now) words.old
         → IfOk result (λ b. IsTrue b → Grows words.old words.new × Built draft.old draft.new (Follows (plan_of places.now) (setting_of ground.now) words.new.terms place instruction)) }
     ensures whole { CanCall places.now.whole ground.now.layout.now places.now.range instruction → IfOk result (λ b. IsTrue b) }
-    ensures made { IfOk result (λ b. IsTrue b → drawn_of words.new draft.new ≡ made.add_place (plan_of places.now) places.now.whole.owners.now (setting_of ground.now) (drawn_of words.old draft.old) place instruction) }
+    ensures made { IfOk result (λ b. IsTrue b → drawn_of words.new draft.new ≡ made.add_place (plan_of places.now) places.now.whole.owners.now (site_of (setting_of ground.now)) (drawn_of words.old draft.old) place instruction) }
 {
     let following = behind(place, 1)?;
     let next = node_of(places, following);
@@ -213,7 +213,7 @@ fn add_next(
     ensures built { Stands (setting_of ground.now) words.old
         → IfOk result (λ b. IsTrue b → Grows words.old words.new × Built draft.old draft.new (StandsAt (plan_of places.now) (setting_of ground.now) words.new.terms place)) }
     ensures whole { (x : Instruction) → CanStand places.now ground.now.layout.now place (next_of draft.old) x → IfOk result (λ b. IsTrue b) }
-    ensures made { IfOk result (λ b. IsTrue b → drawn_of words.new draft.new ≡ made.add_next (plan_of places.now) places.now.whole.owners.now (setting_of ground.now) (drawn_of words.old draft.old) place) }
+    ensures made { IfOk result (λ b. IsTrue b → drawn_of words.new draft.new ≡ made.add_next (plan_of places.now) places.now.whole.owners.now (site_of (setting_of ground.now)) (drawn_of words.old draft.old) place) }
 {
     let Some(instruction) = places.whole.code.get(place).copied() else {
         return Ok(false);
@@ -255,7 +255,7 @@ pub(crate) fn add_places(
     ensures built { Stands (setting_of ground.now) words.old
         → IfOk result (λ b. IsTrue b → Grows words.old words.new × Built draft.old draft.new (PlacesFollow (plan_of places.now) (setting_of ground.now) words.new.terms)) }
     ensures whole { Stands (setting_of ground.now) words.old → CanFollow places.now ground.now.layout.now (next_of draft.old) → IfOk result (λ b. IsTrue b) }
-    ensures made { IfOk result (λ b. IsTrue b → drawn_of words.new draft.new ≡ made.add_places (plan_of places.now) places.now.whole.owners.now (setting_of ground.now) (drawn_of words.old draft.old)) }
+    ensures made { IfOk result (λ b. IsTrue b → drawn_of words.new draft.new ≡ made.add_places (plan_of places.now) places.now.whole.owners.now (site_of (setting_of ground.now)) (drawn_of words.old draft.old)) }
 {
     let count = places.range.end.saturating_sub(places.range.entry);
     for number in 0..count {

@@ -9,7 +9,7 @@ ghost use Rattle.c_terms.specs.Shown.{Grows};
 ghost use Rattle.c_terms.specs.declared.words.Words.{Words};
 ghost use Rattle.c_terms.specs.declared.failing.Tests.TheVariants as Tests;
 ghost use Rattle.c_graph.specs.declared.graph.Operation.TheVariants as Operation;
-ghost use Rattle.code_moves.specs.Setting.{setting_of, Stands};
+ghost use Rattle.code_moves.specs.Setting.{setting_of, Stands, site_of};
 ghost use Rattle.code_moves.specs.Values.{slot_value};
 ghost use Rattle.code_moves.specs.Deeds.{Tells};
 ghost use Rattle.cfg_build.specs.Steps as s;
@@ -89,7 +89,7 @@ pub(crate) fn add_skip_zero(
 ) -> Result<(), Memory>
     ensures built { Stands (setting_of ground.now) words.old
         → IfOk result (λ u. Grows words.old words.new × Built draft.old draft.new (Fork words.new.terms (λ store. nonzero (slot_value (setting_of ground.now) store slot)) next to)) }
-    ensures made { IfOk result (λ u. drawn_of words.new draft.new ≡ made.add_skip_zero (setting_of ground.now) (drawn_of words.old draft.old) slot next to) }
+    ensures made { IfOk result (λ u. drawn_of words.new draft.new ≡ made.add_skip_zero (site_of (setting_of ground.now)) (drawn_of words.old draft.old) slot next to) }
 {
     let value = ground.slot(words, slot)?;
     let is_zero = words.is_zero(value)?;
@@ -109,7 +109,7 @@ pub(crate) fn add_skip_equal(
 ) -> Result<(), Memory>
     ensures built { Stands (setting_of ground.now) words.old
         → IfOk result (λ u. Grows words.old words.new × Built draft.old draft.new (Fork words.new.terms (λ store. truth (slot_value (setting_of ground.now) store slot == residue 64 value)) to next)) }
-    ensures made { IfOk result (λ u. drawn_of words.new draft.new ≡ made.add_skip_equal (setting_of ground.now) (drawn_of words.old draft.old) slot value next to) }
+    ensures made { IfOk result (λ u. drawn_of words.new draft.new ≡ made.add_skip_equal (site_of (setting_of ground.now)) (drawn_of words.old draft.old) slot value next to) }
 {
     let held = ground.slot(words, slot)?;
     let wanted = words.constant(value)?;
@@ -148,7 +148,7 @@ fn add_last(
 ) -> Result<(), Memory>
     ensures goes { Stands (setting_of ground.now) words.old
         → IfOk result (λ u. Grows words.old words.new × Goes (setting_of ground.now) words.new.terms draft.old draft.new instruction from next first.items) }
-    ensures made { IfOk result (λ u. drawn_of words.new draft.new ≡ made.add_last (setting_of ground.now) (drawn_of words.old draft.old) instruction from next first.items) }
+    ensures made { IfOk result (λ u. drawn_of words.new draft.new ≡ made.add_last (site_of (setting_of ground.now)) (drawn_of words.old draft.old) instruction from next first.items) }
 {
     let mut moves = Vec::new(alloc);
     ground.moves(words, instruction, &mut moves)?;
@@ -170,7 +170,7 @@ fn checked_once(
 ) -> Result<(), Memory>
     ensures built { (f : List ℕ → ℕ) → Stands (setting_of ground.now) words.old → Tells words.old.terms fails.when 1 f
         → IfOk result (λ u. Grows words.old words.new × Built draft.old draft.new (Behind (setting_of ground.now) words.new.terms instruction next (Tests.One fails))) }
-    ensures made { IfOk result (λ u. drawn_of words.new draft.new ≡ made.checked_once (setting_of ground.now) (drawn_of words.old draft.old) instruction next fails) }
+    ensures made { IfOk result (λ u. drawn_of words.new draft.new ≡ made.checked_once (site_of (setting_of ground.now)) (drawn_of words.old draft.old) instruction next fails) }
 {
     let from = draft.node(Node::Plain)?;
     let passed = add_check(words, draft, from, fails, offset_of(instruction))?;
@@ -193,7 +193,7 @@ fn checked_twice(
 ) -> Result<(), Memory>
     ensures built { (f h : List ℕ → ℕ) → Stands (setting_of ground.now) words.old → Tells words.old.terms first.when 1 f → Tells words.old.terms second.when 1 h
         → IfOk result (λ u. Grows words.old words.new × Built draft.old draft.new (Behind (setting_of ground.now) words.new.terms instruction next (Tests.Two first second))) }
-    ensures made { IfOk result (λ u. drawn_of words.new draft.new ≡ made.checked_twice (setting_of ground.now) (drawn_of words.old draft.old) instruction next first second) }
+    ensures made { IfOk result (λ u. drawn_of words.new draft.new ≡ made.checked_twice (site_of (setting_of ground.now)) (drawn_of words.old draft.old) instruction next first second) }
 {
     let at = offset_of(instruction);
     let from = draft.node(Node::Plain)?;
@@ -218,7 +218,7 @@ pub(crate) fn add_moves(
 ) -> Result<(), Memory>
     ensures built { Stands (setting_of ground.now) words.old
         → IfOk result (λ u. Grows words.old words.new × Built draft.old draft.new (Checked (setting_of ground.now) words.new.terms instruction next)) }
-    ensures made { IfOk result (λ u. drawn_of words.new draft.new ≡ made.add_moves (setting_of ground.now) (drawn_of words.old draft.old) instruction next) }
+    ensures made { IfOk result (λ u. drawn_of words.new draft.new ≡ made.add_moves (site_of (setting_of ground.now)) (drawn_of words.old draft.old) instruction next) }
 {
     let tests = ground.checks(words, instruction)?;
     match tests {

@@ -7,7 +7,7 @@ use Rattle.c_graph.specs.declared.graph.Operation.{Operation}
 use Rattle.c_graph.specs.declared.graph.Operation.TheVariants.{Set}
 use Rattle.c_terms.specs.declared.words.Words.{Words}
 use Rattle.c_terms.proofs.Choosing.{two, three}
-use Rattle.code_moves.specs.Setting.{Setting}
+use Rattle.code_moves.specs.Setting.{Site}
 use Rattle.code_moves.specs.Made as made
 
 pub four : {A B C D E : Type 0} (f : A → B → C → D → E) {a b : A} {c d : B} {x y : C} {u v : D} → a ≡ b → c ≡ d → x ≡ y → u ≡ v → f a c x u ≡ f b d y v
@@ -18,13 +18,13 @@ pub so : {A B : Type 0} (r : Result A Memory) (x p q : B) → IfOk r (λ u. x �
 so {A} {B} r x p q h e = subst (λ (z : B). IfOk r (λ u. x ≡ z)) e h
 
 -- a slot gets the term that was made
-pub then-filled : (r : Result (Unit {0}) Memory) (g : Setting) (w : Words) (value : TermId) (xs ops : List Operation) (number : ℕ) (p : Words × TermId)
+pub then-filled : (r : Result (Unit {0}) Memory) (g : Site) (w : Words) (value : TermId) (xs ops : List Operation) (number : ℕ) (p : Words × TermId)
     → IfOk r (λ u. xs ≡ made.fill g ops number value) → (w, value) ≡ p → IfOk r (λ u. (w, xs) ≡ made.filled g p ops number)
 then-filled (Ok u) g w value xs ops number p h e = ap (λ (ys : List Operation). (w, ys)) h ∙ ap (λ (q : Words × TermId). made.filled g q ops number) e
 then-filled (Err z) g w value xs ops number p h e = tt
 
 -- a slot gets a term that was there, behind what was written
-pub then-fill : (r : Result (Unit {0}) Memory) (g : Setting) (w : Words) (value same : TermId) (xs ops : List Operation) (number : ℕ) (p : Words × List Operation)
+pub then-fill : (r : Result (Unit {0}) Memory) (g : Site) (w : Words) (value same : TermId) (xs ops : List Operation) (number : ℕ) (p : Words × List Operation)
     → IfOk r (λ u. xs ≡ made.fill g ops number value) → (w, ops) ≡ p → value ≡ same → IfOk r (λ u. ◌≡◌ {A = Words × List Operation} (w, xs) (p.0, made.fill g p.1 number same))
 then-fill (Ok u) g w value same xs ops number p h e k =
     ap (λ (ys : List Operation). (w, ys)) h ∙ two (λ (q : Words × List Operation) (t : TermId). (q.0, made.fill g q.1 number t)) e k

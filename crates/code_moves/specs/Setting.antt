@@ -33,6 +33,15 @@ room_at (Some o) (Some first) = Some (record { first = first; length = elements_
 abbrev pub room_of : Setting → ℕ → Option Room
 room_of g object = room_at (slice_get g.objects object) (slice_get g.lay.firsts object)
 
+-- what the operations of instructions depend on: where the objects lie, the data model, and the layout
+pub record Site : Type 0 where
+  pub rooms : ℕ → Option Room
+  pub model : Model
+  pub lay : Lay
+
+abbrev pub site_of : Setting → Site
+site_of g = record { rooms = room_of g; model = g.model; lay = g.lay }
+
 -- its elements are an array of its kind's width
 pub record IsRoom (model : Model) (r : Room) (cells : List ℕ) : Type 0 where
   pub elements : IsArray cells r.first r.length

@@ -3,7 +3,7 @@ ghost use Rattle.std.specs.Prelude.{◌≡◌, ◌+◌, ℕ, List, IfOk, pos};
 ghost use Rattle.lv_base.specs.Integers as int;
 ghost use Rattle.c_terms.specs.Numbers as word;
 ghost use Rattle.c_terms.specs.Shown.{Finds, Puts, Shows};
-ghost use Rattle.code_moves.specs.Setting.{setting_of, Stands};
+ghost use Rattle.code_moves.specs.Setting.{setting_of, site_of, Stands};
 ghost use Rattle.code_moves.specs.Values as of;
 ghost use Rattle.code_moves.specs.Made as made;
 
@@ -53,7 +53,7 @@ impl Ground<'_> {
     ) -> Result<TermId, Memory>
         ensures shows { (store : List ℕ) (a b : ℕ) → Shows words.old.terms store left 64 a → Shows words.old.terms store right 64 b
             → IfOk result (λ t. Puts words.old words.new store t 64 (of.applied op kind self.now.model a b)) }
-        ensures made { IfOk result (λ t. (words.new, t) ≡ made.applied (setting_of self.now) words.old op kind left right) }
+        ensures made { IfOk result (λ t. (words.new, t) ≡ made.applied (site_of (setting_of self.now)) words.old op kind left right) }
     {
         let operands = Operands::new(words, kind, self.model, left, right)?;
         operands.value(words, op)
@@ -70,7 +70,7 @@ impl Ground<'_> {
     ) -> Result<Tests, Memory>
         ensures shows { (store : List ℕ) (a b : ℕ) → Shows words.old.terms store left 64 a → Shows words.old.terms store right 64 b
             → IfOk result (λ r. Finds words.old words.new store r (of.tested op kind self.now.model a b)) }
-        ensures made { IfOk result (λ r. (words.new, r) ≡ made.tested (setting_of self.now) words.old op kind left right) }
+        ensures made { IfOk result (λ r. (words.new, r) ≡ made.tested (site_of (setting_of self.now)) words.old op kind left right) }
     {
         let operands = Operands::new(words, kind, self.model, left, right)?;
         operands.tests(words, op)
@@ -86,7 +86,7 @@ impl Ground<'_> {
     ) -> Result<TermId, Memory>
         ensures shows { (store : List ℕ) (a : ℕ) → Shows words.old.terms store old 64 a
             → IfOk result (λ t. Puts words.old words.new store t 64 (of.stepped by kind self.now.model a)) }
-        ensures made { IfOk result (λ t. (words.new, t) ≡ made.stepped (setting_of self.now) words.old by kind old) }
+        ensures made { IfOk result (λ t. (words.new, t) ≡ made.stepped (site_of (setting_of self.now)) words.old by kind old) }
     {
         let wide = promoted(kind);
         let left = converted(words, wide, self.model, old)?;
@@ -105,7 +105,7 @@ impl Ground<'_> {
     ) -> Result<Tests, Memory>
         ensures shows { (store : List ℕ) (a : ℕ) → Shows words.old.terms store old 64 a
             → IfOk result (λ r. Finds words.old words.new store r (of.step_tested by kind self.now.model a)) }
-        ensures made { IfOk result (λ r. (words.new, r) ≡ made.step_tested (setting_of self.now) words.old by kind old) }
+        ensures made { IfOk result (λ r. (words.new, r) ≡ made.step_tested (site_of (setting_of self.now)) words.old by kind old) }
     {
         if !is_promoted(kind) {
             return Ok(Tests::None);
@@ -119,7 +119,7 @@ impl Ground<'_> {
     fn index_test(&self, words: &mut Words, slot: usize, count: usize) -> Result<Tests, Memory>
         ensures shows { (store : List ℕ) → Stands (setting_of self.now) words.old
             → IfOk result (λ r. Finds words.old words.new store r (of.index_fails count (of.slot_value (setting_of self.now) store slot))) }
-        ensures made { IfOk result (λ r. (words.new, r) ≡ made.index_test (setting_of self.now) words.old slot count) }
+        ensures made { IfOk result (λ r. (words.new, r) ≡ made.index_test (site_of (setting_of self.now)) words.old slot count) }
     {
         let index = self.slot(words, slot)?;
         let most = words.constant(whole(count))?;
@@ -134,7 +134,7 @@ impl Ground<'_> {
     fn missing_test(&self, words: &mut Words, from: usize, is_needed: bool) -> Result<Tests, Memory>
         ensures shows { (store : List ℕ) → Stands (setting_of self.now) words.old
             → IfOk result (λ r. Finds words.old words.new store r (of.missing_fails is_needed (of.slot_value (setting_of self.now) store (from + 2)))) }
-        ensures made { IfOk result (λ r. (words.new, r) ≡ made.missing_test (setting_of self.now) words.old from is_needed) }
+        ensures made { IfOk result (λ r. (words.new, r) ≡ made.missing_test (site_of (setting_of self.now)) words.old from is_needed) }
     {
         if !is_needed {
             return Ok(Tests::None);
@@ -150,7 +150,7 @@ impl Ground<'_> {
     fn negation_test(&self, words: &mut Words, slot: usize, kind: Kind) -> Result<Tests, Memory>
         ensures shows { (store : List ℕ) → Stands (setting_of self.now) words.old
             → IfOk result (λ r. Finds words.old words.new store r (of.negation_fails kind self.now.model (of.slot_value (setting_of self.now) store slot))) }
-        ensures made { IfOk result (λ r. (words.new, r) ≡ made.negation_test (setting_of self.now) words.old slot kind) }
+        ensures made { IfOk result (λ r. (words.new, r) ≡ made.negation_test (site_of (setting_of self.now)) words.old slot kind) }
     {
         if !is_signed(kind) {
             return Ok(Tests::None);
@@ -172,7 +172,7 @@ impl Ground<'_> {
     ) -> Result<Tests, Memory>
         ensures shows { (store : List ℕ) → Stands (setting_of self.now) words.old
             → IfOk result (λ r. Finds words.old words.new store r (of.tested op kind self.now.model (of.slot_value (setting_of self.now) store slot) (of.slot_value (setting_of self.now) store (slot + 1)))) }
-        ensures made { IfOk result (λ r. (words.new, r) ≡ made.binary_tests (setting_of self.now) words.old slot op kind) }
+        ensures made { IfOk result (λ r. (words.new, r) ≡ made.binary_tests (site_of (setting_of self.now)) words.old slot op kind) }
     {
         let left = self.slot(words, slot)?;
         let right = self.slot_behind(words, slot, 1)?;
@@ -188,7 +188,7 @@ impl Ground<'_> {
     ) -> Result<Tests, Memory>
         ensures shows { (store : List ℕ) → Stands (setting_of self.now) words.old
             → IfOk result (λ r. Finds words.old words.new store r (of.tested op kind self.now.model (word.converted kind self.now.model (of.slot_value (setting_of self.now) store (slot + 1))) (of.slot_value (setting_of self.now) store (slot + 2)))) }
-        ensures made { IfOk result (λ r. (words.new, r) ≡ made.update_tests (setting_of self.now) words.old slot op kind) }
+        ensures made { IfOk result (λ r. (words.new, r) ≡ made.update_tests (site_of (setting_of self.now)) words.old slot op kind) }
     {
         let old = self.slot_behind(words, slot, 1)?;
         let right = self.slot_behind(words, slot, 2)?;
@@ -206,7 +206,7 @@ impl Ground<'_> {
     ) -> Result<Tests, Memory>
         ensures shows { (store : List ℕ) → Stands (setting_of self.now) words.old
             → IfOk result (λ r. Finds words.old words.new store r (of.step_tested by kind self.now.model (of.element_value (setting_of self.now) store object (of.slot_value (setting_of self.now) store slot)))) }
-        ensures made { IfOk result (λ r. (words.new, r) ≡ made.change_tests (setting_of self.now) words.old slot by kind object) }
+        ensures made { IfOk result (λ r. (words.new, r) ≡ made.change_tests (site_of (setting_of self.now)) words.old slot by kind object) }
     {
         let index = self.slot(words, slot)?;
         let old = self.element(words, object, index)?;
@@ -217,7 +217,7 @@ impl Ground<'_> {
     pub fn checks(&self, words: &mut Words, instruction: Instruction) -> Result<Tests, Memory>
         ensures shows { (store : List ℕ) → Stands (setting_of self.now) words.old
             → IfOk result (λ r. Finds words.old words.new store r (of.failures_of (setting_of self.now) store instruction)) }
-        ensures made { IfOk result (λ r. (words.new, r) ≡ made.checks (setting_of self.now) words.old instruction) }
+        ensures made { IfOk result (λ r. (words.new, r) ≡ made.checks (site_of (setting_of self.now)) words.old instruction) }
     {
         match instruction {
             Instruction::Element(slot, _, _, count) => self.index_test(words, slot, count),

@@ -2,7 +2,7 @@
 ghost use Rattle.std.specs.Prelude.{◌≡◌, ◌+◌, ℕ, List, IfOk, Some};
 ghost use Rattle.lv_base.specs.Integers as int;
 ghost use Rattle.c_terms.specs.Shown.{Puts, Shows};
-ghost use Rattle.code_moves.specs.Setting.{setting_of, Stands, room_at, room_of, IsRoom};
+ghost use Rattle.code_moves.specs.Setting.{setting_of, site_of, Stands, room_at, room_of, IsRoom};
 ghost use Rattle.code_moves.specs.Values as of;
 ghost use Rattle.code_moves.specs.Made as made;
 
@@ -59,7 +59,7 @@ impl Ground<'_> {
     pub fn slot(&self, words: &mut Words, slot: usize) -> Result<TermId, Memory>
         ensures shows { (store : List ℕ) → Stands (setting_of self.now) words.old
             → IfOk result (λ t. Puts words.old words.new store t 64 (of.slot_value (setting_of self.now) store slot)) }
-        ensures made { IfOk result (λ t. (words.new, t) ≡ made.slot (setting_of self.now) words.old slot) }
+        ensures made { IfOk result (λ t. (words.new, t) ≡ made.slot (site_of (setting_of self.now)) words.old slot) }
     {
         match self.layout.slot(slot) {
             None => words.zero(SLOT_WIDTH),
@@ -76,7 +76,7 @@ impl Ground<'_> {
     ) -> Result<TermId, Memory>
         ensures shows { (store : List ℕ) → Stands (setting_of self.now) words.old
             → IfOk result (λ t. Puts words.old words.new store t 64 (of.slot_value (setting_of self.now) store (slot + steps))) }
-        ensures made { IfOk result (λ t. (words.new, t) ≡ made.slot_behind (setting_of self.now) words.old slot steps) }
+        ensures made { IfOk result (λ t. (words.new, t) ≡ made.slot_behind (site_of (setting_of self.now)) words.old slot steps) }
     {
         let number = behind(slot, steps)?;
         self.slot(words, number)
@@ -86,7 +86,7 @@ impl Ground<'_> {
     fn bits(&self, words: &mut Words, room: Room, index: TermId) -> Result<TermId, Memory>
         ensures shows { (store : List ℕ) (a : ℕ) → IsRoom self.now.model room words.old.terms.cells → Shows words.old.terms store index 64 a
             → IfOk result (λ t. Puts words.old words.new store t (int.width_of room.kind self.now.model) (of.bits_in room store a)) }
-        ensures made { IfOk result (λ t. (words.new, t) ≡ made.bits (setting_of self.now) words.old room index) }
+        ensures made { IfOk result (λ t. (words.new, t) ≡ made.bits (site_of (setting_of self.now)) words.old room index) }
     {
         if room.is_array {
             words.put(Term::Element(room.first, room.length, index))
@@ -99,7 +99,7 @@ impl Ground<'_> {
     fn element_in(&self, words: &mut Words, room: Room, index: TermId) -> Result<TermId, Memory>
         ensures shows { (store : List ℕ) (a : ℕ) → IsRoom self.now.model room words.old.terms.cells → Shows words.old.terms store index 64 a
             → IfOk result (λ t. Puts words.old words.new store t 64 (of.element_in self.now.model (Some room) store a)) }
-        ensures made { IfOk result (λ t. (words.new, t) ≡ made.element_in (setting_of self.now) words.old room index) }
+        ensures made { IfOk result (λ t. (words.new, t) ≡ made.element_in (site_of (setting_of self.now)) words.old room index) }
     {
         let bits = self.bits(words, room, index)?;
         widen(words, room.kind, self.model, bits)
@@ -114,7 +114,7 @@ impl Ground<'_> {
     ) -> Result<TermId, Memory>
         ensures shows { (store : List ℕ) (a : ℕ) → Stands (setting_of self.now) words.old → Shows words.old.terms store index 64 a
             → IfOk result (λ t. Puts words.old words.new store t 64 (of.element_value (setting_of self.now) store object a)) }
-        ensures made { IfOk result (λ t. (words.new, t) ≡ made.element (setting_of self.now) words.old object index) }
+        ensures made { IfOk result (λ t. (words.new, t) ≡ made.element (site_of (setting_of self.now)) words.old object index) }
     {
         match self.room(object) {
             None => words.zero(SLOT_WIDTH),
@@ -126,7 +126,7 @@ impl Ground<'_> {
     fn scalar_in(&self, words: &mut Words, room: Room) -> Result<TermId, Memory>
         ensures shows { (store : List ℕ) → IsRoom self.now.model room words.old.terms.cells
             → IfOk result (λ t. Puts words.old words.new store t 64 (of.scalar_in self.now.model (Some room) store)) }
-        ensures made { IfOk result (λ t. (words.new, t) ≡ made.scalar_in (setting_of self.now) words.old room) }
+        ensures made { IfOk result (λ t. (words.new, t) ≡ made.scalar_in (site_of (setting_of self.now)) words.old room) }
     {
         let bits = words.cell(room.first)?;
         widen(words, room.kind, self.model, bits)
@@ -136,7 +136,7 @@ impl Ground<'_> {
     pub(crate) fn scalar(&self, words: &mut Words, object: u32) -> Result<TermId, Memory>
         ensures shows { (store : List ℕ) → Stands (setting_of self.now) words.old
             → IfOk result (λ t. Puts words.old words.new store t 64 (of.scalar_value (setting_of self.now) store object)) }
-        ensures made { IfOk result (λ t. (words.new, t) ≡ made.scalar (setting_of self.now) words.old object) }
+        ensures made { IfOk result (λ t. (words.new, t) ≡ made.scalar (site_of (setting_of self.now)) words.old object) }
     {
         match self.room(object) {
             None => words.zero(SLOT_WIDTH),

@@ -10,7 +10,7 @@ ghost use Rattle.c_terms.specs.Numbers as word;
 ghost use Rattle.c_terms.specs.Operations as by;
 ghost use Rattle.code_layout.specs.Layout.{drawn_cell};
 ghost use Rattle.code_layout.specs.Lies.{IsWide};
-ghost use Rattle.code_moves.specs.Setting.{setting_of, Stands, room_of, IsRoom};
+ghost use Rattle.code_moves.specs.Setting.{setting_of, site_of, Stands, room_of, IsRoom};
 ghost use Rattle.code_moves.specs.Values as of;
 ghost use Rattle.code_moves.specs.Made as made;
 ghost use Rattle.code_moves.specs.Deeds.{Deed, AreDeeds, Tells, Does};
@@ -53,7 +53,7 @@ fn fill(
 ) -> Result<(), Memory>
     ensures does { (words : Words) (deeds : List Deed) (f : List ℕ → ℕ) → Stands (setting_of ground.now) words → AreDeeds words.terms ops.old.items deeds → Tells words.terms value 64 f
         → IfOk result (λ u. AreDeeds words.terms ops.new.items (deeds ++ m.fills (setting_of ground.now) slot f)) }
-    ensures made { IfOk result (λ u. ops.new.items ≡ made.fill (setting_of ground.now) ops.old.items slot value) }
+    ensures made { IfOk result (λ u. ops.new.items ≡ made.fill (site_of (setting_of ground.now)) ops.old.items slot value) }
 {
     match ground.layout.slot(slot) {
         None => Ok(()),
@@ -76,7 +76,7 @@ fn write_in(
     ensures does { (deeds : List Deed) (h f : List ℕ → ℕ) → IsRoom ground.now.model room words.old.terms.cells → AreDeeds words.old.terms ops.old.items deeds
         → Tells words.old.terms index 64 h → Tells words.old.terms value 64 f
         → IfOk result (λ u. Does words.old words.new ops.new.items (deeds ++ m.writes_in ground.now.model (Some room) h f)) }
-    ensures made { IfOk result (λ u. (words.new, ops.new.items) ≡ made.write_in (setting_of ground.now) words.old ops.old.items room index value) }
+    ensures made { IfOk result (λ u. (words.new, ops.new.items) ≡ made.write_in (site_of (setting_of ground.now)) words.old ops.old.items room index value) }
 {
     let bits = narrow(words, room.kind, ground.model, value)?;
     if room.is_array {
@@ -99,7 +99,7 @@ fn write(
     ensures does { (deeds : List Deed) (h f : List ℕ → ℕ) → Stands (setting_of ground.now) words.old → AreDeeds words.old.terms ops.old.items deeds
         → Tells words.old.terms index 64 h → Tells words.old.terms value 64 f
         → IfOk result (λ u. Does words.old words.new ops.new.items (deeds ++ m.writes (setting_of ground.now) object h f)) }
-    ensures made { IfOk result (λ u. (words.new, ops.new.items) ≡ made.write (setting_of ground.now) words.old ops.old.items object index value) }
+    ensures made { IfOk result (λ u. (words.new, ops.new.items) ≡ made.write (site_of (setting_of ground.now)) words.old ops.old.items object index value) }
 {
     match ground.room(object) {
         None => Ok(()),
@@ -119,7 +119,7 @@ fn write_at(
     ensures does { (deeds : List Deed) (f : List ℕ → ℕ) → IsRoom ground.now.model room words.old.terms.cells → element < room.length → AreDeeds words.old.terms ops.old.items deeds
         → Tells words.old.terms value 64 f
         → IfOk result (λ u. Does words.old words.new ops.new.items (deeds ++ m.writes_at ground.now.model room element f)) }
-    ensures made { IfOk result (λ u. (words.new, ops.new.items) ≡ made.write_at (setting_of ground.now) words.old ops.old.items room element value) }
+    ensures made { IfOk result (λ u. (words.new, ops.new.items) ≡ made.write_at (site_of (setting_of ground.now)) words.old ops.old.items room element value) }
 {
     let bits = narrow(words, room.kind, ground.model, value)?;
     let cell = first_behind(room.first, element)?;
@@ -137,7 +137,7 @@ impl Ground<'_> {
     ) -> Result<(), Memory>
         ensures does { (deeds : List Deed) → Stands (setting_of self.now) words.old → AreDeeds words.old.terms ops.old.items deeds
             → IfOk result (λ u. Does words.old words.new ops.new.items (deeds ++ m.moves_of (setting_of self.now) instruction)) }
-        ensures made { IfOk result (λ u. (words.new, ops.new.items) ≡ made.moves (setting_of self.now) words.old ops.old.items instruction) }
+        ensures made { IfOk result (λ u. (words.new, ops.new.items) ≡ made.moves (site_of (setting_of self.now)) words.old ops.old.items instruction) }
     {
         match instruction {
             Instruction::Constant(slot, value) => self.constant(words, slot, value, ops),
@@ -189,7 +189,7 @@ impl Ground<'_> {
     ) -> Result<(), Memory>
         ensures does { (deeds : List Deed) → Stands (setting_of self.now) words.old → AreDeeds words.old.terms ops.old.items deeds
             → IfOk result (λ u. Does words.old words.new ops.new.items (deeds ++ m.fills (setting_of self.now) slot (λ store. residue 64 value))) }
-        ensures made { IfOk result (λ u. (words.new, ops.new.items) ≡ made.constant (setting_of self.now) words.old ops.old.items slot value) }
+        ensures made { IfOk result (λ u. (words.new, ops.new.items) ≡ made.constant (site_of (setting_of self.now)) words.old ops.old.items slot value) }
     {
         let value = words.constant(value)?;
         fill(self, slot, value, ops)
@@ -204,7 +204,7 @@ impl Ground<'_> {
     ) -> Result<(), Memory>
         ensures does { (deeds : List Deed) → Stands (setting_of self.now) words.old → AreDeeds words.old.terms ops.old.items deeds
             → IfOk result (λ u. Does words.old words.new ops.new.items (deeds ++ m.fills (setting_of self.now) slot (λ store. of.scalar_value (setting_of self.now) store object))) }
-        ensures made { IfOk result (λ u. (words.new, ops.new.items) ≡ made.read (setting_of self.now) words.old ops.old.items slot object) }
+        ensures made { IfOk result (λ u. (words.new, ops.new.items) ≡ made.read (site_of (setting_of self.now)) words.old ops.old.items slot object) }
     {
         let value = self.scalar(words, object)?;
         fill(self, slot, value, ops)
@@ -221,7 +221,7 @@ impl Ground<'_> {
     ) -> Result<(), Memory>
         ensures does { (deeds : List Deed) → Stands (setting_of self.now) words.old → AreDeeds words.old.terms ops.old.items deeds
             → IfOk result (λ u. Does words.old words.new ops.new.items (deeds ++ m.fills (setting_of self.now) to (m.old_value (setting_of self.now) slot object))) }
-        ensures made { IfOk result (λ u. (words.new, ops.new.items) ≡ made.load (setting_of self.now) words.old ops.old.items slot to object) }
+        ensures made { IfOk result (λ u. (words.new, ops.new.items) ≡ made.load (site_of (setting_of self.now)) words.old ops.old.items slot to object) }
     {
         let index = self.slot(words, slot)?;
         let value = self.element(words, object, index)?;
@@ -238,7 +238,7 @@ impl Ground<'_> {
     ) -> Result<(), Memory>
         ensures does { (deeds : List Deed) → Stands (setting_of self.now) words.old → AreDeeds words.old.terms ops.old.items deeds
             → IfOk result (λ u. Does words.old words.new ops.new.items (deeds ++ m.fills (setting_of self.now) (slot + 1) (m.old_value (setting_of self.now) slot object))) }
-        ensures made { IfOk result (λ u. (words.new, ops.new.items) ≡ made.load_behind (setting_of self.now) words.old ops.old.items slot object) }
+        ensures made { IfOk result (λ u. (words.new, ops.new.items) ≡ made.load_behind (site_of (setting_of self.now)) words.old ops.old.items slot object) }
     {
         let to = behind(slot, 1)?;
         self.load(words, slot, to, object, ops)
@@ -253,7 +253,7 @@ impl Ground<'_> {
     ) -> Result<(), Memory>
         ensures does { (deeds : List Deed) → Stands (setting_of self.now) words.old → AreDeeds words.old.terms ops.old.items deeds
             → IfOk result (λ u. Does words.old words.new ops.new.items (deeds ++ m.stores (setting_of self.now) slot object (m.index_value (setting_of self.now) (slot + 1)))) }
-        ensures made { IfOk result (λ u. (words.new, ops.new.items) ≡ made.store (setting_of self.now) words.old ops.old.items slot object) }
+        ensures made { IfOk result (λ u. (words.new, ops.new.items) ≡ made.store (site_of (setting_of self.now)) words.old ops.old.items slot object) }
     {
         let index = self.slot(words, slot)?;
         let value = self.slot_behind(words, slot, 1)?;
@@ -272,7 +272,7 @@ impl Ground<'_> {
     ) -> Result<(), Memory>
         ensures does { (deeds : List Deed) (f : List ℕ → ℕ) → Stands (setting_of self.now) words.old → AreDeeds words.old.terms ops.old.items deeds → Tells words.old.terms value 64 f
             → IfOk result (λ u. Does words.old words.new ops.new.items (deeds ++ m.stores (setting_of self.now) slot object f)) }
-        ensures made { IfOk result (λ u. (words.new, ops.new.items) ≡ made.store_value (setting_of self.now) words.old ops.old.items slot object value) }
+        ensures made { IfOk result (λ u. (words.new, ops.new.items) ≡ made.store_value (site_of (setting_of self.now)) words.old ops.old.items slot object value) }
     {
         let index = self.slot(words, slot)?;
         write(self, words, object, index, value, ops)?;
@@ -288,7 +288,7 @@ impl Ground<'_> {
     ) -> Result<(), Memory>
         ensures does { (deeds : List Deed) → Stands (setting_of self.now) words.old → AreDeeds words.old.terms ops.old.items deeds
             → IfOk result (λ u. Does words.old words.new ops.new.items (deeds ++ m.fills (setting_of self.now) slot (λ store. word.converted kind self.now.model (of.slot_value (setting_of self.now) store slot)))) }
-        ensures made { IfOk result (λ u. (words.new, ops.new.items) ≡ made.convert (setting_of self.now) words.old ops.old.items slot kind) }
+        ensures made { IfOk result (λ u. (words.new, ops.new.items) ≡ made.convert (site_of (setting_of self.now)) words.old ops.old.items slot kind) }
     {
         let value = self.slot(words, slot)?;
         let value = converted(words, kind, self.model, value)?;
@@ -304,7 +304,7 @@ impl Ground<'_> {
     ) -> Result<(), Memory>
         ensures does { (deeds : List Deed) → Stands (setting_of self.now) words.old → AreDeeds words.old.terms ops.old.items deeds
             → IfOk result (λ u. Does words.old words.new ops.new.items (deeds ++ m.fills (setting_of self.now) slot (λ store. by.negation kind self.now.model (of.slot_value (setting_of self.now) store slot)))) }
-        ensures made { IfOk result (λ u. (words.new, ops.new.items) ≡ made.negate (setting_of self.now) words.old ops.old.items slot kind) }
+        ensures made { IfOk result (λ u. (words.new, ops.new.items) ≡ made.negate (site_of (setting_of self.now)) words.old ops.old.items slot kind) }
     {
         let operand = self.slot(words, slot)?;
         let value = negated(words, kind, self.model, operand)?;
@@ -320,7 +320,7 @@ impl Ground<'_> {
     ) -> Result<(), Memory>
         ensures does { (deeds : List Deed) → Stands (setting_of self.now) words.old → AreDeeds words.old.terms ops.old.items deeds
             → IfOk result (λ u. Does words.old words.new ops.new.items (deeds ++ m.fills (setting_of self.now) slot (λ store. by.complement kind self.now.model (of.slot_value (setting_of self.now) store slot)))) }
-        ensures made { IfOk result (λ u. (words.new, ops.new.items) ≡ made.complement (setting_of self.now) words.old ops.old.items slot kind) }
+        ensures made { IfOk result (λ u. (words.new, ops.new.items) ≡ made.complement (site_of (setting_of self.now)) words.old ops.old.items slot kind) }
     {
         let operand = self.slot(words, slot)?;
         let value = complement(words, kind, self.model, operand)?;
@@ -330,7 +330,7 @@ impl Ground<'_> {
     fn not(&self, words: &mut Words, slot: usize, ops: &mut Vec<Operation>) -> Result<(), Memory>
         ensures does { (deeds : List Deed) → Stands (setting_of self.now) words.old → AreDeeds words.old.terms ops.old.items deeds
             → IfOk result (λ u. Does words.old words.new ops.new.items (deeds ++ m.fills (setting_of self.now) slot (λ store. word.zero_test (of.slot_value (setting_of self.now) store slot)))) }
-        ensures made { IfOk result (λ u. (words.new, ops.new.items) ≡ made.not (setting_of self.now) words.old ops.old.items slot) }
+        ensures made { IfOk result (λ u. (words.new, ops.new.items) ≡ made.not (site_of (setting_of self.now)) words.old ops.old.items slot) }
     {
         let operand = self.slot(words, slot)?;
         let zero = words.is_zero(operand)?;
@@ -348,7 +348,7 @@ impl Ground<'_> {
     ) -> Result<(), Memory>
         ensures does { (deeds : List Deed) → Stands (setting_of self.now) words.old → AreDeeds words.old.terms ops.old.items deeds
             → IfOk result (λ u. Does words.old words.new ops.new.items (deeds ++ m.fills (setting_of self.now) slot (λ store. of.applied op kind self.now.model (of.slot_value (setting_of self.now) store slot) (of.slot_value (setting_of self.now) store (slot + 1))))) }
-        ensures made { IfOk result (λ u. (words.new, ops.new.items) ≡ made.binary (setting_of self.now) words.old ops.old.items slot op kind) }
+        ensures made { IfOk result (λ u. (words.new, ops.new.items) ≡ made.binary (site_of (setting_of self.now)) words.old ops.old.items slot op kind) }
     {
         let left = self.slot(words, slot)?;
         let right = self.slot_behind(words, slot, 1)?;
@@ -366,7 +366,7 @@ impl Ground<'_> {
     ) -> Result<(), Memory>
         ensures does { (deeds : List Deed) → Stands (setting_of self.now) words.old → AreDeeds words.old.terms ops.old.items deeds
             → IfOk result (λ u. Does words.old words.new ops.new.items (deeds ++ m.takes (setting_of self.now) slot from is_needed)) }
-        ensures made { IfOk result (λ u. (words.new, ops.new.items) ≡ made.taken (setting_of self.now) words.old ops.old.items slot from is_needed) }
+        ensures made { IfOk result (λ u. (words.new, ops.new.items) ≡ made.taken (site_of (setting_of self.now)) words.old ops.old.items slot from is_needed) }
     {
         if is_needed {
             self.take(words, slot, from, ops)
@@ -385,7 +385,7 @@ impl Ground<'_> {
     ) -> Result<(), Memory>
         ensures does { (deeds : List Deed) → Stands (setting_of self.now) words.old → AreDeeds words.old.terms ops.old.items deeds
             → IfOk result (λ u. Does words.old words.new ops.new.items (deeds ++ m.takes (setting_of self.now) slot from true)) }
-        ensures made { IfOk result (λ u. (words.new, ops.new.items) ≡ made.take (setting_of self.now) words.old ops.old.items slot from) }
+        ensures made { IfOk result (λ u. (words.new, ops.new.items) ≡ made.take (site_of (setting_of self.now)) words.old ops.old.items slot from) }
     {
         let value = self.slot_behind(words, from, 1)?;
         fill(self, slot, value, ops)
@@ -401,7 +401,7 @@ impl Ground<'_> {
     ) -> Result<(), Memory>
         ensures does { (deeds : List Deed) → Stands (setting_of self.now) words.old → AreDeeds words.old.terms ops.old.items deeds
             → IfOk result (λ u. Does words.old words.new ops.new.items (deeds ++ m.takes (setting_of self.now) slot from false)) }
-        ensures made { IfOk result (λ u. (words.new, ops.new.items) ≡ made.take_some (setting_of self.now) words.old ops.old.items slot from) }
+        ensures made { IfOk result (λ u. (words.new, ops.new.items) ≡ made.take_some (site_of (setting_of self.now)) words.old ops.old.items slot from) }
     {
         let value = self.slot_behind(words, from, 1)?;
         let flag = self.slot_behind(words, from, 2)?;
@@ -422,7 +422,7 @@ impl Ground<'_> {
     ) -> Result<TermId, Memory>
         ensures shows { (store : List ℕ) → Stands (setting_of self.now) words.old
             → IfOk result (λ t. Puts words.old words.new store t 64 (m.updated_value (setting_of self.now) slot op kind to store)) }
-        ensures made { IfOk result (λ t. (words.new, t) ≡ made.updated (setting_of self.now) words.old slot op kind to) }
+        ensures made { IfOk result (λ t. (words.new, t) ≡ made.updated (site_of (setting_of self.now)) words.old slot op kind to) }
     {
         let old = self.slot_behind(words, slot, 1)?;
         let right = self.slot_behind(words, slot, 2)?;
@@ -444,7 +444,7 @@ impl Ground<'_> {
     ) -> Result<(), Memory>
         ensures does { (deeds : List Deed) → Stands (setting_of self.now) words.old → AreDeeds words.old.terms ops.old.items deeds
             → IfOk result (λ u. Does words.old words.new ops.new.items (deeds ++ m.stores (setting_of self.now) slot object (m.updated_value (setting_of self.now) slot op kind to))) }
-        ensures made { IfOk result (λ u. (words.new, ops.new.items) ≡ made.update (setting_of self.now) words.old ops.old.items slot op kind to object) }
+        ensures made { IfOk result (λ u. (words.new, ops.new.items) ≡ made.update (site_of (setting_of self.now)) words.old ops.old.items slot op kind to object) }
     {
         let new = self.updated(words, slot, op, kind, to)?;
         self.store_value(words, slot, object, new, ops)
@@ -462,7 +462,7 @@ impl Ground<'_> {
     ) -> Result<(), Memory>
         ensures does { (deeds : List Deed) → Stands (setting_of self.now) words.old → AreDeeds words.old.terms ops.old.items deeds
             → IfOk result (λ u. Does words.old words.new ops.new.items (deeds ++ m.step_of (setting_of self.now) slot object by kind)) }
-        ensures made { IfOk result (λ u. (words.new, ops.new.items) ≡ made.step (setting_of self.now) words.old ops.old.items slot by kind object) }
+        ensures made { IfOk result (λ u. (words.new, ops.new.items) ≡ made.step (site_of (setting_of self.now)) words.old ops.old.items slot by kind object) }
     {
         let index = self.slot(words, slot)?;
         let old = self.element(words, object, index)?;
@@ -482,7 +482,7 @@ impl Ground<'_> {
     ) -> Result<(), Memory>
         ensures does { (deeds : List Deed) → Stands (setting_of self.now) words.old → AreDeeds words.old.terms ops.old.items deeds
             → IfOk result (λ u. Does words.old words.new ops.new.items (deeds ++ m.changes (setting_of self.now) slot is_before by kind object)) }
-        ensures made { IfOk result (λ u. (words.new, ops.new.items) ≡ made.change (setting_of self.now) words.old ops.old.items slot is_before by kind object) }
+        ensures made { IfOk result (λ u. (words.new, ops.new.items) ≡ made.change (site_of (setting_of self.now)) words.old ops.old.items slot is_before by kind object) }
     {
         if is_before {
             self.change_before(words, slot, by, kind, object, ops)
@@ -503,7 +503,7 @@ impl Ground<'_> {
     ) -> Result<(), Memory>
         ensures does { (deeds : List Deed) → Stands (setting_of self.now) words.old → AreDeeds words.old.terms ops.old.items deeds
             → IfOk result (λ u. Does words.old words.new ops.new.items (deeds ++ m.changes (setting_of self.now) slot true by kind object)) }
-        ensures made { IfOk result (λ u. (words.new, ops.new.items) ≡ made.change_before (setting_of self.now) words.old ops.old.items slot by kind object) }
+        ensures made { IfOk result (λ u. (words.new, ops.new.items) ≡ made.change_before (site_of (setting_of self.now)) words.old ops.old.items slot by kind object) }
     {
         self.step(words, slot, by, kind, object, ops)?;
         self.load(words, slot, slot, object, ops)
@@ -521,7 +521,7 @@ impl Ground<'_> {
     ) -> Result<(), Memory>
         ensures does { (deeds : List Deed) → Stands (setting_of self.now) words.old → AreDeeds words.old.terms ops.old.items deeds
             → IfOk result (λ u. Does words.old words.new ops.new.items (deeds ++ m.changes (setting_of self.now) slot false by kind object)) }
-        ensures made { IfOk result (λ u. (words.new, ops.new.items) ≡ made.change_behind (setting_of self.now) words.old ops.old.items slot by kind object) }
+        ensures made { IfOk result (λ u. (words.new, ops.new.items) ≡ made.change_behind (site_of (setting_of self.now)) words.old ops.old.items slot by kind object) }
     {
         match self.layout.slot(slot) {
             None => self.step(words, slot, by, kind, object, ops),
@@ -542,7 +542,7 @@ impl Ground<'_> {
     ) -> Result<(), Memory>
         ensures does { (deeds : List Deed) → Stands (setting_of self.now) words.old → IsWide words.old.terms.cells cell 64 → AreDeeds words.old.terms ops.old.items deeds
             → IfOk result (λ u. Does words.old words.new ops.new.items (deeds ++ m.step_behind (setting_of self.now) slot object by kind (Some cell))) }
-        ensures made { IfOk result (λ u. (words.new, ops.new.items) ≡ made.step_behind (setting_of self.now) words.old ops.old.items slot cell by kind object) }
+        ensures made { IfOk result (λ u. (words.new, ops.new.items) ≡ made.step_behind (site_of (setting_of self.now)) words.old ops.old.items slot cell by kind object) }
     {
         let index = self.slot(words, slot)?;
         let old = self.element(words, object, index)?;
@@ -581,7 +581,7 @@ impl Ground<'_> {
             → IfOk result (λ t. Does words.old words.new ops.new.items (deeds ++ m.kept_deeds (m.kept_cell (setting_of self.now) object) f)) }
         ensures kept { (f : List ℕ → ℕ) (store : List ℕ) → Stands (setting_of self.now) words.old → Tells words.old.terms index 64 f
             → IfOk result (λ t. Shows words.new.terms store t 64 (m.kept_value (m.kept_cell (setting_of self.now) object) f store)) }
-        ensures made { IfOk result (λ t. (words.new, ops.new.items, t) ≡ made.keep (setting_of self.now) words.old ops.old.items object index) }
+        ensures made { IfOk result (λ t. (words.new, ops.new.items, t) ≡ made.keep (site_of (setting_of self.now)) words.old ops.old.items object index) }
     {
         match self.kept_cell(object) {
             None => Ok(index),
@@ -601,7 +601,7 @@ impl Ground<'_> {
     ) -> Result<(), Memory>
         ensures does { (deeds : List Deed) → Stands (setting_of self.now) words.old → AreDeeds words.old.terms ops.old.items deeds
             → IfOk result (λ u. Does words.old words.new ops.new.items (deeds ++ m.draws_to (setting_of self.now) slot kind (drawn_cell (setting_of self.now).lay (int.width_of kind self.now.model)))) }
-        ensures made { IfOk result (λ u. (words.new, ops.new.items) ≡ made.draw (setting_of self.now) words.old ops.old.items slot kind) }
+        ensures made { IfOk result (λ u. (words.new, ops.new.items) ≡ made.draw (site_of (setting_of self.now)) words.old ops.old.items slot kind) }
     {
         match self.layout.drawn(width(kind, self.model)) {
             None => Ok(()),
@@ -620,7 +620,7 @@ impl Ground<'_> {
     ) -> Result<(), Memory>
         ensures does { (deeds : List Deed) → Stands (setting_of self.now) words.old → IsWide words.old.terms.cells cell (int.width_of kind self.now.model) → AreDeeds words.old.terms ops.old.items deeds
             → IfOk result (λ u. Does words.old words.new ops.new.items (deeds ++ m.draws_to (setting_of self.now) slot kind (Some cell))) }
-        ensures made { IfOk result (λ u. (words.new, ops.new.items) ≡ made.draw_in (setting_of self.now) words.old ops.old.items slot kind cell) }
+        ensures made { IfOk result (λ u. (words.new, ops.new.items) ≡ made.draw_in (site_of (setting_of self.now)) words.old ops.old.items slot kind cell) }
     {
         ops.push(Operation::Draw(cell, is_signed(kind)))?;
         let bits = words.cell(cell)?;
@@ -638,7 +638,7 @@ impl Ground<'_> {
     ) -> Result<(), Memory>
         ensures does { (deeds : List Deed) → Stands (setting_of self.now) words.old → AreDeeds words.old.terms ops.old.items deeds
             → IfOk result (λ u. Does words.old words.new ops.new.items (deeds ++ m.draws_in (room_of (setting_of self.now) object) kind count)) }
-        ensures made { IfOk result (λ u. (words.new, ops.new.items) ≡ made.draw_all (setting_of self.now) words.old ops.old.items object kind count) }
+        ensures made { IfOk result (λ u. (words.new, ops.new.items) ≡ made.draw_all (site_of (setting_of self.now)) words.old ops.old.items object kind count) }
     {
         match self.room(object) {
             None => Ok(()),
@@ -657,7 +657,7 @@ impl Ground<'_> {
     ) -> Result<(), Memory>
         ensures does { (deeds : List Deed) → Stands (setting_of self.now) words.old → AreDeeds words.old.terms ops.old.items deeds
             → IfOk result (λ u. Does words.old words.new ops.new.items (deeds ++ m.begins_in (setting_of self.now) (room_of (setting_of self.now) object) slot count values)) }
-        ensures made { IfOk result (λ u. (words.new, ops.new.items) ≡ made.begin (setting_of self.now) words.old ops.old.items slot object count values) }
+        ensures made { IfOk result (λ u. (words.new, ops.new.items) ≡ made.begin (site_of (setting_of self.now)) words.old ops.old.items slot object count values) }
     {
         match self.room(object) {
             None => Ok(()),
@@ -678,7 +678,7 @@ impl Ground<'_> {
         ensures does { (deeds : List Deed) → Stands (setting_of self.now) words.old → IsRoom self.now.model room words.old.terms.cells → count ≤ room.length
             → AreDeeds words.old.terms ops.old.items deeds
             → IfOk result (λ u. Does words.old words.new ops.new.items (deeds ++ m.begins_first (setting_of self.now) room slot values count)) }
-        ensures made { IfOk result (λ u. (words.new, ops.new.items) ≡ made.begin_first (setting_of self.now) words.old ops.old.items slot room count values) }
+        ensures made { IfOk result (λ u. (words.new, ops.new.items) ≡ made.begin_first (site_of (setting_of self.now)) words.old ops.old.items slot room count values) }
     {
         for element in 0..count {
             let value = self.begun(words, slot, values, element)?;
@@ -697,7 +697,7 @@ impl Ground<'_> {
     ) -> Result<TermId, Memory>
         ensures shows { (store : List ℕ) → Stands (setting_of self.now) words.old
             → IfOk result (λ t. Puts words.old words.new store t 64 (m.begun (setting_of self.now) slot values element store)) }
-        ensures made { IfOk result (λ t. (words.new, t) ≡ made.begun (setting_of self.now) words.old slot values element) }
+        ensures made { IfOk result (λ t. (words.new, t) ≡ made.begun (site_of (setting_of self.now)) words.old slot values element) }
     {
         if (element as usize) < values {
             self.slot_behind(words, slot, element as usize)
@@ -715,7 +715,7 @@ impl Ground<'_> {
     ) -> Result<(), Memory>
         ensures does { (deeds : List Deed) → Stands (setting_of self.now) words.old → AreDeeds words.old.terms ops.old.items deeds
             → IfOk result (λ u. Does words.old words.new ops.new.items (deeds ++ m.binds_in (setting_of self.now) (room_of (setting_of self.now) object) slot)) }
-        ensures made { IfOk result (λ u. (words.new, ops.new.items) ≡ made.bind (setting_of self.now) words.old ops.old.items slot object) }
+        ensures made { IfOk result (λ u. (words.new, ops.new.items) ≡ made.bind (site_of (setting_of self.now)) words.old ops.old.items slot object) }
     {
         match self.room(object) {
             None => Ok(()),

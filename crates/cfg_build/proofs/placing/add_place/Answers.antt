@@ -4,7 +4,7 @@ use Rattle.std.proofs.lemmas.Int.{to_z-of_z}
 use mir.Val.{SFits}
 use Rattle.lv_base.specs.Integers.{residue}
 use Rattle.bv_term.specs.Numbers.{truth}
-use Rattle.code_moves.specs.Setting.{setting_of}
+use Rattle.code_moves.specs.Setting.{setting_of, site_of}
 use Rattle.code_moves.specs.Values.{slot_value}
 use Rattle.cfg_build.specs.Steps.{Built, Fork}
 use Rattle.cfg_build.specs.Follows.{plan_of, node_of}
@@ -69,7 +69,7 @@ returns-in_ok-add_skip_zero-in-SkipZero-clause-made c = λ t.
     let next = c.node_of-next.ensures ∙ ap (node_of p) c.in_ok-following.ensures in
     let to = c.node_of-to.ensures ∙ ap (node_of p) (c.in_ok-behind-in-SkipZero.ensures ∙ ap (λ (n : ℕ). n + c.in-SkipZero.skip) c.in_ok-following.ensures) in
     rw c.in-SkipZero.is
-    (c.in_ok-add_skip_zero-in-SkipZero.ensures.made ∙ two (made.add_skip_zero (setting_of c.args.ground.now) (drawn_of c.args.words.now c.args.draft.now) c.in-SkipZero.slot) next to)
+    (c.in_ok-add_skip_zero-in-SkipZero.ensures.made ∙ two (made.add_skip_zero (site_of (setting_of c.args.ground.now)) (drawn_of c.args.words.now c.args.draft.now) c.in-SkipZero.slot) next to)
 
 pub returns-in_ok-add_skip_equal-in-SkipEqual-clause-made : goal.returns-in_ok-add_skip_equal-in-SkipEqual-clause-made
 returns-in_ok-add_skip_equal-in-SkipEqual-clause-made c = λ t.
@@ -79,7 +79,7 @@ returns-in_ok-add_skip_equal-in-SkipEqual-clause-made c = λ t.
     let to = c.node_of-to-in-SkipEqual.ensures ∙ ap (node_of p) (c.in_ok-behind-in-SkipEqual.ensures ∙ ap (λ (n : ℕ). n + c.in-SkipEqual.skip) c.in_ok-following.ensures) in
     rw c.in-SkipEqual.is
     (c.in_ok-add_skip_equal-in-SkipEqual.ensures.made
-    ∙ three (made.add_skip_equal (setting_of c.args.ground.now) (drawn_of c.args.words.now c.args.draft.now) c.in-SkipEqual.slot) (to_z-of_z w128 c.in-SkipEqual.value f) next to)
+    ∙ three (made.add_skip_equal (site_of (setting_of c.args.ground.now)) (drawn_of c.args.words.now c.args.draft.now) c.in-SkipEqual.slot) (to_z-of_z w128 c.in-SkipEqual.value f) next to)
 
 pub returns-in_ok-add_moves-in_default : goal.returns-in_ok-add_moves-in_default
 returns-in_ok-add_moves-in_default c =
@@ -96,5 +96,5 @@ returns-in_ok-add_moves-in_default c =
           (k.0, place-checked _ _ p g _ c.args.place x c.node_of-next.result other next k.1)
           );
       whole = λ k. refl;
-      made = λ t. c.in_ok-add_moves-in_default.ensures.made ∙ ap (made.add_moves g d x) next ∙ other-drawn p c.args.places.now.whole.owners.now g d c.args.place x other;
+      made = λ t. c.in_ok-add_moves-in_default.ensures.made ∙ ap (made.add_moves (site_of g) d x) next ∙ other-drawn p c.args.places.now.whole.owners.now (site_of g) d c.args.place x other;
     }

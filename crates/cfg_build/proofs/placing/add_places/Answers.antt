@@ -2,7 +2,7 @@ use Rattle.std.proofs.Common.{◌≡◌, suc, ◌+◌, ◌-◌, ◌<◌, ◌∙�
 use Rattle.std.specs.Prelude.{IsTrue}
 use Rattle.c_terms.proofs.Putting.{grows-none}
 use Rattle.c_terms.proofs.Choosing.{two}
-use Rattle.code_moves.specs.Setting.{setting_of}
+use Rattle.code_moves.specs.Setting.{setting_of, site_of}
 use Rattle.code_moves.proofs.Standing.{stand-later}
 use Rattle.cfg_build.specs.Follows.{plan_of, FirstFollow}
 use Rattle.cfg_build.specs.Steps.{next_of}
@@ -31,8 +31,8 @@ loop-number-preserved c =
           let b = c.loop-number.invariant.0 h in
           place-more _ _ _ _ _ _ p g n _ _ b (c.in_ok-add_next.ensures.built (stand-later _ _ _ b.0 h) t) c.in_ok-place.ensures f
           ),
-      c.in_ok-add_next.ensures.made t ∙ two (made.add_next p owners g) c.loop-number.invariant.1 c.in_ok-place.ensures
-          ∙ ap (made.add_first p owners g (drawn_of c.args.words.now c.args.draft.now)) f,
+      c.in_ok-add_next.ensures.made t ∙ two (made.add_next p owners (site_of g)) c.loop-number.invariant.1 c.in_ok-place.ensures
+          ∙ ap (made.add_first p owners (site_of g) (drawn_of c.args.words.now c.args.draft.now)) f,
     )
 
 pub returns-clause-built : goal.returns-clause-built
@@ -44,7 +44,7 @@ pub returns-clause-made : goal.returns-clause-made
 returns-clause-made c =
     let p = plan_of c.args.places.now in
     let owners = c.args.places.now.whole.owners.now in
-    let g = setting_of c.args.ground.now in
+    let g = site_of (setting_of c.args.ground.now) in
     let e : c.loop-number.number ≡ c.args.places.now.range.end - c.args.places.now.range.entry = omega (arith, c.saturating_sub-count.ensures) in
     still _ _ _ _ (c.add_exit.ensures.made c.loop-number.words)
     (ap made.add_exit (c.loop-number.invariant.1 ∙ ap (made.add_first p owners g (drawn_of c.args.words.now c.args.draft.now)) e))

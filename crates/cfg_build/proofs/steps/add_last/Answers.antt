@@ -1,6 +1,6 @@
 use Rattle.std.proofs.Common.{sym, ap, ◌∙◌, ◌∷◌, [], ◌++◌, List, subst}
 use Rattle.c_graph.specs.declared.graph.Operation.{Operation}
-use Rattle.code_moves.specs.Setting.{setting_of}
+use Rattle.code_moves.specs.Setting.{setting_of, site_of}
 use Rattle.code_moves.specs.Deeds.{AreDeeds}
 use Rattle.cfg_build.specs.Steps.{edge}
 use Rattle.cfg_build.proofs.Adding.{edges-equal}
@@ -20,5 +20,5 @@ returns-clause-goes c = λ h.
 
 pub returns-clause-made : goal.returns-clause-made
 returns-clause-made c =
-    last-drawn (setting_of c.args.ground.now) c.args.words.now _ _ _ c.args.instruction _ _ c.args.first.items _ _ _ c.new-moves.ensures.items c.in_ok-moves.ensures.made
+    last-drawn (site_of (setting_of c.args.ground.now)) c.args.words.now _ _ _ c.args.instruction _ _ c.args.first.items _ _ _ c.new-moves.ensures.items c.in_ok-moves.ensures.made
     (c.in_ok-extend_from_slice.ensures.items ∙ ap (λ (ops : List Operation). c.args.first.items ++ ops) c.deref.ensures.value) c.in_ok-edge.ensures

@@ -1,6 +1,6 @@
 use Rattle.std.proofs.Common.{[], List, ℕ, ◌∙◌}
 use Rattle.c_terms.specs.declared.failing.Tests.TheVariants.{None, One, Two}
-use Rattle.code_moves.specs.Setting.{setting_of}
+use Rattle.code_moves.specs.Setting.{setting_of, site_of}
 use Rattle.code_moves.specs.Values.{failures_of}
 use Rattle.code_moves.proofs.Standing.{stand-later}
 use Rattle.cfg_build.proofs.Checking.{first_when, second_when, one-tells, two-tells, tests-are, checked-behind, unchecked}
@@ -35,12 +35,12 @@ returns-in-Two-clause-built c = λ h.
 pub returns-in_ok-from-in-None-clause-made : goal.returns-in_ok-from-in-None-clause-made
 returns-in_ok-from-in-None-clause-made c =
     so _ _ _ _ c.add_last.ensures.made (
-    unchecked-drawn (setting_of c.args.ground.now) c.checks.new.words c.args.draft.now c.node.new.self c.args.instruction _ c.args.next _ c.in_ok-from-in-None.ensures.number c.new-ops.ensures.items c.in_ok-from-in-None.ensures.adds
-    ∙ tested-drawn (setting_of c.args.ground.now) c.args.words.now c.checks.new.words c.args.draft.now c.args.instruction c.args.next c.in_ok-tests.tests None c.in-None.is c.in_ok-tests.ensures.made
+    unchecked-drawn (site_of (setting_of c.args.ground.now)) c.checks.new.words c.args.draft.now c.node.new.self c.args.instruction _ c.args.next _ c.in_ok-from-in-None.ensures.number c.new-ops.ensures.items c.in_ok-from-in-None.ensures.adds
+    ∙ tested-drawn (site_of (setting_of c.args.ground.now)) c.args.words.now c.checks.new.words c.args.draft.now c.args.instruction c.args.next c.in_ok-tests.tests None c.in-None.is c.in_ok-tests.ensures.made
     )
 
 pub returns-in-One-clause-made : goal.returns-in-One-clause-made
-returns-in-One-clause-made c = so _ _ _ _ c.checked_once.ensures.made (tested-drawn (setting_of c.args.ground.now) c.args.words.now c.checks.new.words c.args.draft.now c.args.instruction c.args.next c.in_ok-tests.tests (One c.in-One.fails) c.in-One.is c.in_ok-tests.ensures.made)
+returns-in-One-clause-made c = so _ _ _ _ c.checked_once.ensures.made (tested-drawn (site_of (setting_of c.args.ground.now)) c.args.words.now c.checks.new.words c.args.draft.now c.args.instruction c.args.next c.in_ok-tests.tests (One c.in-One.fails) c.in-One.is c.in_ok-tests.ensures.made)
 
 pub returns-in-Two-clause-made : goal.returns-in-Two-clause-made
-returns-in-Two-clause-made c = so _ _ _ _ c.checked_twice.ensures.made (tested-drawn (setting_of c.args.ground.now) c.args.words.now c.checks.new.words c.args.draft.now c.args.instruction c.args.next c.in_ok-tests.tests (Two c.in-Two.first c.in-Two.second) c.in-Two.is c.in_ok-tests.ensures.made)
+returns-in-Two-clause-made c = so _ _ _ _ c.checked_twice.ensures.made (tested-drawn (site_of (setting_of c.args.ground.now)) c.args.words.now c.checks.new.words c.args.draft.now c.args.instruction c.args.next c.in_ok-tests.tests (Two c.in-Two.first c.in-Two.second) c.in-Two.is c.in_ok-tests.ensures.made)

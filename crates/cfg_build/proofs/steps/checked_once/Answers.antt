@@ -2,7 +2,7 @@ use Rattle.std.proofs.Common.{refl, ap, ◌∙◌, ◌∷◌, [], ◌++◌, List
 use Rattle.c_graph.specs.declared.graph.Operation.{Operation}
 use Rattle.c_graph.specs.declared.graph.Operation.TheVariants.{Assume}
 use Rattle.c_terms.proofs.Putting.{grows-twice}
-use Rattle.code_moves.specs.Setting.{setting_of}
+use Rattle.code_moves.specs.Setting.{setting_of, site_of}
 use Rattle.code_moves.proofs.Standing.{stand-later}
 use Rattle.code_moves.proofs.Doing.{tells-later}
 use Rattle.cfg_build.proofs.Adding.{turned-later, once}
@@ -34,5 +34,5 @@ returns-clause-built c = λ f h t.
 
 pub returns-clause-made : goal.returns-clause-made
 returns-clause-made c =
-    once-drawn (setting_of c.args.ground.now) c.args.words.now c.add_check.new.words _ c.args.draft.now c.node.new.self c.add_check.new.draft c.add_last.new.draft c.args.instruction c.in_ok-from.from c.args.next c.args.fails _ c.in_ok-passed.passed _ _ c.in_ok-from.ensures.number c.offset_of.ensures c.new-ops.ensures.items c.in_ok-push.ensures.items
+    once-drawn (site_of (setting_of c.args.ground.now)) c.args.words.now c.add_check.new.words _ c.args.draft.now c.node.new.self c.add_check.new.draft c.add_last.new.draft c.args.instruction c.in_ok-from.from c.args.next c.args.fails _ c.in_ok-passed.passed _ _ c.in_ok-from.ensures.number c.offset_of.ensures c.new-ops.ensures.items c.in_ok-push.ensures.items
     c.in_ok-from.ensures.adds c.in_ok-passed.ensures.made c.in_ok-add_last.ensures.made

@@ -1,6 +1,6 @@
 use Rattle.std.proofs.Common.{ap, ◌∙◌, ◌++◌, Option, Ok, ℕ, arith}
 use Rattle.code_moves.specs.declared.ground.Room.{Room}
-use Rattle.code_moves.specs.Setting.{setting_of}
+use Rattle.code_moves.specs.Setting.{setting_of, site_of}
 use Rattle.code_moves.specs.Moves.{begins_in, begins_first}
 use Rattle.code_moves.proofs.Standing.{room-stands}
 use Rattle.code_moves.proofs.Doing.{does-none, does-equal}
@@ -22,11 +22,11 @@ returns-in-Some-clause-does c = λ ds h d.
     (c.begin_first.ensures.does ds h (room-stands _ _ c.args.object _ h c.in-Some.ensures) (omega (arith, c.count_in.ensures)) d)
 
 pub returns-in-None-clause-made : goal.returns-in-None-clause-made
-returns-in-None-clause-made c = ap (λ (o : Option Room). made.begin_in (setting_of c.args.self.now) c.args.words.now c.args.ops.now.items c.args.slot o c.args.count c.args.values) c.in-None.ensures
+returns-in-None-clause-made c = ap (λ (o : Option Room). made.begin_in (site_of (setting_of c.args.self.now)) c.args.words.now c.args.ops.now.items c.args.slot o c.args.count c.args.values) c.in-None.ensures
 
 pub returns-in-Some-clause-made : goal.returns-in-Some-clause-made
 returns-in-Some-clause-made c =
-    let g = setting_of c.args.self.now in
+    let g = site_of (setting_of c.args.self.now) in
     let w = c.args.words.now in
     let ops = c.args.ops.now.items in
     so _ _ _ _ c.begin_first.ensures.made (

@@ -5,7 +5,7 @@ use Rattle.code_moves.proofs.Doing.{deeds-later, filled}
 use Rattle.c_terms.proofs.Choosing.{two}
 use Rattle.c_terms.specs.declared.words.Words.{Words}
 use Rattle.bv_term.specs.declared.term.TermId.{TermId}
-use Rattle.code_moves.specs.Setting.{setting_of}
+use Rattle.code_moves.specs.Setting.{setting_of, site_of}
 use Rattle.code_moves.proofs.Making.{then-filled}
 use Rattle.code_moves.specs.Made as made
 use Rattle.code_moves.proofs.ground.Ground.binary.Goals as goal
@@ -20,7 +20,7 @@ returns-clause-does c = λ ds h d.
 
 pub returns-clause-made : goal.returns-clause-made
 returns-clause-made c =
-    let g = setting_of c.args.self.now in
+    let g = site_of (setting_of c.args.self.now) in
     let e = c.in_ok-left.ensures.made in
     let f = c.in_ok-right.ensures.made ∙ ap (λ (p : Words × TermId). made.slot_behind g p.0 c.args.slot 1) e in
     let h = c.in_ok-value.ensures.made ∙ two (λ (p q : Words × TermId). made.applied g q.0 c.args.op c.args.kind p.1 q.1) e f in

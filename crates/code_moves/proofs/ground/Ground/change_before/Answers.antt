@@ -1,5 +1,5 @@
 use Rattle.std.proofs.Common.{◌++◌, List, ap}
-use Rattle.code_moves.specs.Setting.{setting_of}
+use Rattle.code_moves.specs.Setting.{setting_of, site_of}
 use Rattle.code_moves.specs.Moves.{step_of, fills, old_value}
 use Rattle.code_moves.proofs.Standing.{stand-later}
 use Rattle.code_moves.proofs.Doing.{then-does, regrouped}
@@ -18,4 +18,4 @@ returns-clause-does c = λ ds h d.
     (then-does _ _ _ _ _ _ z.grows (c.load.ensures.does (ds ++ before) (stand-later _ _ _ z.grows h) z.does))
 
 pub returns-clause-made : goal.returns-clause-made
-returns-clause-made c = so _ _ _ _ c.load.ensures.made (ap (λ (p : Words × List Operation). made.load (setting_of c.args.self.now) p.0 p.1 c.args.slot c.args.slot c.args.object) c.in_ok-step.ensures.made)
+returns-clause-made c = so _ _ _ _ c.load.ensures.made (ap (λ (p : Words × List Operation). made.load (site_of (setting_of c.args.self.now)) p.0 p.1 c.args.slot c.args.slot c.args.object) c.in_ok-step.ensures.made)

@@ -4,7 +4,7 @@ use Rattle.code_moves.proofs.Standing.{stand-later}
 use Rattle.code_moves.proofs.Doing.{deeds-later, filled}
 use Rattle.c_terms.specs.declared.words.Words.{Words}
 use Rattle.bv_term.specs.declared.term.TermId.{TermId}
-use Rattle.code_moves.specs.Setting.{setting_of}
+use Rattle.code_moves.specs.Setting.{setting_of, site_of}
 use Rattle.code_moves.proofs.Making.{then-filled}
 use Rattle.c_terms.specs.Made as term
 use Rattle.code_moves.proofs.ground.Ground.complement.Goals as goal
@@ -19,4 +19,4 @@ returns-clause-does c = λ ds h d.
 pub returns-clause-made : goal.returns-clause-made
 returns-clause-made c =
     let e = c.in_ok-value.ensures.made ∙ ap (λ (p : Words × TermId). term.complement p.0 c.args.kind c.args.self.now.model p.1) c.in_ok-operand.ensures.made in
-    then-filled _ (setting_of c.args.self.now) _ _ _ c.args.ops.now.items c.args.slot _ c.fill.ensures.made e
+    then-filled _ (site_of (setting_of c.args.self.now)) _ _ _ c.args.ops.now.items c.args.slot _ c.fill.ensures.made e

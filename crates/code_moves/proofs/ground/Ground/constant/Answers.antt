@@ -2,7 +2,7 @@ use Rattle.std.proofs.Common.{ap, [], ◌++◌, ℕ, List, ℤ, ◌∙◌}
 use Rattle.std.specs.Int.{w128}
 use Rattle.std.proofs.lemmas.Int.{to_z-of_z}
 use Rattle.lv_base.specs.Integers.{residue}
-use Rattle.code_moves.specs.Setting.{setting_of}
+use Rattle.code_moves.specs.Setting.{setting_of, site_of}
 use Rattle.code_moves.specs.Moves.{fills}
 use Rattle.code_moves.proofs.Standing.{stand-later}
 use Rattle.code_moves.proofs.Doing.{deeds-later, filled, does-equal}
@@ -17,4 +17,4 @@ returns-clause-does c = λ ds h d.
     (filled _ _ _ _ _ (z []).grows (c.fill.ensures.does _ ds _ (stand-later _ _ _ (z []).grows h) (deeds-later _ _ _ ds (z []).grows d) (λ s. (z s).shows)))
 
 pub returns-clause-made : goal.returns-clause-made
-returns-clause-made c = then-filled _ (setting_of c.args.self.now) _ _ _ c.args.ops.now.items c.args.slot _ c.fill.ensures.made (c.in_ok-value.ensures.made ∙ ap (term.constant c.args.words.now) (to_z-of_z w128 c.args.value c.ranges.value))
+returns-clause-made c = then-filled _ (site_of (setting_of c.args.self.now)) _ _ _ c.args.ops.now.items c.args.slot _ c.fill.ensures.made (c.in_ok-value.ensures.made ∙ ap (term.constant c.args.words.now) (to_z-of_z w128 c.args.value c.ranges.value))

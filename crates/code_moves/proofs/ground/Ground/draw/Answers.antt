@@ -1,6 +1,6 @@
 use Rattle.std.proofs.Common.{sym, ap, ◌∙◌, ◌++◌, Option, Ok, ℕ}
 use Rattle.code_layout.specs.Layout.{drawn_cell}
-use Rattle.code_moves.specs.Setting.{setting_of}
+use Rattle.code_moves.specs.Setting.{setting_of, site_of}
 use Rattle.code_moves.specs.Moves.{draws_to}
 use Rattle.code_moves.proofs.Doing.{does-none, does-equal}
 use Rattle.code_moves.proofs.Making.{so}
@@ -21,10 +21,10 @@ returns-in-Some-clause-does c = λ ds h d.
 
 pub returns-in-None-clause-made : goal.returns-in-None-clause-made
 returns-in-None-clause-made c =
-    let g = setting_of c.args.self.now in
+    let g = site_of (setting_of c.args.self.now) in
     ap (made.draw_to g c.args.words.now c.args.ops.now.items c.args.slot c.args.kind) (c.in-None.ensures ∙ ap (drawn_cell g.lay) c.width.ensures.width)
 
 pub returns-in-Some-clause-made : goal.returns-in-Some-clause-made
 returns-in-Some-clause-made c =
-    let g = setting_of c.args.self.now in
+    let g = site_of (setting_of c.args.self.now) in
     so _ _ _ _ c.draw_in.ensures.made (ap (made.draw_to g c.args.words.now c.args.ops.now.items c.args.slot c.args.kind) (c.in-Some.ensures ∙ ap (drawn_cell g.lay) c.width.ensures.width))

@@ -1,7 +1,7 @@
 use Rattle.std.proofs.Common.{refl, ◌++◌, ◌∷◌, [], ℕ, List, slice_index, Bool, ap, ◌∙◌}
 use Rattle.c_terms.specs.Numbers.{widened}
 use Rattle.c_terms.proofs.Putting.{grows-twice}
-use Rattle.code_moves.specs.Setting.{setting_of}
+use Rattle.code_moves.specs.Setting.{setting_of, site_of}
 use Rattle.lv_base.specs.Integers.{is_signed}
 use Rattle.code_moves.specs.Deeds.{Deed, Draws}
 use Rattle.code_moves.specs.Moves.{fills}
@@ -29,7 +29,7 @@ returns-clause-does c = λ ds h wide d.
 
 pub returns-clause-made : goal.returns-clause-made
 returns-clause-made c =
-    let g = setting_of c.args.self.now in
+    let g = site_of (setting_of c.args.self.now) in
     let before = c.args.ops.now.items in
     let e = c.in_ok-value.ensures.made ∙ ap (λ (p : Words × TermId). term.widen p.0 c.args.kind g.model p.1) c.in_ok-bits.ensures.made in
     let o = c.in_ok-push.ensures.items ∙ ap (λ (b : Bool). before ++ Draw c.args.cell b ∷ []) c.is_signed.ensures in

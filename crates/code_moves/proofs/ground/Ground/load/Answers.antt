@@ -4,7 +4,7 @@ use Rattle.code_moves.proofs.Standing.{stand-later}
 use Rattle.code_moves.proofs.Doing.{deeds-later, filled}
 use Rattle.c_terms.specs.declared.words.Words.{Words}
 use Rattle.bv_term.specs.declared.term.TermId.{TermId}
-use Rattle.code_moves.specs.Setting.{setting_of}
+use Rattle.code_moves.specs.Setting.{setting_of, site_of}
 use Rattle.code_moves.proofs.Making.{then-filled}
 use Rattle.code_moves.specs.Made as made
 use Rattle.code_moves.proofs.ground.Ground.load.Goals as goal
@@ -18,5 +18,5 @@ returns-clause-does c = λ ds h d.
 
 pub returns-clause-made : goal.returns-clause-made
 returns-clause-made c =
-    let e = c.in_ok-value.ensures.made ∙ ap (λ (p : Words × TermId). made.element (setting_of c.args.self.now) p.0 c.args.object p.1) c.in_ok-index.ensures.made in
-    then-filled _ (setting_of c.args.self.now) _ _ _ c.args.ops.now.items c.args.to _ c.fill.ensures.made e
+    let e = c.in_ok-value.ensures.made ∙ ap (λ (p : Words × TermId). made.element (site_of (setting_of c.args.self.now)) p.0 c.args.object p.1) c.in_ok-index.ensures.made in
+    then-filled _ (site_of (setting_of c.args.self.now)) _ _ _ c.args.ops.now.items c.args.to _ c.fill.ensures.made e

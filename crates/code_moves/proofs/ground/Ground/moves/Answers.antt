@@ -3,7 +3,7 @@ use Rattle.std.specs.Int.{w128}
 use Rattle.std.proofs.lemmas.Int.{to_z-of_z}
 use mir.Val.{SFits}
 use Rattle.lv_base.specs.Integers.{residue}
-use Rattle.code_moves.specs.Setting.{setting_of}
+use Rattle.code_moves.specs.Setting.{setting_of, site_of}
 use Rattle.code_moves.specs.Moves.{fills}
 use Rattle.code_moves.proofs.Doing.{does-none, does-equal}
 use Rattle.code_moves.proofs.Making.{so}
@@ -97,7 +97,7 @@ returns-in-Stop-clause-does c = λ ds h d. rw c.in-Stop.is (does-none _ _ ds d)
 pub returns-in-Constant-clause-made : goal.returns-in-Constant-clause-made
 returns-in-Constant-clause-made c =
     let f : SFits w128 c.in-Constant.value = search rules in
-    rw c.in-Constant.is (so _ _ _ _ c.constant.ensures.made (ap (made.constant (setting_of c.args.self.now) c.args.words.now c.args.ops.now.items c.in-Constant.slot) (to_z-of_z w128 c.in-Constant.value f)))
+    rw c.in-Constant.is (so _ _ _ _ c.constant.ensures.made (ap (made.constant (site_of (setting_of c.args.self.now)) c.args.words.now c.args.ops.now.items c.in-Constant.slot) (to_z-of_z w128 c.in-Constant.value f)))
 
 pub returns-in-Read-clause-made : goal.returns-in-Read-clause-made
 returns-in-Read-clause-made c = rw c.in-Read.is c.read.ensures.made

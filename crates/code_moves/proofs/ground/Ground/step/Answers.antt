@@ -5,7 +5,7 @@ use Rattle.code_moves.proofs.Doing.{deeds-later, then-does}
 use Rattle.c_terms.proofs.Choosing.{two}
 use Rattle.c_terms.specs.declared.words.Words.{Words}
 use Rattle.bv_term.specs.declared.term.TermId.{TermId}
-use Rattle.code_moves.specs.Setting.{setting_of}
+use Rattle.code_moves.specs.Setting.{setting_of, site_of}
 use Rattle.code_moves.proofs.Making.{so}
 use Rattle.code_moves.specs.Made as made
 use Rattle.code_moves.proofs.ground.Ground.step.Goals as goal
@@ -21,7 +21,7 @@ returns-clause-does c = λ ds h d.
 
 pub returns-clause-made : goal.returns-clause-made
 returns-clause-made c =
-    let g = setting_of c.args.self.now in
+    let g = site_of (setting_of c.args.self.now) in
     let e = c.in_ok-index.ensures.made in
     let f = c.in_ok-old.ensures.made ∙ ap (λ (p : Words × TermId). made.element g p.0 c.args.object p.1) e in
     let h = c.in_ok-new.ensures.made ∙ ap (λ (p : Words × TermId). made.stepped g p.0 c.args.by c.args.kind p.1) f in

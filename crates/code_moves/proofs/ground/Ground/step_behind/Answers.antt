@@ -1,6 +1,6 @@
 use Rattle.std.proofs.Common.{refl, sym, append_assoc, ◌∙◌, ap, ◌++◌, ◌∷◌, [], ℕ, List, slice_index}
 use Rattle.c_terms.proofs.Putting.{grows-twice, later}
-use Rattle.code_moves.specs.Setting.{setting_of}
+use Rattle.code_moves.specs.Setting.{setting_of, site_of}
 use Rattle.code_moves.specs.Values.{stepped}
 use Rattle.code_moves.specs.Deeds.{Deed, Sets}
 use Rattle.code_moves.specs.Moves.{writes, index_value, old_value, kept_cell, kept_deeds, kept_value}
@@ -43,7 +43,7 @@ returns-clause-does c = λ ds h wide d.
 
 pub returns-clause-made : goal.returns-clause-made
 returns-clause-made c =
-    let g = setting_of c.args.self.now in
+    let g = site_of (setting_of c.args.self.now) in
     let e = c.in_ok-index.ensures.made in
     let f = c.in_ok-old.ensures.made ∙ ap (λ (p : Words × TermId). made.element g p.0 c.args.object p.1) e in
     let k = c.in_ok-kept.ensures.made ∙ two (λ (p q : Words × TermId). made.keep g q.0 c.args.ops.now.items c.args.object p.1) e f in

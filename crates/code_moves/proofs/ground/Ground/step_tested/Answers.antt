@@ -12,7 +12,7 @@ use Rattle.code_moves.proofs.Making.{four}
 use Rattle.c_terms.specs.declared.words.Words.{Words}
 use Rattle.bv_term.specs.declared.term.TermId.{TermId}
 use Rattle.c_terms.proofs.Choosing.{fails, holds, thus}
-use Rattle.code_moves.specs.Setting.{setting_of}
+use Rattle.code_moves.specs.Setting.{setting_of, site_of}
 use Rattle.code_moves.specs.Made as made
 use Rattle.c_terms.specs.Made as term
 use Rattle.code_moves.proofs.ground.Ground.step_tested.Goals as goal
@@ -38,7 +38,7 @@ returns-then-not-is_promoted-clause-made c = fails _ _ _ (sym c.is_promoted.ensu
 
 pub returns-clause-made : goal.returns-clause-made
 returns-clause-made c =
-    let g = setting_of c.args.self.now in
+    let g = site_of (setting_of c.args.self.now) in
     let e = c.in_ok-left.ensures.made ∙ ap (λ (k : Kind). term.converted c.args.words.now k g.model c.args.old) c.promoted-wide.ensures in
     let f = c.in_ok-right.ensures.made ∙ ap (λ (p : Words × TermId). term.constant p.0 (pos 1)) e in
     let h = four (λ (o : BinaryOp) (k : Kind) (p q : Words × TermId). made.tested g q.0 o k p.1 q.1) c.operation_of.ensures c.promoted-wide.ensures e f in

@@ -1,6 +1,6 @@
 use Rattle.std.proofs.Common.{◌+◌, [], ◌++◌, ℕ, List, ap, ◌∙◌}
 use Rattle.c_terms.proofs.Putting.{grows-twice, later}
-use Rattle.code_moves.specs.Setting.{setting_of}
+use Rattle.code_moves.specs.Setting.{setting_of, site_of}
 use Rattle.code_moves.specs.Moves.{writes, fills, index_value}
 use Rattle.code_moves.proofs.Standing.{stand-later}
 use Rattle.code_moves.proofs.Doing.{deeds-later, tells-later, filled, regrouped}
@@ -24,7 +24,7 @@ returns-clause-does c = λ ds h d.
 
 pub returns-clause-made : goal.returns-clause-made
 returns-clause-made c =
-    let g = setting_of c.args.self.now in
+    let g = site_of (setting_of c.args.self.now) in
     let e = c.in_ok-index.ensures.made in
     let f = c.in_ok-value.ensures.made ∙ ap (λ (p : Words × TermId). made.slot_behind g p.0 c.args.slot 1) e in
     let h = c.in_ok-write.ensures.made ∙ two (λ (p q : Words × TermId). made.write g q.0 c.args.ops.now.items c.args.object p.1 q.1) e f in

@@ -1,6 +1,6 @@
 use Rattle.std.proofs.Common.{[], ◌++◌, ℕ, List, ap, refl, ◌∙◌}
 use Rattle.c_terms.proofs.Putting.{grows-twice}
-use Rattle.code_moves.specs.Setting.{setting_of}
+use Rattle.code_moves.specs.Setting.{setting_of, site_of}
 use Rattle.code_moves.specs.Moves.{writes, fills, index_value}
 use Rattle.code_moves.proofs.Standing.{stand-later}
 use Rattle.code_moves.proofs.Doing.{deeds-later, tells-later, filled, regrouped}
@@ -22,6 +22,6 @@ returns-clause-does c = λ ds f h d tv.
 
 pub returns-clause-made : goal.returns-clause-made
 returns-clause-made c =
-    let g = setting_of c.args.self.now in
+    let g = site_of (setting_of c.args.self.now) in
     let h = c.in_ok-write.ensures.made ∙ ap (λ (p : Words × TermId). made.write g p.0 c.args.ops.now.items c.args.object p.1 c.args.value) c.in_ok-index.ensures.made in
     then-fill _ g _ c.args.value c.args.value _ c.write.new.ops.items c.args.slot _ c.fill.ensures.made h refl

@@ -3,7 +3,7 @@ use Rattle.code_moves.proofs.Standing.{stand-later, finds-after}
 use Rattle.c_terms.proofs.Choosing.{thus, two}
 use Rattle.c_terms.specs.declared.words.Words.{Words}
 use Rattle.bv_term.specs.declared.term.TermId.{TermId}
-use Rattle.code_moves.specs.Setting.{setting_of}
+use Rattle.code_moves.specs.Setting.{setting_of, site_of}
 use Rattle.std.proofs.Common.{ap, ◌∙◌}
 use Rattle.code_moves.specs.Made as made
 use Rattle.c_terms.specs.Made as term
@@ -18,7 +18,7 @@ returns-clause-shows c = λ s h.
 
 pub returns-clause-made : goal.returns-clause-made
 returns-clause-made c =
-    let g = setting_of c.args.self.now in
+    let g = site_of (setting_of c.args.self.now) in
     let e = c.in_ok-old.ensures.made in
     let f = c.in_ok-right.ensures.made ∙ ap (λ (p : Words × TermId). made.slot_behind g p.0 c.args.slot 2) e in
     let h = c.in_ok-left.ensures.made ∙ two (λ (p q : Words × TermId). term.converted q.0 c.args.kind g.model p.1) e f in
