@@ -11,7 +11,8 @@
 //! All takes time in proportion to the graph, but for what is read where: that is found in passes over all edges until nothing
 //! changes, and for a graph whose nodes and objects are too many everything counts as read.
 //!
-//! No contract says so: what is proved is that each call returns.
+//! Contracts say which plan a graph has: that of the definitions in `specs/`, which take the same steps over lists. That a plan is any
+//! good, none says: what is built on one is tested.
 #![tactic(auto)]
 
 mod alive;

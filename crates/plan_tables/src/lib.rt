@@ -1,5 +1,5 @@
 //! Tables by number that answer for every number: truths, numbers, counts, the units of cells, and the units that are read from each
-//! node on and by each term. What a look-up answers, its contract says; how the tables are filled, none does.
+//! node on and by each term. Contracts say what each holds, and what a look-up answers.
 #![tactic(auto)]
 
 mod tables;
