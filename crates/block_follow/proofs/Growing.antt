@@ -1,5 +1,5 @@
 -- Lists and graphs that begin with others.
-use Rattle.std.proofs.Common.{Result, Ok, Err, IfOk, Option, Some, None, IfSome, ◌≡◌, ◌≤◌, ◌<◌, ℕ, List, [], ◌∷◌, ◌++◌, length, slice_get, refl, sym, ap, ◌∙◌, suc, arith}
+use Rattle.std.proofs.Common.{Bool, IsTrue, Result, Ok, Err, IfOk, Option, Some, None, IfSome, ◌≡◌, ◌≤◌, ◌<◌, ℕ, List, [], ◌∷◌, ◌++◌, length, slice_get, refl, sym, ap, ◌∙◌, suc, arith}
 use Rattle.bv_term.specs.declared.term.Term.{Term}
 use Rattle.c_graph.specs.declared.graph.Cell.{Cell}
 use Rattle.c_graph.specs.declared.graph.Node.{Node}
@@ -63,3 +63,7 @@ both (Err e) P Q p q = tt
 pub weaken_some : {A : Type 0} → (o : Option A) (P Q : A → Type 0) → ((x : A) → P x → Q x) → IfSome o P → IfSome o Q
 weaken_some None P Q f h = tt
 weaken_some (Some x) P Q f h = f x h
+
+pub always : {E : Type 0} → (r : Result Bool E) (P : Type 0) → P → IfOk r (λ b. IsTrue b → P)
+always (Ok b) P p = λ t. p
+always (Err e) P p = tt

@@ -3,3 +3,4 @@ pub mod Leaving
 pub mod Straight
 pub mod Beginning
 pub mod Same
+mod Deciding

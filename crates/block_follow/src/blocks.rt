@@ -11,6 +11,8 @@ ghost use Rattle.block_edges.specs.Weights.{IsExact};
 ghost use Rattle.walk_states.specs.Known.{plan_of};
 ghost use Rattle.walk_states.specs.Walks.{places_of};
 ghost use Rattle.block_follow.specs.Following.{AreInside, AreOver, Follows, HasBlockOf, IsFirst};
+ghost use Rattle.block_places.specs.Made as places;
+ghost use Rattle.block_follow.specs.Made as made;
 
 use crate::growth::grows;
 use crate::keeping::keeps;
@@ -37,6 +39,7 @@ pub fn follows_rule(
 ) -> Result<bool, Memory>
     ensures blocked { IfOk result (λ b. IsTrue b → IsBlocked old.now new.now (plan_of known.now)) }
     ensures exact { IfOk result (λ b. IsTrue b → IsExact old.now new.now (plan_of known.now)) }
+    ensures made { IfOk result (λ b. b ≡ made.follows_rule old.now new.now known.now (made.lists_of members.now)) }
 {
     if !grows(old, new) {
         return Ok(false);
@@ -53,7 +56,9 @@ pub fn follows_rule(
 }
 
 // How many members each node has.
-fn sizes_of(alloc: Global, members: &[Vec<NodeId>]) -> Result<Vec<usize>, Memory> {
+fn sizes_of(alloc: Global, members: &[Vec<NodeId>]) -> Result<Vec<usize>, Memory>
+    ensures made { IfOk result (λ v. v.items ≡ made.sizes_of (made.lists_of members.now)) }
+{
     let mut sizes = Vec::new(alloc);
     for nodes in members {
         sizes.push(nodes.len())?;
@@ -68,7 +73,8 @@ fn ends_where_nothing_matters(
     new: &Graph,
     known: &Known,
 ) -> Result<bool, Memory>
-    ensures { IfOk result (λ b. IsTrue b → rule.matters (plan_of known.now) old.now.entry.0 ≡ false → AreOver new.now new.now.entry.0) }
+    ensures tells { IfOk result (λ b. IsTrue b → rule.matters (plan_of known.now) old.now.entry.0 ≡ false → AreOver new.now new.now.entry.0) }
+    ensures made { IfOk result (λ b. b ≡ made.ends_where_nothing_matters old.now new.now known.now) }
 {
     if matters(known, old.entry().0) {
         return Ok(true);
@@ -90,6 +96,7 @@ fn all_follow(
     ensures flow { IsFlow old.now }
     ensures follow { IfOk result (λ b. IsTrue b → (v : ℕ) → v < length old.now.nodes → Follows old.now new.now (plan_of known.now) (slice_index sizes.now) v) }
     ensures few { IfOk result (λ b. IsTrue b → total (slice_index sizes.now) (length new.now.nodes) ≤ length old.now.nodes) }
+    ensures made { IfOk result (λ b. b ≡ made.all_follow old.now new.now known.now (made.lists_of members.now) sizes.now) }
 {
     let count = count_nodes(old);
     let all = count_nodes(new);
@@ -97,8 +104,26 @@ fn all_follow(
         return Ok(false);
     }
     let firsts = first_edges(alloc, new)?;
+    nodes_follow(alloc, old, new, known, members, &firsts, sizes, count)
+}
+
+/// Whether so many nodes follow the rule.
+fn nodes_follow(
+    alloc: Global,
+    old: &Graph,
+    new: &Graph,
+    known: &Known,
+    members: &[Vec<NodeId>],
+    firsts: &[usize],
+    sizes: &[usize],
+    count: u32,
+) -> Result<bool, Memory>
+    requires { Grew old.now.terms new.now.terms }
+    ensures follow { IfOk result (λ b. IsTrue b → (v : ℕ) → v < count → Follows old.now new.now (plan_of known.now) (slice_index sizes.now) v) }
+    ensures made { IfOk result (λ b. b ≡ made.nodes_follow old.now new.now known.now (made.lists_of members.now) firsts.now sizes.now count) }
+{
     for node in 0..count {
-        if !follows(alloc, old, new, known, members, &firsts, sizes, node)? {
+        if !follows(alloc, old, new, known, members, firsts, sizes, node)? {
             return Ok(false);
         }
     }
@@ -119,16 +144,39 @@ fn count_cells(graph: &Graph) -> u32
 }
 
 // The first edge that leads from each node, the number of all where there is none.
-fn first_edges(alloc: Global, graph: &Graph) -> Result<Vec<usize>, Memory> {
+fn first_edges(alloc: Global, graph: &Graph) -> Result<Vec<usize>, Memory>
+    ensures made { IfOk result (λ v. v.items ≡ made.first_edges graph.now) }
+{
     let edges = graph.edges();
     let mut firsts = vec![in alloc; edges.len(); graph.nodes().len()]?;
     for number in 0..edges.len() {
-        let from = edges[number].from.0 as usize;
-        if from < firsts.len() && firsts[from] == edges.len() {
-            firsts[from] = number;
-        }
+        note_first(
+            &mut firsts,
+            edges.len(),
+            number,
+            edges[number].from.0 as usize,
+        );
     }
     Ok(firsts)
+}
+
+// Notes the first edge of a node where none was, the number of all standing for none.
+fn note_first(firsts: &mut Vec<usize>, all: usize, number: usize, from: usize)
+    ensures made { firsts.new.items ≡ made.with_first firsts.old.items all number from }
+{
+    if from < firsts.len() && firsts[from] == all {
+        firsts[from] = number;
+    }
+}
+
+/// The first edge of a node, the highest number past the end.
+fn first_at(firsts: &[usize], node: u32) -> usize
+    ensures made { result ≡ made.first_at firsts.now node }
+{
+    match firsts.get(node as usize) {
+        None => usize::MAX,
+        Some(number) => *number,
+    }
 }
 
 /// Whether a node, if it is a cut point that matters, has a block by the rule of no more places than its size, or the edges that it had.
@@ -143,7 +191,8 @@ fn follows(
     node: u32,
 ) -> Result<bool, Memory>
     requires { Grew old.now.terms new.now.terms }
-    ensures { IfOk result (λ b. IsTrue b → Follows old.now new.now (plan_of known.now) (slice_index sizes.now) node) }
+    ensures tells { IfOk result (λ b. IsTrue b → Follows old.now new.now (plan_of known.now) (slice_index sizes.now) node) }
+    ensures made { IfOk result (λ b. b ≡ made.follows old.now new.now known.now (made.lists_of members.now) firsts.now sizes.now node) }
 {
     if !known.cuts.get(node) {
         return Ok(true);
@@ -155,7 +204,7 @@ fn follows(
     if size == 0 {
         return Ok(false);
     }
-    let first = firsts.get(node as usize).copied().unwrap_or(usize::MAX);
+    let first = first_at(firsts, node);
     match places_at(alloc, old, known, members, node)? {
         None => keeps(alloc, old, new, known, node, first),
         Some(places) => begins(alloc, old, new, known, &places, size, node, first),
@@ -172,6 +221,7 @@ fn places_at(
 ) -> Result<Option<Vec<Place>>, Memory>
     ensures places { IfOk result (λ o. IfSome o (λ ps. ArePlaces old.now (plan_of known.now) (length old.now.cells) (places_of old.now ps.items))) }
     ensures led { IfOk result (λ o. IfSome o (λ ps. AllLed old.now (places_of old.now ps.items))) }
+    ensures made { IfOk result (λ o. places.items_of o ≡ made.places_at old.now known.now (made.lists_of members.now) node) }
 {
     match members.get(node as usize) {
         None => Ok(None),
@@ -193,7 +243,8 @@ fn begins(
     requires grew { Grew old.now.terms new.now.terms }
     requires places { ArePlaces old.now (plan_of known.now) (length old.now.cells) (places_of old.now places.now) }
     requires led { AllLed old.now (places_of old.now places.now) }
-    ensures { IfOk result (λ b. IsTrue b → HasBlockOf old.now new.now (plan_of known.now) size node) }
+    ensures tells { IfOk result (λ b. IsTrue b → HasBlockOf old.now new.now (plan_of known.now) size node) }
+    ensures made { IfOk result (λ b. b ≡ made.begins old.now new.now known.now places.now size node first) }
 {
     if places.len() > size || !is_first(places, node) {
         return Ok(false);
@@ -220,7 +271,8 @@ fn begins(
 
 /// Whether the first place is the node's.
 fn is_first(places: &[Place], node: u32) -> bool
-    ensures { IsTrue result → IsFirst places.now node }
+    ensures tells { IsTrue result → IsFirst places.now node }
+    ensures made { result ≡ made.is_first places.now node }
 {
     if places.is_empty() {
         return false;
@@ -230,10 +282,11 @@ fn is_first(places: &[Place], node: u32) -> bool
 
 /// Whether no place but the first is a cut point.
 fn are_inside(known: &Known, places: &[Place]) -> bool
-    ensures { IsTrue result → AreInside (plan_of known.now) places.now }
+    ensures tells { IsTrue result → AreInside (plan_of known.now) places.now }
+    ensures made { result ≡ made.are_inside known.now places.now }
 {
     for number in 0..places.len() {
-        if !is_inside(known, places[number].node, number) {
+        if !is_inside(known, &places[number], number) {
             return false;
         }
     }
@@ -241,8 +294,9 @@ fn are_inside(known: &Known, places: &[Place]) -> bool
 }
 
 /// Whether the node of the place of a number is no cut point, if it is not the first.
-fn is_inside(known: &Known, node: u32, number: usize) -> bool
-    ensures { IsTrue result → 0 < number → (plan_of known.now).cuts node ≡ false }
+fn is_inside(known: &Known, place: &Place, number: usize) -> bool
+    ensures tells { IsTrue result → 0 < number → (plan_of known.now).cuts place.now.node ≡ false }
+    ensures made { result ≡ made.is_inside known.now number place.now }
 {
-    number == 0 || !known.cuts.get(node)
+    number == 0 || !known.cuts.get(place.node)
 }

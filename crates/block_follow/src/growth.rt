@@ -4,6 +4,7 @@ ghost use Rattle.bv_term.specs.declared.term.Term.{Term};
 ghost use Rattle.c_graph.specs.declared.graph.Cell.{Cell};
 ghost use Rattle.c_graph.specs.declared.graph.Node.{Node};
 ghost use Rattle.block_follow.specs.Following.{Grows};
+ghost use Rattle.block_follow.specs.Made as made;
 
 use bv_term::{Term, TermId, Terms};
 use c_graph::{Cell, Graph, LoopAt, Node};
@@ -11,7 +12,8 @@ use c_graph::{Cell, Graph, LoopAt, Node};
 /// Whether the nodes, cells and terms of the second graph begin with those of the first, both begin at one node, and their loops are the
 /// same.
 pub(crate) fn grows(old: &Graph, new: &Graph) -> bool
-    ensures { IsTrue result → Grows old.now new.now }
+    ensures tells { IsTrue result → Grows old.now new.now }
+    ensures made { result ≡ made.grows old.now new.now }
 {
     if old.entry().0 != new.entry().0 {
         return false;
@@ -29,13 +31,14 @@ pub(crate) fn grows(old: &Graph, new: &Graph) -> bool
 }
 
 fn same_loops(old: &[LoopAt], new: &[LoopAt]) -> bool
-    ensures { IsTrue result → new.now ≡ old.now }
+    ensures tells { IsTrue result → new.now ≡ old.now }
+    ensures made { result ≡ made.same_loops old.now new.now }
 {
     if old.len() != new.len() {
         return false;
     }
     for number in 0..old.len() {
-        if old[number] != new[number] {
+        if !same_loop(old[number], new[number]) {
             return false;
         }
     }
@@ -44,13 +47,14 @@ fn same_loops(old: &[LoopAt], new: &[LoopAt]) -> bool
 
 /// Whether the second nodes begin with the first.
 fn more_nodes(old: &[Node], new: &[Node]) -> bool
-    ensures { IsTrue result → (more : List Node) × (new.now ≡ old.now ++ more) }
+    ensures tells { IsTrue result → (more : List Node) × (new.now ≡ old.now ++ more) }
+    ensures made { result ≡ made.more_nodes old.now new.now }
 {
     if old.len() > new.len() {
         return false;
     }
     for number in 0..old.len() {
-        if old[number] != new[number] {
+        if !same_node(old[number], new[number]) {
             return false;
         }
     }
@@ -59,13 +63,14 @@ fn more_nodes(old: &[Node], new: &[Node]) -> bool
 
 /// Whether the second cells begin with the first.
 fn more_cells(old: &[Cell], new: &[Cell]) -> bool
-    ensures { IsTrue result → (more : List Cell) × (new.now ≡ old.now ++ more) }
+    ensures tells { IsTrue result → (more : List Cell) × (new.now ≡ old.now ++ more) }
+    ensures made { result ≡ made.more_cells old.now new.now }
 {
     if old.len() > new.len() {
         return false;
     }
     for number in 0..old.len() {
-        if old[number] != new[number] {
+        if !same_cell(old[number], new[number]) {
             return false;
         }
     }
@@ -74,7 +79,8 @@ fn more_cells(old: &[Cell], new: &[Cell]) -> bool
 
 /// Whether the second terms begin with the first.
 fn more_terms(old: &Terms, new: &Terms) -> bool
-    ensures { IsTrue result → (more : List Term) × (new.now.terms ≡ old.now.terms ++ more) }
+    ensures tells { IsTrue result → (more : List Term) × (new.now.terms ≡ old.now.terms ++ more) }
+    ensures made { result ≡ made.more_terms old.now new.now }
 {
     if old.count() > new.count() {
         return false;
@@ -88,7 +94,29 @@ fn more_terms(old: &Terms, new: &Terms) -> bool
 }
 
 fn same_term(old: Term, new: Term) -> bool
-    ensures { IsTrue result → new ≡ old }
+    ensures tells { IsTrue result → new ≡ old }
+    ensures made { result ≡ made.same_term old new }
+{
+    old == new
+}
+
+fn same_loop(old: LoopAt, new: LoopAt) -> bool
+    ensures tells { IsTrue result → new ≡ old }
+    ensures made { result ≡ made.same_loop old new }
+{
+    old == new
+}
+
+fn same_node(old: Node, new: Node) -> bool
+    ensures tells { IsTrue result → new ≡ old }
+    ensures made { result ≡ made.same_node old new }
+{
+    old == new
+}
+
+fn same_cell(old: Cell, new: Cell) -> bool
+    ensures tells { IsTrue result → new ≡ old }
+    ensures made { result ≡ made.same_cell old new }
 {
     old == new
 }

@@ -1,5 +1,5 @@
 //! Whether a node has the edges that it had.
-ghost use Rattle.std.specs.Prelude.{IfOk, IfSome, IsTrue, None};
+ghost use Rattle.std.specs.Prelude.{◌≡◌, IfOk, IfSome, IsTrue, None};
 ghost use Rattle.truth_terms.specs.Truths.{Grew};
 ghost use Rattle.block_rule.specs.Blocked.{plain_deeds};
 ghost use Rattle.block_edges.specs.Exact.{HasKept};
@@ -8,6 +8,7 @@ ghost use Rattle.block_rule.specs.Rule.{guarded};
 ghost use Rattle.block_steps.specs.Cursors.{Meets};
 ghost use Rattle.walk_states.specs.Known.{plan_of};
 ghost use Rattle.block_follow.specs.Following.{AreCopies, AreKept, AreMade, IsKept, IsKeptEdge, IsSame, straight};
+ghost use Rattle.block_follow.specs.Made as made;
 
 use crate::outs::are_within;
 use block_steps::{Cursor, Test, assumes, ends, leads_from, stores};
@@ -28,7 +29,8 @@ pub(crate) fn keeps(
     first: usize,
 ) -> Result<bool, Memory>
     requires { Grew old.now.terms new.now.terms }
-    ensures { IfOk result (λ b. IsTrue b → HasKept old.now new.now (plan_of known.now) node) }
+    ensures tells { IfOk result (λ b. IsTrue b → HasKept old.now new.now (plan_of known.now) node) }
+    ensures made { IfOk result (λ b. b ≡ made.keeps old.now new.now known.now node first) }
 {
     let outs = old.outs(alloc, NodeId(node))?;
     match kept_until(old, new, known, node, first, &outs) {
@@ -49,6 +51,7 @@ fn kept_until(
     requires { Grew old.now.terms new.now.terms }
     ensures kept { IfSome result (λ n. AreKept old.now new.now (plan_of known.now) node outs.now) }
     ensures made { IfSome result (λ n. AreMade old.now new.now (plan_of known.now) node first n) }
+    ensures one { result ≡ made.kept_until old.now new.now known.now node first outs.now }
 {
     let mut at = first;
     for number in 0..outs.len() {
@@ -72,6 +75,7 @@ fn kept_at(
     requires { Grew old.now.terms new.now.terms }
     ensures kept { IfSome result (λ n. IsKept old.now new.now (plan_of known.now) node edge.0) }
     ensures made { IfSome result (λ n. AreMade old.now new.now (plan_of known.now) node at n) }
+    ensures one { result ≡ made.kept_at old.now new.now known.now node edge at }
 {
     let edges = old.edges();
     let number = edge.0 as usize;
@@ -92,6 +96,7 @@ fn kept_edge(
     requires { Grew old.now.terms new.now.terms }
     ensures kept { IfSome result (λ n. IsKeptEdge old.now new.now (plan_of known.now) node edge.now) }
     ensures copies { IfSome result (λ n. AreCopies old.now new.now (plan_of known.now) node edge.now at n) }
+    ensures one { result ≡ made.kept_edge old.now new.now known.now node edge.now at }
 {
     if !matters(known, edge.to.0) {
         return Some(at);
@@ -113,6 +118,7 @@ fn is_same_edge(old: &Graph, new: &Graph, node: u32, edge: &Edge, at: usize) -> 
     requires { Grew old.now.terms new.now.terms }
     ensures leads { IsTrue result → Leading new.now node (plain_deeds old.now.terms edge.now.ops) edge.now.to.0 }
     ensures same { IsTrue result → IsSame old.now new.now at edge.now }
+    ensures made { result ≡ made.is_same_edge old.now new.now node edge.now at }
 {
     if !leads_from(new, at, node) {
         return false;
@@ -133,7 +139,8 @@ fn is_same_edge(old: &Graph, new: &Graph, node: u32, edge: &Edge, at: usize) -> 
 /// The place behind operations as they are.
 fn passed(old: &Terms, new: &Graph, cursor: Cursor, ops: &[Operation]) -> Option<Cursor>
     requires { Grew old.now new.now.terms }
-    ensures { IfSome result (λ n. (code : Code) → Meets new.now n code → Meets new.now cursor (straight old.now ops.now code)) }
+    ensures tells { IfSome result (λ n. (code : Code) → Meets new.now n code → Meets new.now cursor (straight old.now ops.now code)) }
+    ensures made { result ≡ made.passed old.now new.now cursor ops.now }
 {
     let mut at = cursor;
     for number in 0..ops.len() {
@@ -148,7 +155,8 @@ fn passed(old: &Terms, new: &Graph, cursor: Cursor, ops: &[Operation]) -> Option
 /// The place behind an operation as it is.
 fn step(old: &Terms, new: &Graph, cursor: Cursor, operation: Operation) -> Option<Cursor>
     requires { Grew old.now new.now.terms }
-    ensures { IfSome result (λ n. (code : Code) → Meets new.now n code → Meets new.now cursor (Does (guarded old.now None operation) code)) }
+    ensures tells { IfSome result (λ n. (code : Code) → Meets new.now n code → Meets new.now cursor (Does (guarded old.now None operation) code)) }
+    ensures made { result ≡ made.step old.now new.now cursor operation }
 {
     match operation {
         Operation::Assume(term) => assumes(old, new, cursor, Test::Under(None, term)),

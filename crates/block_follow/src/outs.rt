@@ -3,6 +3,7 @@ ghost use Rattle.std.specs.Prelude.{ℕ, ◌≡◌, ◌<◌, ◌≤◌, ◌⊎�
 ghost use Rattle.c_graph.specs.declared.graph.EdgeId.{EdgeId};
 ghost use Rattle.c_graph.specs.declared.graph.Node.TheVariants.{End};
 ghost use Rattle.block_follow.specs.Following.{AreOver, AreWithin, IsOver};
+ghost use Rattle.block_follow.specs.Made as made;
 
 use c_graph::{EdgeId, Graph, Node, NodeId};
 use lv_base::Memory;
@@ -16,14 +17,16 @@ pub(crate) fn are_within(
     first: usize,
     end: usize,
 ) -> Result<bool, Memory>
-    ensures { IfOk result (λ b. IsTrue b → AreWithin graph.now node first end) }
+    ensures tells { IfOk result (λ b. IsTrue b → AreWithin graph.now node first end) }
+    ensures made { IfOk result (λ b. b ≡ made.are_within graph.now node first end) }
 {
     let numbers = graph.outs(alloc, NodeId(node))?;
     Ok(all_within(&numbers, first, end))
 }
 
 fn all_within(numbers: &[EdgeId], first: usize, end: usize) -> bool
-    ensures { IsTrue result → (j : ℕ) (id : EdgeId) → slice_get numbers.now j ≡ Some id → (first ≤ id.0) × (id.0 < end) }
+    ensures tells { IsTrue result → (j : ℕ) (id : EdgeId) → slice_get numbers.now j ≡ Some id → (first ≤ id.0) × (id.0 < end) }
+    ensures made { result ≡ made.all_within numbers.now first end }
 {
     for number in 0..numbers.len() {
         if !is_within(numbers[number].0 as usize, first, end) {
@@ -34,21 +37,24 @@ fn all_within(numbers: &[EdgeId], first: usize, end: usize) -> bool
 }
 
 fn is_within(number: usize, first: usize, end: usize) -> bool
-    ensures { IsTrue result → (first ≤ number) × (number < end) }
+    ensures tells { IsTrue result → (first ≤ number) × (number < end) }
+    ensures made { result ≡ made.is_within number first end }
 {
     first <= number && number < end
 }
 
 /// Whether each edge that leads from a node leads to an end, or back to the node.
 pub(crate) fn are_over(alloc: Global, graph: &Graph, node: u32) -> Result<bool, Memory>
-    ensures { IfOk result (λ b. IsTrue b → AreOver graph.now node) }
+    ensures tells { IfOk result (λ b. IsTrue b → AreOver graph.now node) }
+    ensures made { IfOk result (λ b. b ≡ made.are_over graph.now node) }
 {
     let numbers = graph.outs(alloc, NodeId(node))?;
     Ok(all_over(graph, node, &numbers))
 }
 
 fn all_over(graph: &Graph, node: u32, numbers: &[EdgeId]) -> bool
-    ensures { IsTrue result → (j : ℕ) (id : EdgeId) → slice_get numbers.now j ≡ Some id → IsOver graph.now node id.0 }
+    ensures tells { IsTrue result → (j : ℕ) (id : EdgeId) → slice_get numbers.now j ≡ Some id → IsOver graph.now node id.0 }
+    ensures made { result ≡ made.all_over graph.now node numbers.now }
 {
     for number in 0..numbers.len() {
         if !is_over(graph, node, numbers[number].0 as usize) {
@@ -59,7 +65,8 @@ fn all_over(graph: &Graph, node: u32, numbers: &[EdgeId]) -> bool
 }
 
 fn is_over(graph: &Graph, node: u32, number: usize) -> bool
-    ensures { IsTrue result → IsOver graph.now node number }
+    ensures tells { IsTrue result → IsOver graph.now node number }
+    ensures made { result ≡ made.is_over graph.now node number }
 {
     let edges = graph.edges();
     if number >= edges.len() {
@@ -70,7 +77,8 @@ fn is_over(graph: &Graph, node: u32, number: usize) -> bool
 
 /// Whether a node is an end, or this node.
 fn is_end(graph: &Graph, found: u32, node: u32) -> bool
-    ensures { IsTrue result → (slice_get graph.now.nodes found ≡ Some End) ⊎ (found ≡ node) }
+    ensures tells { IsTrue result → (slice_get graph.now.nodes found ≡ Some End) ⊎ (found ≡ node) }
+    ensures made { result ≡ made.is_end graph.now found node }
 {
     match graph.nodes().get(found as usize) {
         Some(Node::End) => true,

@@ -4,13 +4,15 @@ ghost use Rattle.c_graph.specs.declared.graph.Operation.TheVariants.{Assume};
 ghost use Rattle.block_rule.specs.Plans.{IsWay};
 ghost use Rattle.walk_states.specs.Walks.{moves_of};
 ghost use Rattle.block_places.specs.Covering.{AreCovered, IsCovered, Leads};
+ghost use Rattle.block_places.specs.Made as made;
 
 use bv_term::TermId;
 use c_graph::{Edge, EdgeId, Graph, Operation};
 use walk_states::{Way, Ways};
 
 fn is_test(operation: Operation, test: TermId) -> bool
-    ensures { IsTrue result → operation ≡ Assume test }
+    ensures tells { IsTrue result → operation ≡ Assume test }
+    ensures made { result ≡ made.is_test operation test }
 {
     match operation {
         Operation::Assume(term) => term.0 == test.0,
@@ -19,7 +21,8 @@ fn is_test(operation: Operation, test: TermId) -> bool
 }
 
 fn tests_first(ops: &[Operation], test: TermId) -> bool
-    ensures { IsTrue result → slice_get ops.now 0 ≡ Some (Assume test) }
+    ensures tells { IsTrue result → slice_get ops.now 0 ≡ Some (Assume test) }
+    ensures made { result ≡ made.tests_first ops.now test }
 {
     if ops.is_empty() {
         return false;
@@ -28,28 +31,32 @@ fn tests_first(ops: &[Operation], test: TermId) -> bool
 }
 
 fn are_test(ops: &[Operation], test: TermId) -> bool
-    ensures { IsTrue result → ops.now ≡ Assume test ∷ [] }
+    ensures tells { IsTrue result → ops.now ≡ Assume test ∷ [] }
+    ensures made { result ≡ made.are_test ops.now test }
 {
     ops.len() == 1 && tests_first(ops, test)
 }
 
 /// Whether the edge tests the term, does nothing more, and leads there.
 fn only_tests(edge: &Edge, test: TermId, to: u32) -> bool
-    ensures { IsTrue result → IsWay edge.now (Assume test ∷ []) to }
+    ensures tells { IsTrue result → IsWay edge.now (Assume test ∷ []) to }
+    ensures made { result ≡ made.only_tests test to edge.now }
 {
     edge.to.0 == to && are_test(edge.ops.as_slice(), test)
 }
 
 /// Whether the edge tests the term first, and leads there.
 fn begins(edge: &Edge, test: TermId, to: u32) -> bool
-    ensures { IsTrue result → IsWay edge.now (Assume test ∷ drop 1 edge.now.ops) to }
+    ensures tells { IsTrue result → IsWay edge.now (Assume test ∷ drop 1 edge.now.ops) to }
+    ensures made { result ≡ made.begins test to edge.now }
 {
     edge.to.0 == to && tests_first(edge.ops.as_slice(), test)
 }
 
 /// Whether the edge of a number tests the term, does nothing more, and leads there.
 pub(crate) fn is_bare(graph: &Graph, number: usize, test: TermId, to: u32) -> bool
-    ensures { IsTrue result → Leads graph.now number (Assume test ∷ []) to }
+    ensures tells { IsTrue result → Leads graph.now number (Assume test ∷ []) to }
+    ensures made { result ≡ made.is_bare graph.now number test to }
 {
     let edges = graph.edges();
     if number >= edges.len() {
@@ -60,7 +67,8 @@ pub(crate) fn is_bare(graph: &Graph, number: usize, test: TermId, to: u32) -> bo
 
 /// Whether the edge of a number tests the term, and behind that is the way.
 pub(crate) fn is_behind(graph: &Graph, number: usize, test: TermId, way: Way) -> bool
-    ensures { IsTrue result → Leads graph.now number (Assume test ∷ moves_of graph.now way) way.to }
+    ensures tells { IsTrue result → Leads graph.now number (Assume test ∷ moves_of graph.now way) way.to }
+    ensures made { result ≡ made.is_behind graph.now number test way }
 {
     let edges = graph.edges();
     if number >= edges.len() || way.edge_at != number || way.skip != 1 {
@@ -71,7 +79,8 @@ pub(crate) fn is_behind(graph: &Graph, number: usize, test: TermId, way: Way) ->
 
 /// Whether the edge of a number is the way.
 pub(crate) fn is_whole(graph: &Graph, number: usize, way: Way) -> bool
-    ensures { IsTrue result → Leads graph.now number (moves_of graph.now way) way.to }
+    ensures tells { IsTrue result → Leads graph.now number (moves_of graph.now way) way.to }
+    ensures made { result ≡ made.is_whole graph.now number way }
 {
     let edges = graph.edges();
     if number >= edges.len() || way.edge_at != number || way.skip != 0 {
@@ -82,7 +91,8 @@ pub(crate) fn is_whole(graph: &Graph, number: usize, way: Way) -> bool
 
 /// Whether the edge of a number is one of the ways.
 fn is_covered(graph: &Graph, ways: Ways, number: usize) -> bool
-    ensures { IsTrue result → IsCovered graph.now ways number }
+    ensures tells { IsTrue result → IsCovered graph.now ways number }
+    ensures made { result ≡ made.is_covered graph.now ways number }
 {
     match ways {
         Ways::Goes(way) => is_whole(graph, number, way),
@@ -98,7 +108,8 @@ fn is_covered(graph: &Graph, ways: Ways, number: usize) -> bool
 
 /// Whether each of these edges is one of the ways.
 pub(crate) fn are_covered(graph: &Graph, ways: Ways, outs: &[EdgeId]) -> bool
-    ensures { IsTrue result → AreCovered graph.now ways outs.now }
+    ensures tells { IsTrue result → AreCovered graph.now ways outs.now }
+    ensures made { result ≡ made.are_covered graph.now ways outs.now }
 {
     for number in 0..outs.len() {
         if !is_covered(graph, ways, outs[number].0 as usize) {

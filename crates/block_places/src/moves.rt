@@ -6,12 +6,14 @@ ghost use Rattle.plan_tables.specs.Tables.{unit_at};
 ghost use Rattle.block_rule.specs.Plans.{AreMoves, IsMove};
 ghost use Rattle.walk_states.specs.Known.{plan_of};
 ghost use Rattle.walk_states.specs.Walks.{moves_of};
+ghost use Rattle.block_places.specs.Made as made;
 
 use c_graph::{Graph, Operation};
 use walk_states::{Known, Way};
 
 fn has_unit(known: &Known, cell: u32, unit: u32) -> bool
-    ensures { IsTrue result → unit_at known.now.units cell ≡ Some unit }
+    ensures tells { IsTrue result → unit_at known.now.units cell ≡ Some unit }
+    ensures made { result ≡ made.has_unit known.now cell unit }
 {
     match known.units.get(cell) {
         None => false,
@@ -21,7 +23,8 @@ fn has_unit(known: &Known, cell: u32, unit: u32) -> bool
 
 /// Whether the cells from the first on, up to the end, have this unit.
 fn have_unit(known: &Known, first: u32, end: u32, unit: u32) -> bool
-    ensures { IsTrue result → (c : ℕ) → first ≤ c → c < end → unit_at known.now.units c ≡ Some unit }
+    ensures tells { IsTrue result → (c : ℕ) → first ≤ c → c < end → unit_at known.now.units c ≡ Some unit }
+    ensures made { result ≡ made.have_unit known.now first end unit }
 {
     for cell in first..end {
         if !has_unit(known, cell, unit) {
@@ -33,7 +36,8 @@ fn have_unit(known: &Known, first: u32, end: u32, unit: u32) -> bool
 
 /// Whether the cells from the first on, up to the end, have one unit: what is read of one is then read of each.
 fn are_one(known: &Known, first: u32, end: u32) -> bool
-    ensures { IsTrue result → (c : ℕ) → first ≤ c → c < end → unit_at known.now.units c ≡ unit_at known.now.units first }
+    ensures tells { IsTrue result → (c : ℕ) → first ≤ c → c < end → unit_at known.now.units c ≡ unit_at known.now.units first }
+    ensures made { result ≡ made.are_one known.now first end }
 {
     match known.units.get(first) {
         None => false,
@@ -43,7 +47,8 @@ fn are_one(known: &Known, first: u32, end: u32) -> bool
 
 /// Whether so many cells from the first on are there, and of one unit.
 fn is_array(known: &Known, cells: usize, first: u32, count: u32) -> bool
-    ensures { IsTrue result → (i t : TermId) → IsMove (plan_of known.now) cells (SetAt first count i t) }
+    ensures tells { IsTrue result → (i t : TermId) → IsMove (plan_of known.now) cells (SetAt first count i t) }
+    ensures made { result ≡ made.is_array known.now cells first count }
 {
     match first.checked_add(count) {
         None => false,
@@ -52,7 +57,8 @@ fn is_array(known: &Known, cells: usize, first: u32, count: u32) -> bool
 }
 
 fn is_move(known: &Known, cells: usize, operation: Operation) -> bool
-    ensures { IsTrue result → IsMove (plan_of known.now) cells operation }
+    ensures tells { IsTrue result → IsMove (plan_of known.now) cells operation }
+    ensures made { result ≡ made.is_move known.now cells operation }
 {
     match operation {
         Operation::Assume(_) => false,
@@ -62,7 +68,8 @@ fn is_move(known: &Known, cells: usize, operation: Operation) -> bool
 }
 
 fn are_moves(known: &Known, cells: usize, ops: &[Operation], skip: usize) -> bool
-    ensures { IsTrue result → AreMoves (plan_of known.now) cells (drop skip ops.now) }
+    ensures tells { IsTrue result → AreMoves (plan_of known.now) cells (drop skip ops.now) }
+    ensures made { result ≡ made.are_moves known.now cells ops.now skip }
 {
     for number in skip..ops.len() {
         if !is_move(known, cells, ops[number]) {
@@ -74,7 +81,8 @@ fn are_moves(known: &Known, cells: usize, ops: &[Operation], skip: usize) -> boo
 
 /// Whether the operations of a way test nothing, and their cells are there.
 pub(crate) fn has_moves(graph: &Graph, known: &Known, way: Way) -> bool
-    ensures { IsTrue result → AreMoves (plan_of known.now) (length graph.now.cells) (moves_of graph.now way) }
+    ensures tells { IsTrue result → AreMoves (plan_of known.now) (length graph.now.cells) (moves_of graph.now way) }
+    ensures made { result ≡ made.has_moves graph.now known.now way }
 {
     let edges = graph.edges();
     if way.edge_at >= edges.len() {

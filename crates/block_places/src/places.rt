@@ -6,6 +6,7 @@ ghost use Rattle.block_rule.specs.Plans.{ArePlaces, IsPlace};
 ghost use Rattle.block_edges.specs.Exact.{AllLed, AreLed};
 ghost use Rattle.walk_states.specs.Known.{plan_of};
 ghost use Rattle.walk_states.specs.Walks.{place_of, places_of, ways_of};
+ghost use Rattle.block_places.specs.Made as made;
 
 use crate::edges::are_covered;
 use crate::exits::guess;
@@ -29,6 +30,7 @@ fn tested(
     requires all { numbers.now ≡ outs graph.now node }
     ensures place { IfSome result (λ p. IsPlace graph.now (plan_of known.now) (length graph.now.cells) (place_of graph.now p)) }
     ensures led { IfSome result (λ p. AreLed graph.now p.node (ways_of graph.now p.ways)) }
+    ensures made { result ≡ made.tested graph.now known.now node numbers.now ways }
 {
     if !are_covered(graph, ways, numbers) || !is_regular(graph, known, ways) {
         return None;
@@ -49,6 +51,7 @@ pub fn place_of_node(
 ) -> Result<Option<Place>, Memory>
     ensures place { IfOk result (λ o. IfSome o (λ p. IsPlace graph.now (plan_of known.now) (length graph.now.cells) (place_of graph.now p))) }
     ensures led { IfOk result (λ o. IfSome o (λ p. AreLed graph.now p.node (ways_of graph.now p.ways))) }
+    ensures made { IfOk result (λ o. o ≡ made.place_of_node graph.now known.now node) }
 {
     if !is_plain(graph, node) {
         return Ok(None);
@@ -69,6 +72,7 @@ pub fn places_of_nodes(
 ) -> Result<Option<Vec<Place>>, Memory>
     ensures places { IfOk result (λ o. IfSome o (λ ps. ArePlaces graph.now (plan_of known.now) (length graph.now.cells) (places_of graph.now ps.items))) }
     ensures led { IfOk result (λ o. IfSome o (λ ps. AllLed graph.now (places_of graph.now ps.items))) }
+    ensures made { IfOk result (λ o. made.items_of o ≡ made.places_of_nodes graph.now known.now nodes.now) }
 {
     let mut places = Vec::new(alloc);
     for node in nodes {

@@ -1,4 +1,5 @@
 //! Places in the edges of a graph.
+ghost use Rattle.block_steps.specs.Made as made;
 ghost use Rattle.std.specs.Prelude.{◌≡◌, IfSome, IsTrue, Some, slice_get};
 ghost use Rattle.c_graph.specs.declared.graph.Edge.{Edge};
 ghost use Rattle.c_graph.specs.declared.graph.Operation.TheVariants.{Assume};
@@ -37,7 +38,8 @@ pub struct Side {
 }
 
 fn operation_at(graph: &Graph, cursor: Cursor) -> Option<Operation>
-    ensures { IfSome result (λ op. OpAt graph.now cursor op) }
+    ensures means { IfSome result (λ op. OpAt graph.now cursor op) }
+    ensures made { result ≡ made.operation_at graph.now cursor }
 {
     let edges = graph.edges();
     if cursor.edge_at >= edges.len() {
@@ -51,7 +53,8 @@ fn operation_at(graph: &Graph, cursor: Cursor) -> Option<Operation>
 }
 
 fn behind(cursor: Cursor) -> Option<Cursor>
-    ensures { IfSome result (IsBehind cursor) }
+    ensures means { IfSome result (IsBehind cursor) }
+    ensures made { result ≡ made.behind cursor }
 {
     if cursor.op_at == usize::MAX {
         return None;
@@ -63,7 +66,8 @@ fn behind(cursor: Cursor) -> Option<Cursor>
 }
 
 pub(crate) fn next_step(graph: &Graph, cursor: Cursor) -> Option<Step>
-    ensures { IfSome result (λ s. OpAt graph.now cursor s.operation × IsBehind cursor s.next) }
+    ensures means { IfSome result (λ s. OpAt graph.now cursor s.operation × IsBehind cursor s.next) }
+    ensures made { result ≡ made.next_step graph.now cursor }
 {
     let Some(operation) = operation_at(graph, cursor) else {
         return None;
@@ -76,7 +80,8 @@ pub(crate) fn next_step(graph: &Graph, cursor: Cursor) -> Option<Step>
 
 /// The node to which an edge leads whose operations are all done.
 fn end_of(graph: &Graph, cursor: Cursor) -> Option<u32>
-    ensures { IfSome result (EndAt graph.now cursor) }
+    ensures means { IfSome result (EndAt graph.now cursor) }
+    ensures made { result ≡ made.end_of graph.now cursor }
 {
     let edges = graph.edges();
     if cursor.edge_at >= edges.len() {
@@ -89,7 +94,8 @@ fn end_of(graph: &Graph, cursor: Cursor) -> Option<u32>
 }
 
 fn first_of_next(cursor: Cursor) -> Option<Cursor>
-    ensures { IfSome result (λ n. n.op_at ≡ 0) }
+    ensures means { IfSome result (λ n. n.op_at ≡ 0) }
+    ensures made { result ≡ made.first_of_next cursor }
 {
     if cursor.edge_at == usize::MAX {
         return None;
@@ -102,7 +108,8 @@ fn first_of_next(cursor: Cursor) -> Option<Cursor>
 
 /// The place behind an edge that ends at a node, its operations being done.
 pub fn ends(graph: &Graph, cursor: Cursor, to: u32) -> Option<Cursor>
-    ensures { IfSome result (λ n. Meets graph.now cursor (Ends to)) }
+    ensures means { IfSome result (λ n. Meets graph.now cursor (Ends to)) }
+    ensures made { result ≡ made.ends graph.now cursor to }
 {
     let Some(found) = end_of(graph, cursor) else {
         return None;
@@ -115,7 +122,8 @@ pub fn ends(graph: &Graph, cursor: Cursor, to: u32) -> Option<Cursor>
 
 /// The node of a branch, to which an edge leads whose operations are all done.
 pub fn find_branch(graph: &Graph, cursor: Cursor) -> Option<Fork>
-    ensures { IfSome result (λ f. EndAt graph.now cursor f.node) }
+    ensures means { IfSome result (λ f. EndAt graph.now cursor f.node) }
+    ensures made { result ≡ made.find_branch graph.now cursor }
 {
     let Some(node) = end_of(graph, cursor) else {
         return None;
@@ -128,7 +136,8 @@ pub fn find_branch(graph: &Graph, cursor: Cursor) -> Option<Fork>
 
 /// The term on which an edge of a node goes on, if it begins with an Assume.
 pub fn find_side(graph: &Graph, cursor: Cursor, node: u32) -> Option<Side>
-    ensures { IfSome result (λ s. SideAt graph.now s.next node s.term) }
+    ensures means { IfSome result (λ s. SideAt graph.now s.next node s.term) }
+    ensures made { result ≡ made.find_side graph.now cursor node }
 {
     if cursor.op_at != 0 {
         return None;
@@ -150,7 +159,8 @@ pub fn find_side(graph: &Graph, cursor: Cursor, node: u32) -> Option<Side>
 
 /// Whether the edge of a number is there, and leads from the node.
 pub fn leads_from(graph: &Graph, number: usize, node: u32) -> bool
-    ensures { IsTrue result → (e : Edge) × ((slice_get graph.now.edges number ≡ Some e) × (e.from.0 ≡ node)) }
+    ensures means { IsTrue result → (e : Edge) × ((slice_get graph.now.edges number ≡ Some e) × (e.from.0 ≡ node)) }
+    ensures made { result ≡ made.leads_from graph.now number node }
 {
     let edges = graph.edges();
     if number >= edges.len() {
@@ -160,7 +170,8 @@ pub fn leads_from(graph: &Graph, number: usize, node: u32) -> bool
 }
 
 fn assumed(graph: &Graph, number: usize) -> Option<TermId>
-    ensures { IfSome result (λ t. OpAt graph.now (record { edge_at = number; op_at = 0 }) (Assume t)) }
+    ensures means { IfSome result (λ t. OpAt graph.now (record { edge_at = number; op_at = 0 }) (Assume t)) }
+    ensures made { result ≡ made.first_assumed graph.now number }
 {
     match operation_at(
         graph,

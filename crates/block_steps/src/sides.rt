@@ -1,4 +1,5 @@
 //! All edges that lead from a node.
+ghost use Rattle.block_steps.specs.Made as made;
 ghost use Rattle.std.specs.Prelude.{ℕ, ◌≡◌, ◌⊎◌, IfOk, IsTrue, Some, slice_get};
 ghost use Rattle.c_graph.specs.declared.graph.EdgeId.{EdgeId};
 ghost use Rattle.c_graph.specs.declared.graph.Node.TheVariants.{Plain};
@@ -10,7 +11,8 @@ use std::alloc::Global;
 
 /// Whether a node is there, and plain.
 pub fn is_plain(graph: &Graph, node: u32) -> bool
-    ensures { IsTrue result → slice_get graph.now.nodes node ≡ Some Plain }
+    ensures means { IsTrue result → slice_get graph.now.nodes node ≡ Some Plain }
+    ensures made { result ≡ made.is_plain graph.now node }
 {
     match graph.nodes().get(node as usize) {
         Some(Node::Plain) => true,
@@ -26,7 +28,8 @@ pub fn are_sides(
     one: usize,
     other: usize,
 ) -> Result<bool, Memory>
-    ensures { IfOk result (λ b. IsTrue b → AreSides graph.now node one other) }
+    ensures means { IfOk result (λ b. IsTrue b → AreSides graph.now node one other) }
+    ensures made { IfOk result (λ b. b ≡ made.are_sides graph.now node one other) }
 {
     if !is_plain(graph, node) {
         return Ok(false);
@@ -36,7 +39,8 @@ pub fn are_sides(
 }
 
 fn are_among(numbers: &[EdgeId], one: usize, other: usize) -> bool
-    ensures { IsTrue result → (j : ℕ) (id : EdgeId) → slice_get numbers.now j ≡ Some id → (id.0 ≡ one) ⊎ (id.0 ≡ other) }
+    ensures means { IsTrue result → (j : ℕ) (id : EdgeId) → slice_get numbers.now j ≡ Some id → (id.0 ≡ one) ⊎ (id.0 ≡ other) }
+    ensures made { result ≡ made.are_among numbers.now one other }
 {
     for number in 0..numbers.len() {
         if !is_either(numbers[number].0 as usize, one, other) {
@@ -47,7 +51,8 @@ fn are_among(numbers: &[EdgeId], one: usize, other: usize) -> bool
 }
 
 fn is_either(number: usize, one: usize, other: usize) -> bool
-    ensures { IsTrue result → (number ≡ one) ⊎ (number ≡ other) }
+    ensures means { IsTrue result → (number ≡ one) ⊎ (number ≡ other) }
+    ensures made { result ≡ made.is_either number one other }
 {
     number == one || number == other
 }

@@ -1,5 +1,6 @@
 //! Deeds found among the operations of edges.
-ghost use Rattle.std.specs.Prelude.{ℕ, ◌||◌, List, IfSome, IsTrue, length, None, if◌then◌else◌};
+ghost use Rattle.block_steps.specs.Made as made;
+ghost use Rattle.std.specs.Prelude.{ℕ, ◌≡◌, ◌||◌, List, IfSome, IsTrue, length, None, if◌then◌else◌};
 ghost use Rattle.bv_term.specs.Numbers.{truth};
 ghost use Rattle.c_graph.specs.declared.graph.Operation.TheVariants.{Assume, Set, SetAt};
 ghost use Rattle.bv_term.specs.Values.{value};
@@ -21,7 +22,8 @@ use truth_terms::{
 /// Whether a term is the bit of a test.
 pub fn is_test(old: &Terms, terms: &Terms, term: TermId, test: Test) -> bool
     requires { Grew old.now terms.now }
-    ensures { IsTrue result → IsBit terms.now term (holds old.now test) }
+    ensures means { IsTrue result → IsBit terms.now term (holds old.now test) }
+    ensures made { result ≡ made.is_test old.now terms.now term test }
 {
     match test {
         Test::On(None) => is_one_bit(terms, term),
@@ -33,7 +35,8 @@ pub fn is_test(old: &Terms, terms: &Terms, term: TermId, test: Test) -> bool
 
 fn is_this(old: &Terms, terms: &Terms, term: TermId, found: TermId) -> bool
     requires { Grew old.now terms.now }
-    ensures { IsTrue result → IsBit terms.now term (holds old.now (Under None found)) }
+    ensures means { IsTrue result → IsBit terms.now term (holds old.now (Under None found)) }
+    ensures made { result ≡ made.is_this old.now terms.now term found }
 {
     if term.0 != found.0 {
         return false;
@@ -49,8 +52,9 @@ struct Put {
 }
 
 fn put_at(graph: &Graph, cursor: Cursor, cell: u32) -> Option<Put>
-    ensures { IfSome result (λ p. (f : List ℕ → ℕ) (code : Code) → Means graph.now.terms p.term f → Meets graph.now p.next code
+    ensures means { IfSome result (λ p. (f : List ℕ → ℕ) (code : Code) → Means graph.now.terms p.term f → Meets graph.now p.next code
         → Meets graph.now cursor (Does (Sets cell f) code)) }
+    ensures made { result ≡ made.put_at graph.now cursor cell }
 {
     let Some(step) = next_step(graph, cursor) else {
         return None;
@@ -70,8 +74,9 @@ fn put_in(
     cell: u32,
 ) -> Option<Put>
     requires { OpAt graph.now cursor (Set found term) × IsBehind cursor next }
-    ensures { IfSome result (λ p. (f : List ℕ → ℕ) (code : Code) → Means graph.now.terms p.term f → Meets graph.now p.next code
+    ensures means { IfSome result (λ p. (f : List ℕ → ℕ) (code : Code) → Means graph.now.terms p.term f → Meets graph.now p.next code
         → Meets graph.now cursor (Does (Sets cell f) code)) }
+    ensures made { result ≡ made.put_in graph.now next found term cell }
 {
     if found != cell {
         return None;
@@ -85,8 +90,9 @@ fn put_in(
 /// The place behind a store of a test's bit.
 pub fn sets(old: &Terms, graph: &Graph, cursor: Cursor, cell: u32, test: Test) -> Option<Cursor>
     requires { Grew old.now graph.now.terms }
-    ensures { IfSome result (λ n. (code : Code) → Meets graph.now n code
+    ensures means { IfSome result (λ n. (code : Code) → Meets graph.now n code
         → Meets graph.now cursor (Does (Sets cell (λ s. truth (holds old.now test s))) code)) }
+    ensures made { result ≡ made.sets old.now graph.now cursor cell test }
 {
     let Some(put) = put_at(graph, cursor, cell) else {
         return None;
@@ -100,8 +106,9 @@ pub fn sets(old: &Terms, graph: &Graph, cursor: Cursor, cell: u32, test: Test) -
 /// The place behind a store of a cell's own bit or a test's.
 pub fn adds(old: &Terms, graph: &Graph, cursor: Cursor, cell: u32, test: Test) -> Option<Cursor>
     requires { Grew old.now graph.now.terms }
-    ensures { IfSome result (λ n. (code : Code) → Meets graph.now n code
+    ensures means { IfSome result (λ n. (code : Code) → Meets graph.now n code
         → Meets graph.now cursor (Does (Sets cell (λ s. truth (is_set cell s || holds old.now test s))) code)) }
+    ensures made { result ≡ made.adds old.now graph.now cursor cell test }
 {
     let Some(put) = put_at(graph, cursor, cell) else {
         return None;
@@ -118,7 +125,8 @@ pub fn adds(old: &Terms, graph: &Graph, cursor: Cursor, cell: u32, test: Test) -
 /// The place behind an Assume of a test.
 pub fn assumes(old: &Terms, graph: &Graph, cursor: Cursor, test: Test) -> Option<Cursor>
     requires { Grew old.now graph.now.terms }
-    ensures { IfSome result (λ n. (code : Code) → Meets graph.now n code → Meets graph.now cursor (Does (Tests (holds old.now test)) code)) }
+    ensures means { IfSome result (λ n. (code : Code) → Meets graph.now n code → Meets graph.now cursor (Does (Tests (holds old.now test)) code)) }
+    ensures made { result ≡ made.assumes old.now graph.now cursor test }
 {
     let Some(step) = next_step(graph, cursor) else {
         return None;
@@ -139,7 +147,8 @@ fn assumed(
 ) -> Option<Cursor>
     requires grew { Grew old.now graph.now.terms }
     requires found { OpAt graph.now cursor (Assume term) × IsBehind cursor next }
-    ensures { IfSome result (λ n. (code : Code) → Meets graph.now n code → Meets graph.now cursor (Does (Tests (holds old.now test)) code)) }
+    ensures means { IfSome result (λ n. (code : Code) → Meets graph.now n code → Meets graph.now cursor (Does (Tests (holds old.now test)) code)) }
+    ensures made { result ≡ made.assumed old.now graph.now next term test }
 {
     if !is_test(old, graph.terms(), term, test) {
         return None;
@@ -156,7 +165,8 @@ pub fn stores(
     operation: Operation,
 ) -> Option<Cursor>
     requires { Grew old.now graph.now.terms }
-    ensures { IfSome result (λ n. (code : Code) → Meets graph.now n code → Meets graph.now cursor (Does (guarded old.now guard operation) code)) }
+    ensures means { IfSome result (λ n. (code : Code) → Meets graph.now n code → Meets graph.now cursor (Does (guarded old.now guard operation) code)) }
+    ensures made { result ≡ made.stores old.now graph.now cursor guard operation }
 {
     let Some(step) = next_step(graph, cursor) else {
         return None;
@@ -176,8 +186,9 @@ fn is_same(
     found: Operation,
 ) -> bool
     requires { Grew old.now graph.now.terms }
-    ensures { IsTrue result → IsDeed graph.now.terms found (guarded old.now guard operation)
+    ensures means { IsTrue result → IsDeed graph.now.terms found (guarded old.now guard operation)
         × SetsWithin (length graph.now.cells) (guarded old.now guard operation) }
+    ensures made { result ≡ made.is_same old.now graph.now guard operation found }
 {
     match (operation, found) {
         (Operation::Set(cell, term), Operation::Set(one, put)) => {
@@ -209,8 +220,9 @@ fn is_store(
     put: TermId,
 ) -> bool
     requires { Grew old.now graph.now.terms }
-    ensures { IsTrue result → IsDeed graph.now.terms (Set one put) (guarded old.now guard (Set cell term))
+    ensures means { IsTrue result → IsDeed graph.now.terms (Set one put) (guarded old.now guard (Set cell term))
         × SetsWithin (length graph.now.cells) (guarded old.now guard (Set cell term)) }
+    ensures made { result ≡ made.is_store old.now graph.now guard cell term one put }
 {
     if cell != one {
         return false;
@@ -235,7 +247,8 @@ fn is_array_store(
     found: ArrayStore,
 ) -> bool
     requires { Grew old.now terms.now }
-    ensures { IsTrue result → IsDeed terms.now (SetAt found.0 found.1 found.2 found.3) (guarded old.now guard (SetAt store.0 store.1 store.2 store.3)) }
+    ensures means { IsTrue result → IsDeed terms.now (SetAt found.0 found.1 found.2 found.3) (guarded old.now guard (SetAt store.0 store.1 store.2 store.3)) }
+    ensures made { result ≡ made.is_array_store old.now terms.now guard store.0 store.1 store.2 store.3 found.0 found.1 found.2 found.3 }
 {
     if store.0 != found.0 {
         return false;
@@ -259,7 +272,8 @@ fn is_index(
     found: TermId,
 ) -> bool
     requires { Grew old.now terms.now }
-    ensures { IsTrue result → Means terms.now found (λ s. if is_on guard s then value old.now s index else count) }
+    ensures means { IsTrue result → Means terms.now found (λ s. if is_on guard s then value old.now s index else count) }
+    ensures made { result ≡ made.is_index old.now terms.now guard index count found }
 {
     match guard {
         None => is_value(old, terms, found, index),
@@ -270,7 +284,8 @@ fn is_index(
 /// Whether a term is the old one of a number.
 fn is_value(old: &Terms, terms: &Terms, found: TermId, index: TermId) -> bool
     requires { Grew old.now terms.now }
-    ensures { IsTrue result → Means terms.now found (λ s. value old.now s index) }
+    ensures means { IsTrue result → Means terms.now found (λ s. value old.now s index) }
+    ensures made { result ≡ made.is_value old.now terms.now found index }
 {
     if found.0 != index.0 {
         return false;

@@ -41,7 +41,7 @@ last-found h (x ∷ bs) k a w t some end sa bit alone ma =
     branches-once h k a w t (some_bad (bads_of (x ∷ bs))) (first_of (bads_of (x ∷ bs))) end sa
     (λ s wh. test-is h.terms t (some_bad (bads_of (x ∷ bs))) s bit wh) alone ma
 
-get-some : {A : Type 0} → (xs : List A) (n : ℕ) → n < length xs → (x : A) × (slice_get xs n ≡ Some x)
+pub get-some : {A : Type 0} → (xs : List A) (n : ℕ) → n < length xs → (x : A) × (slice_get xs n ≡ Some x)
 get-some [] n lt = absurd (omega (arith, lt))
 get-some (x ∷ xs) zero lt = (x, refl)
 get-some (x ∷ xs) (suc n) lt = get-some xs n (omega (arith, lt))

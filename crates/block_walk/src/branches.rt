@@ -1,5 +1,7 @@
 //! Branches on a walk: on checks that may have failed, and on the places that wait at the end.
-ghost use Rattle.std.specs.Prelude.{ℕ, [], ◌∷◌, not, Bool, List, IfOk, IsTrue};
+ghost use Rattle.walk_states.specs.Told.{Told};
+ghost use Rattle.block_walk.specs.Made as made;
+ghost use Rattle.std.specs.Prelude.{ℕ, ◌≡◌, [], ◌∷◌, not, Bool, List, IfOk, IsTrue};
 ghost use Rattle.truth_terms.specs.Truths.{Grew, IsBit};
 ghost use Rattle.block_rule.specs.Deeds.{Branches, Code, Does, Ends, Stops, Tests};
 ghost use Rattle.block_rule.specs.Rule.{certain, exits, flushed, some_bad};
@@ -18,7 +20,8 @@ use walk_states::{Failing, Known, Stop, Waiting, is_cut};
 
 /// The place behind the end of an edge at a node.
 fn ended(new: &Graph, cursor: Cursor, to: u32) -> Result<Cursor, Stop>
-    ensures { IfOk result (λ n. Meets new.now cursor (Ends to)) }
+    ensures means { IfOk result (λ n. Meets new.now cursor (Ends to)) }
+    ensures made { Told (λ n. n) result (made.ended new.now cursor to) }
 {
     match ends(new, cursor, to) {
         None => Err(Stop::Differs),
@@ -29,21 +32,24 @@ fn ended(new: &Graph, cursor: Cursor, to: u32) -> Result<Cursor, Stop>
 /// Whether a term is the bit of a test.
 fn is_bit(old: &Graph, new: &Graph, term: TermId, test: Test) -> bool
     requires { Grew old.now.terms new.now.terms }
-    ensures { IsTrue result → IsBit new.now.terms term (holds old.now.terms test) }
+    ensures means { IsTrue result → IsBit new.now.terms term (holds old.now.terms test) }
+    ensures made { result ≡ made.is_bit old.now.terms new.now term test }
 {
     is_test(old.terms(), new.terms(), term, test)
 }
 
 /// Whether the second term is the complement of the first.
 fn is_other(new: &Graph, term: TermId, other: TermId) -> bool
-    ensures { IsTrue result → (p : List ℕ → Bool) → IsBit new.now.terms term p → IsBit new.now.terms other (λ s. not (p s)) }
+    ensures means { IsTrue result → (p : List ℕ → Bool) → IsBit new.now.terms term p → IsBit new.now.terms other (λ s. not (p s)) }
+    ensures made { result ≡ made.is_other new.now term other }
 {
     is_not(new.terms(), other, term)
 }
 
 /// Goes on only where the edges of these two places are all that lead from the node.
 fn only_these(alloc: Global, new: &Graph, node: u32, one: Cursor, other: Cursor) -> Result<(), Stop>
-    ensures { IfOk result (λ u. AreSides new.now node one.edge_at other.edge_at) }
+    ensures means { IfOk result (λ u. AreSides new.now node one.edge_at other.edge_at) }
+    ensures made { Told (λ u. tt) result (made.if_so (made.only_these new.now node one other)) }
 {
     if are_sides(alloc, new, node, one.edge_at, other.edge_at)? {
         Ok(())
@@ -62,7 +68,8 @@ fn second_side(
     one: Cursor,
     end: Cursor,
 ) -> Result<Cursor, Stop>
-    ensures { IfOk result (λ n. IsSecond new.now node term one n) }
+    ensures means { IfOk result (λ n. IsSecond new.now node term one n) }
+    ensures made { Told (λ n. n) result (made.second_side new.now node term one end) }
 {
     let Some(other) = find_side(new, end, node) else {
         return Err(Stop::Differs);
@@ -84,7 +91,8 @@ fn passed(
     to: u32,
 ) -> Result<Cursor, Stop>
     requires { Grew old.now.terms new.now.terms }
-    ensures { IfOk result (λ n. (code : Code) → Meets new.now n code → Meets new.now cursor (Branches (holds old.now.terms test) (Ends to) code)) }
+    ensures means { IfOk result (λ n. (code : Code) → Meets new.now n code → Meets new.now cursor (Branches (holds old.now.terms test) (Ends to) code)) }
+    ensures made { Told (λ n. n) result (made.passed old.now.terms new.now cursor test to) }
 {
     let Some(fork) = find_branch(new, cursor) else {
         return Err(Stop::Differs);
@@ -101,7 +109,8 @@ fn passed(
 
 /// Whether a term is 1 where one of the checks failed.
 fn is_some_failing(terms: &Terms, term: TermId, bads: &[Failing]) -> bool
-    ensures { IsTrue result → IsBit terms.now term (some_bad (bads_of bads.now)) }
+    ensures means { IsTrue result → IsBit terms.now term (some_bad (bads_of bads.now)) }
+    ensures made { result ≡ made.is_some_failing terms.now term (bads_of bads.now) }
 {
     let mut at = term;
     for number in 0..bads.len() {
@@ -125,7 +134,8 @@ fn first_failing(
     cursor: Cursor,
 ) -> Result<Cursor, Stop>
     requires { Grew old.now.terms new.now.terms }
-    ensures { IfOk result (λ n. Meets new.now cursor (first_of (bads_of bads.now))) }
+    ensures means { IfOk result (λ n. Meets new.now cursor (first_of (bads_of bads.now))) }
+    ensures made { Told (λ n. n) result (made.first_failing old.now.terms new.now (bads_of bads.now) cursor) }
 {
     let mut at = cursor;
     for number in 0..bads.len() {
@@ -147,7 +157,8 @@ struct Opened {
 }
 
 fn open_branch(new: &Graph, bads: &[Failing], cursor: Cursor) -> Result<Opened, Stop>
-    ensures { IfOk result (λ o. EndAt new.now cursor o.node × SideAt new.now o.next o.node o.term × IsBit new.now.terms o.term (some_bad (bads_of bads.now))) }
+    ensures means { IfOk result (λ o. EndAt new.now cursor o.node × SideAt new.now o.next o.node o.term × IsBit new.now.terms o.term (some_bad (bads_of bads.now))) }
+    ensures made { Told made.branch_of result (made.open_branch new.now (bads_of bads.now) cursor) }
 {
     let Some(fork) = find_branch(new, cursor) else {
         return Err(Stop::Differs);
@@ -174,7 +185,8 @@ pub(crate) fn flush(
     cursor: Cursor,
 ) -> Result<Cursor, Stop>
     requires { Grew old.now.terms new.now.terms }
-    ensures { IfOk result (λ n. (code : Code) → Meets new.now n code → Meets new.now cursor (flushed (bads_of bads.now) code)) }
+    ensures means { IfOk result (λ n. (code : Code) → Meets new.now n code → Meets new.now cursor (flushed (bads_of bads.now) code)) }
+    ensures made { Told (λ n. n) result (made.flush old.now.terms new.now (bads_of bads.now) cursor) }
 {
     if bads.is_empty() {
         return Ok(cursor);
@@ -194,7 +206,8 @@ fn flush_last(
     cursor: Cursor,
 ) -> Result<Cursor, Stop>
     requires { Grew old.now.terms new.now.terms }
-    ensures { IfOk result (λ n. Meets new.now cursor (flushed (bads_of bads.now) Stops)) }
+    ensures means { IfOk result (λ n. Meets new.now cursor (flushed (bads_of bads.now) Stops)) }
+    ensures made { Told (λ n. n) result (made.flush_last old.now.terms new.now (bads_of bads.now) cursor) }
 {
     if bads.is_empty() {
         return Err(Stop::Differs);
@@ -213,7 +226,8 @@ pub(crate) fn certain(
     guard: Option<u32>,
 ) -> Result<Cursor, Stop>
     requires { Grew old.now.terms new.now.terms }
-    ensures { IfOk result (λ n. (code : Code) → Meets new.now n code → Meets new.now cursor (certain lost guard code)) }
+    ensures means { IfOk result (λ n. (code : Code) → Meets new.now n code → Meets new.now cursor (certain lost guard code)) }
+    ensures made { Told (λ n. n) result (made.certain old.now.terms new.now cursor lost guard) }
 {
     if !lost {
         return Ok(cursor);
@@ -226,7 +240,8 @@ pub(crate) fn certain(
 
 fn assumed(old: &Graph, new: &Graph, cursor: Cursor, test: Test) -> Result<Cursor, Stop>
     requires { Grew old.now.terms new.now.terms }
-    ensures { IfOk result (λ n. (code : Code) → Meets new.now n code → Meets new.now cursor (Does (Tests (holds old.now.terms test)) code)) }
+    ensures means { IfOk result (λ n. (code : Code) → Meets new.now n code → Meets new.now cursor (Does (Tests (holds old.now.terms test)) code)) }
+    ensures made { Told (λ n. n) result (made.assumed old.now.terms new.now cursor test) }
 {
     match assumes(old.terms(), new, cursor, test) {
         None => Err(Stop::Differs),
@@ -244,7 +259,8 @@ fn last_exit(
     cursor: Cursor,
 ) -> Result<Cursor, Stop>
     requires { Grew old.now.terms new.now.terms }
-    ensures { IfOk result (λ n. Meets new.now cursor (exits (plan_of known.now) lost (waits_of (exit ∷ [])))) }
+    ensures means { IfOk result (λ n. Meets new.now cursor (exits (plan_of known.now) lost (waits_of (exit ∷ [])))) }
+    ensures made { Told (λ n. n) result (made.last_exit old.now.terms new.now (plan_of known.now) lost (record { node = exit.node; guard = exit.guard }) cursor) }
 {
     if !is_cut(known, exit.node) {
         return Err(Stop::Differs);
@@ -267,7 +283,8 @@ fn leave(
     cursor: Cursor,
 ) -> Result<Cursor, Stop>
     requires { Grew old.now.terms new.now.terms }
-    ensures { IfOk result (λ n. Meets new.now cursor (exits (plan_of known.now) lost (waits_of waiting.now))) }
+    ensures means { IfOk result (λ n. Meets new.now cursor (exits (plan_of known.now) lost (waits_of waiting.now))) }
+    ensures made { Told (λ n. n) result (made.leave old.now.terms new.now (plan_of known.now) lost (waits_of waiting.now) cursor) }
 {
     let mut at = cursor;
     for number in 0..waiting.len() {
@@ -295,7 +312,8 @@ pub(crate) fn close(
     cursor: Cursor,
 ) -> Result<Cursor, Stop>
     requires { Grew old.now.terms new.now.terms }
-    ensures { IfOk result (λ n. Meets new.now cursor (flushed (bads_of bads.now) (exits (plan_of known.now) lost (waits_of waiting.now)))) }
+    ensures means { IfOk result (λ n. Meets new.now cursor (flushed (bads_of bads.now) (exits (plan_of known.now) lost (waits_of waiting.now)))) }
+    ensures made { Told (λ n. n) result (made.close old.now.terms new.now (plan_of known.now) lost (bads_of bads.now) (waits_of waiting.now) cursor) }
 {
     if waiting.is_empty() {
         return flush_last(alloc, old, new, bads, cursor);

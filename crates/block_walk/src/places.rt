@@ -1,4 +1,7 @@
 //! A walk along the places of one block.
+ghost use Rattle.walk_states.specs.Told.{Told};
+ghost use Rattle.walk_states.specs.Made.{walk_of};
+ghost use Rattle.block_walk.specs.Made as made;
 ghost use Rattle.std.specs.Prelude.{◌≡◌, ◌||◌, not, true, false, IfOk, Some, drop};
 ghost use Rattle.truth_terms.specs.Truths.{Grew};
 ghost use Rattle.block_rule.specs.Deeds.{Code};
@@ -31,8 +34,9 @@ fn moved(
     skip: usize,
 ) -> Result<Cursor, Stop>
     requires { Grew old.now.terms new.now.terms }
-    ensures { IfOk result (λ n. (code : Code) → Meets new.now n code
+    ensures means { IfOk result (λ n. (code : Code) → Meets new.now n code
         → Meets new.now cursor (moved old.now.terms (plan_of known.now) (waits_of waiting.now) guard (drop skip ops.now) code)) }
+    ensures made { Told (λ n. n) result (made.moved old.now.terms new.now (plan_of known.now) (waits_of waiting.now) cursor guard ops.now skip) }
 {
     if skip > ops.len() {
         return Err(Stop::Differs);
@@ -60,8 +64,9 @@ fn moves(
     way: Way,
 ) -> Result<Cursor, Stop>
     requires { Grew old.now.terms new.now.terms }
-    ensures { IfOk result (λ n. (code : Code) → Meets new.now n code
+    ensures means { IfOk result (λ n. (code : Code) → Meets new.now n code
         → Meets new.now cursor (moved old.now.terms (plan_of known.now) (waits_of waiting.now) guard (moves_of old.now way) code)) }
+    ensures made { Told (λ n. n) result (made.moves old.now new.now (plan_of known.now) (waits_of waiting.now) cursor guard way) }
 {
     let edges = old.edges();
     if way.edge_at >= edges.len() {
@@ -122,7 +127,8 @@ fn goes_on(
 ) -> Result<Walk, Stop>
     requires grew { Grew old.now.terms new.now.terms }
     requires plain { some_draw (moves_of old.now way) ≡ false }
-    ensures { IfOk result (Finds new.now walk (goes old.now.terms (plan_of known.now) (state_of walk) guard (way_of old.now way))) }
+    ensures means { IfOk result (Finds new.now walk (goes old.now.terms (plan_of known.now) (state_of walk) guard (way_of old.now way))) }
+    ensures made { Told walk_of result (made.goes_on old.now new.now (plan_of known.now) (walk_of walk) guard way) }
 {
     let cursor = moves(old, new, known, &walk.waiting, walk.cursor, guard, way)?;
     let there = Walk {
@@ -156,7 +162,8 @@ fn drawn(
 ) -> Result<Walk, Stop>
     requires grew { Grew old.now.terms new.now.terms }
     requires draws { some_draw (moves_of old.now way) ≡ true }
-    ensures { IfOk result (Finds new.now walk (goes old.now.terms (plan_of known.now) (state_of walk) guard (way_of old.now way))) }
+    ensures means { IfOk result (Finds new.now walk (goes old.now.terms (plan_of known.now) (state_of walk) guard (way_of old.now way))) }
+    ensures made { Told walk_of result (made.drawn old.now new.now (plan_of known.now) (walk_of walk) guard way) }
 {
     if !no_waits(&walk.waiting) {
         return Err(Stop::Differs);
@@ -185,7 +192,8 @@ fn goes(
     way: Way,
 ) -> Result<Walk, Stop>
     requires { Grew old.now.terms new.now.terms }
-    ensures { IfOk result (Finds new.now walk (goes old.now.terms (plan_of known.now) (state_of walk) guard (way_of old.now way))) }
+    ensures means { IfOk result (Finds new.now walk (goes old.now.terms (plan_of known.now) (state_of walk) guard (way_of old.now way))) }
+    ensures made { Told walk_of result (made.goes old.now new.now (plan_of known.now) (walk_of walk) guard way) }
 {
     if draws(old, way) {
         drawn(alloc, old, new, known, walk, guard, way)
@@ -206,7 +214,8 @@ fn tested(
     way: Way,
 ) -> Result<Walk, Stop>
     requires { Grew old.now.terms new.now.terms }
-    ensures { IfOk result (Finds new.now walk (outwards old.now.terms (plan_of known.now) (state_of walk) guard (ways_of old.now (Tested test way)))) }
+    ensures means { IfOk result (Finds new.now walk (outwards old.now.terms (plan_of known.now) (state_of walk) guard (ways_of old.now (Tested test way)))) }
+    ensures made { Told walk_of result (made.tested old.now new.now (plan_of known.now) (walk_of walk) guard test way) }
 {
     let cell = walk.next;
     let there = saved(old, new, walk, Test::Under(guard, test))?;
@@ -227,7 +236,8 @@ fn checks(
     way: Way,
 ) -> Result<Walk, Stop>
     requires { Grew old.now.terms new.now.terms }
-    ensures { IfOk result (Finds new.now walk (outwards old.now.terms (plan_of known.now) (state_of walk) guard (ways_of old.now (Checked fails error passes way)))) }
+    ensures means { IfOk result (Finds new.now walk (outwards old.now.terms (plan_of known.now) (state_of walk) guard (ways_of old.now (Checked fails error passes way)))) }
+    ensures made { Told walk_of result (made.checks old.now new.now (plan_of known.now) (walk_of walk) guard fails error way) }
 {
     let there = checked(old, new, walk, error, Test::Under(guard, fails))?;
     goes(alloc, old, new, known, there, guard, way)
@@ -246,7 +256,8 @@ fn both_fail(
     other: u32,
 ) -> Result<Walk, Stop>
     requires { Grew old.now.terms new.now.terms }
-    ensures { IfOk result (Finds new.now walk (outwards old.now.terms (plan_of known.now) (state_of walk) guard (ways_of old.now (Fails fails error others other)))) }
+    ensures means { IfOk result (Finds new.now walk (outwards old.now.terms (plan_of known.now) (state_of walk) guard (ways_of old.now (Fails fails error others other)))) }
+    ensures made { Told walk_of result (made.both_fail old.now new.now (walk_of walk) guard fails error others other) }
 {
     let there = checked(old, new, walk, error, Test::Under(guard, fails))?;
     checked(old, new, there, other, Test::Under(guard, others))
@@ -266,7 +277,8 @@ fn forks(
     other: u32,
 ) -> Result<Walk, Stop>
     requires { Grew old.now.terms new.now.terms }
-    ensures { IfOk result (Finds new.now walk (outwards old.now.terms (plan_of known.now) (state_of walk) guard (ways_of old.now (Forks test one others other)))) }
+    ensures means { IfOk result (Finds new.now walk (outwards old.now.terms (plan_of known.now) (state_of walk) guard (ways_of old.now (Forks test one others other)))) }
+    ensures made { Told walk_of result (made.forks old.now new.now (plan_of known.now) (walk_of walk) guard test one others other) }
 {
     let under = Test::Under(guard, test);
     let there = leads(alloc, old, new, known, walk, one, false, under)?;
@@ -285,7 +297,8 @@ fn outwards(
     ways: Ways,
 ) -> Result<Walk, Stop>
     requires { Grew old.now.terms new.now.terms }
-    ensures { IfOk result (Finds new.now walk (outwards old.now.terms (plan_of known.now) (state_of walk) guard (ways_of old.now ways))) }
+    ensures means { IfOk result (Finds new.now walk (outwards old.now.terms (plan_of known.now) (state_of walk) guard (ways_of old.now ways))) }
+    ensures made { Told walk_of result (made.outwards old.now new.now (plan_of known.now) (walk_of walk) guard ways) }
 {
     match ways {
         Ways::Goes(way) => goes(alloc, old, new, known, walk, guard, way),
@@ -321,7 +334,8 @@ fn is_clear(walk: &Walk) -> bool
 
 /// A place that no longer waits.
 fn arrived(alloc: Global, walk: Walk, node: u32) -> Result<Walk, Stop>
-    ensures { IfOk result (λ w. (state_of w ≡ rule.left (state_of walk) node) × (w.cursor ≡ walk.cursor)) }
+    ensures means { IfOk result (λ w. (state_of w ≡ rule.left (state_of walk) node) × (w.cursor ≡ walk.cursor)) }
+    ensures made { Told walk_of result (Some (made.arrived (walk_of walk) node)) }
 {
     let waiting = without(alloc, &walk.waiting, node)?;
     Ok(Walk {
@@ -345,7 +359,8 @@ fn at_sure_place(
 ) -> Result<Walk, Stop>
     requires grew { Grew old.now.terms new.now.terms }
     requires clear { is_clear (state_of walk) ≡ true }
-    ensures { IfOk result (Finds new.now walk (λ rest. at_place old.now.terms (plan_of known.now) (state_of walk) (ways_of old.now ways) rest (Some guard))) }
+    ensures means { IfOk result (Finds new.now walk (λ rest. at_place old.now.terms (plan_of known.now) (state_of walk) (ways_of old.now ways) rest (Some guard))) }
+    ensures made { Told walk_of result (made.at_sure_place old.now new.now (plan_of known.now) (walk_of walk) guard ways) }
 {
     let cursor = certain(old, new, walk.cursor, walk.lost, guard)?;
     let there = Walk {
@@ -369,7 +384,8 @@ fn at_place(
     ways: Ways,
 ) -> Result<Walk, Stop>
     requires { Grew old.now.terms new.now.terms }
-    ensures { IfOk result (Finds new.now walk (λ rest. at_place old.now.terms (plan_of known.now) (state_of walk) (ways_of old.now ways) rest (Some guard))) }
+    ensures means { IfOk result (Finds new.now walk (λ rest. at_place old.now.terms (plan_of known.now) (state_of walk) (ways_of old.now ways) rest (Some guard))) }
+    ensures made { Told walk_of result (made.at_place old.now new.now (plan_of known.now) (walk_of walk) guard ways) }
 {
     if is_clear(&walk) {
         at_sure_place(alloc, old, new, known, walk, guard, ways)
@@ -388,7 +404,8 @@ fn placed(
     place: Place,
 ) -> Result<Walk, Stop>
     requires { Grew old.now.terms new.now.terms }
-    ensures { IfOk result (Finds new.now walk (placed old.now.terms (plan_of known.now) (state_of walk) (place_of old.now place))) }
+    ensures means { IfOk result (Finds new.now walk (placed old.now.terms (plan_of known.now) (state_of walk) (place_of old.now place))) }
+    ensures made { Told walk_of result (made.placed old.now new.now (plan_of known.now) (walk_of walk) place) }
 {
     let Some(guard) = found(&walk.waiting, place.node) else {
         return Err(Stop::Differs);
@@ -399,7 +416,8 @@ fn placed(
 
 /// At its first place a run surely is.
 fn started(alloc: Global, node: u32, next: u32, cursor: Cursor) -> Result<Walk, Stop>
-    ensures { IfOk result (λ w. (state_of w ≡ rule.start node next) × (w.cursor ≡ cursor)) }
+    ensures means { IfOk result (λ w. (state_of w ≡ rule.start node next) × (w.cursor ≡ cursor)) }
+    ensures made { Told walk_of result (Some (made.started node next cursor)) }
 {
     let mut waiting = Vec::new(alloc);
     waiting.push(Waiting { node, guard: None })?;
@@ -422,7 +440,8 @@ fn all_placed(
     places: &[Place],
 ) -> Result<Cursor, Stop>
     requires { Grew old.now.terms new.now.terms }
-    ensures { IfOk result (λ n. Meets new.now walk.cursor (rule.all_placed old.now.terms (plan_of known.now) (places_of old.now places.now) (state_of walk))) }
+    ensures means { IfOk result (λ n. Meets new.now walk.cursor (rule.all_placed old.now.terms (plan_of known.now) (places_of old.now places.now) (state_of walk))) }
+    ensures made { Told (λ n. n) result (made.all_placed old.now new.now (plan_of known.now) (walk_of walk) places.now) }
 {
     let mut at = walk;
     for number in 0..places.len() {
@@ -451,7 +470,8 @@ pub fn block(
     cursor: Cursor,
 ) -> Result<Cursor, Stop>
     requires { Grew old.now.terms new.now.terms }
-    ensures { IfOk result (λ n. Meets new.now cursor (all_of old.now.terms (plan_of known.now) (places_of old.now places.now) next)) }
+    ensures means { IfOk result (λ n. Meets new.now cursor (all_of old.now.terms (plan_of known.now) (places_of old.now places.now) next)) }
+    ensures made { Told (λ n. n) result (made.block old.now new.now (plan_of known.now) places.now next cursor) }
 {
     if places.is_empty() {
         return Err(Stop::Differs);

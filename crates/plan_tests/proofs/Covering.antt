@@ -3,8 +3,7 @@ use Rattle.std.proofs.Common.{◌≡◌, ℕ, ◌+◌, ◌/◌, ◌<◌, ◌≤�
 use Rattle.std.proofs.lemmas.Bool.{eqb-true}
 use Rattle.bv_term.specs.declared.term.TermId.{TermId}
 use Rattle.c_graph.specs.declared.graph.Operation.{Operation}
-use Rattle.plan_tables.specs.declared.units.Units.{Units}
-use Rattle.plan_tables.specs.Tables.{is_live_in, unit_at, units_of}
+use Rattle.plan_tables.specs.Tables.{UnitTable, is_live_in, unit_at, units_of}
 use Rattle.block_rule.specs.Tests.{ReadsOperand}
 use Rattle.walk_states.specs.declared.known.Known.{Known}
 use Rattle.walk_states.specs.Known.{has_unit, on_unit, plan_of}
@@ -68,7 +67,7 @@ pub spans : (known : Known) (k first last u : ℕ) → IsRising known.units → 
 spans known k first last u rising s t m c up down =
     on (has_unit (units_of known.reads k)) (unit_at known.units c) u (between known.units first c last u rising up down s t) m
 
-pub unit_there : (units : Units) (c u : ℕ) → on_unit (λ x. x == u) (unit_at units c) ≡ true → unit_at units c ≡ Some u
+pub unit_there : (units : UnitTable) (c u : ℕ) → on_unit (λ x. x == u) (unit_at units c) ≡ true → unit_at units c ≡ Some u
 unit_there units c u h =
     let (v, (s, m)) = marked (λ x. x == u) (unit_at units c) h in
     s ∙ ap (λ (y : ℕ). Some y) (eqb-true v u m)
@@ -86,8 +85,8 @@ some_there (o ∷ ops) zero op c s y =
     left (sets o c) (some_sets ops c) (ap (λ (z : Operation). sets z c) e ∙ y)
 some_there (o ∷ ops) (suc k) op c s y = right (sets o c) (some_sets ops c) (some_there ops k op c s y)
 
-pub killed : (units : Units) (ops : List Operation) (k : ℕ) (op : Operation) (unit : ℕ) → slice_get ops k ≡ Some op → KillsBy units op unit → Kills units ops unit
+pub killed : (units : UnitTable) (ops : List Operation) (k : ℕ) (op : Operation) (unit : ℕ) → slice_get ops k ≡ Some op → KillsBy units op unit → Kills units ops unit
 killed units ops k op unit s h c f = some_there ops k op c s (h c f)
 
-pub alone_kills : (units : Units) (d unit : ℕ) → IsAlone units d unit → (c : ℕ) → unit_at units c ≡ Some unit → (c == d) ≡ true
+pub alone_kills : (units : UnitTable) (d unit : ℕ) → IsAlone units d unit → (c : ℕ) → unit_at units c ≡ Some unit → (c == d) ≡ true
 alone_kills units d unit h c s = eq-eqb c d (h c s)

@@ -1,4 +1,5 @@
-pub mod Flowing
-pub mod Uniting
 pub mod Covering
+pub mod Deciding
+pub mod Flowing
 pub mod Passing
+pub mod Uniting

@@ -4,8 +4,7 @@ use Rattle.bv_term.specs.declared.term.TermId.{TermId}
 use Rattle.c_graph.specs.declared.graph.Operation.{Operation}
 use Rattle.c_graph.specs.declared.graph.Operation.TheVariants.{Assume, Set, SetAt, Draw}
 use Rattle.c_graph.specs.declared.graph.Edge.{Edge}
-use Rattle.plan_tables.specs.declared.units.Units.{Units}
-use Rattle.plan_tables.specs.Tables.{bit_in, is_live_in, unit_at}
+use Rattle.plan_tables.specs.Tables.{UnitTable, bit_in, is_live_in, unit_at}
 use Rattle.block_rule.specs.Plans.{Plan, matters}
 use Rattle.block_rule.specs.Blocked.{Flows}
 use Rattle.walk_states.specs.declared.known.Known.{Known}
@@ -50,10 +49,10 @@ abbrev pub AllFlow : Plan → List Edge → Type 0
 AllFlow plan edges = (k : ℕ) (e : Edge) → slice_get edges k ≡ Some e → matters plan e.to.0 ≡ true → Flows plan e
 
 -- The same by units. An operation sets each cell of a unit, so does one of several
-abbrev pub KillsBy : Units → Operation → ℕ → Type 0
+abbrev pub KillsBy : UnitTable → Operation → ℕ → Type 0
 KillsBy units op unit = (c : ℕ) → unit_at units c ≡ Some unit → sets op c ≡ true
 
-abbrev pub Kills : Units → List Operation → ℕ → Type 0
+abbrev pub Kills : UnitTable → List Operation → ℕ → Type 0
 Kills units ops unit = (c : ℕ) → unit_at units c ≡ Some unit → some_sets ops c ≡ true
 
 -- each cell of the unit is read from the node on, or set

@@ -3,6 +3,7 @@ ghost use Rattle.std.specs.Prelude.{◌≡◌, ◌≤◌, IsTrue, Some, slice_ge
 ghost use Rattle.block_rule.specs.Blocked.{Flows};
 ghost use Rattle.block_rule.specs.Plans as plans;
 ghost use Rattle.walk_states.specs.Known.{plan_of};
+ghost use Rattle.plan_tests.specs.Made as made;
 ghost use Rattle.plan_tests.specs.Cells.{AreUnits, IsRising};
 ghost use Rattle.plan_tests.specs.Flow.{AllCovered, AllFlow, AllReadsFlow, HasBits, IsCovered, IsKept, IsKeptBelow, IsWordKept, Kills, KillsBy, ReadsFlow, StaysLive, TermFlows};
 
@@ -15,7 +16,8 @@ use walk_states::{Known, matters};
 /// Whether what each edge to a node that matters needs is read from its node on; there being so many units.
 pub(crate) fn all_flow(known: &Known, edges: &[Edge], count: u32) -> bool
     requires { AreUnits known.now.units count }
-    ensures { IsTrue result → AllFlow (plan_of known.now) edges.now }
+    ensures tells { IsTrue result → AllFlow (plan_of known.now) edges.now }
+    ensures made { result ≡ made.all_flow known.now edges.now count }
 {
     for number in 0..edges.len() {
         if !flows_to(known, &edges[number], count) {
@@ -27,14 +29,16 @@ pub(crate) fn all_flow(known: &Known, edges: &[Edge], count: u32) -> bool
 
 fn flows_to(known: &Known, edge: &Edge, count: u32) -> bool
     requires { AreUnits known.now.units count }
-    ensures { IsTrue result → plans.matters (plan_of known.now) edge.now.to.0 ≡ true → Flows (plan_of known.now) edge.now }
+    ensures tells { IsTrue result → plans.matters (plan_of known.now) edge.now.to.0 ≡ true → Flows (plan_of known.now) edge.now }
+    ensures made { result ≡ made.flows_to known.now count edge.now }
 {
     !matters(known, edge.to.0) || flows(known, edge, count)
 }
 
 fn flows(known: &Known, edge: &Edge, count: u32) -> bool
     requires { AreUnits known.now.units count }
-    ensures { IsTrue result → Flows (plan_of known.now) edge.now }
+    ensures tells { IsTrue result → Flows (plan_of known.now) edge.now }
+    ensures made { result ≡ made.flows known.now count edge.now }
 {
     let ops = edge.ops.as_slice();
     all_reads_flow(known, edge.from.0, ops) && stays_live(known, edge.from.0, ops, edge.to.0, count)
@@ -43,7 +47,8 @@ fn flows(known: &Known, edge: &Edge, count: u32) -> bool
 /// Whether what each operation reads is read from the node on, or an earlier operation sets it.
 fn all_reads_flow(known: &Known, node: u32, ops: &[Operation]) -> bool
     requires { IsRising known.now.units }
-    ensures { IsTrue result → AllReadsFlow (plan_of known.now) node ops.now }
+    ensures tells { IsTrue result → AllReadsFlow (plan_of known.now) node ops.now }
+    ensures made { result ≡ made.all_reads_flow known.now node ops.now }
 {
     for number in 0..ops.len() {
         if !reads_flow(known, node, &ops[..number], ops[number]) {
@@ -55,7 +60,8 @@ fn all_reads_flow(known: &Known, node: u32, ops: &[Operation]) -> bool
 
 fn reads_flow(known: &Known, node: u32, before: &[Operation], operation: Operation) -> bool
     requires { IsRising known.now.units }
-    ensures { IsTrue result → ReadsFlow (plan_of known.now) node before.now operation }
+    ensures tells { IsTrue result → ReadsFlow (plan_of known.now) node before.now operation }
+    ensures made { result ≡ made.reads_flow known.now node before.now operation }
 {
     match operation {
         Operation::Assume(term) => term_flows(known, node, before, term),
@@ -70,14 +76,16 @@ fn reads_flow(known: &Known, node: u32, before: &[Operation], operation: Operati
 /// Whether what a term reads is read from the node on, or one of these operations sets it.
 fn term_flows(known: &Known, node: u32, before: &[Operation], term: TermId) -> bool
     requires { IsRising known.now.units }
-    ensures { IsTrue result → TermFlows (plan_of known.now) node before.now term }
+    ensures tells { IsTrue result → TermFlows (plan_of known.now) node before.now term }
+    ensures made { result ≡ made.term_flows known.now node before.now term }
 {
     all_covered(known, node, before, known.reads.of(term))
 }
 
 fn all_covered(known: &Known, node: u32, before: &[Operation], units: &[u32]) -> bool
     requires { IsRising known.now.units }
-    ensures { IsTrue result → AllCovered known.now node before.now units.now }
+    ensures tells { IsTrue result → AllCovered known.now node before.now units.now }
+    ensures made { result ≡ made.all_covered known.now node before.now units.now }
 {
     for number in 0..units.len() {
         if !is_covered(known, node, before, units[number]) {
@@ -91,14 +99,16 @@ fn all_covered(known: &Known, node: u32, before: &[Operation], units: &[u32]) ->
 /// Where it is not known what is read, each cell is, from each node on.
 fn stays_live(known: &Known, from: u32, ops: &[Operation], to: u32, count: u32) -> bool
     requires { AreUnits known.now.units count }
-    ensures { IsTrue result → StaysLive (plan_of known.now) from ops.now to }
+    ensures tells { IsTrue result → StaysLive (plan_of known.now) from ops.now to }
+    ensures made { result ≡ made.stays_live known.now from ops.now to count }
 {
     !known.live.is_known() || all_kept(known, from, ops, to, count)
 }
 
 fn all_kept(known: &Known, from: u32, ops: &[Operation], to: u32, count: u32) -> bool
     requires { IsRising known.now.units }
-    ensures { IsTrue result → IsKeptBelow known.now from ops.now to count }
+    ensures tells { IsTrue result → IsKeptBelow known.now from ops.now to count }
+    ensures made { result ≡ made.all_kept known.now from ops.now to count }
 {
     for number in 0..count / 64 + 1 {
         if !is_word_kept(known, from, ops, to, number) {
@@ -112,7 +122,8 @@ fn all_kept(known: &Known, from: u32, ops: &[Operation], to: u32, count: u32) ->
 fn is_word_kept(known: &Known, from: u32, ops: &[Operation], to: u32, number: u32) -> bool
     requires rising { IsRising known.now.units }
     requires few { number ≤ 67108863 }
-    ensures { IsTrue result → IsWordKept known.now from ops.now to number }
+    ensures tells { IsTrue result → IsWordKept known.now from ops.now to number }
+    ensures made { result ≡ made.is_word_kept known.now from ops.now to number }
 {
     has_word(known.live.words(from), known.live.words(to), number)
         || are_bits_kept(known, from, ops, to, number)
@@ -120,7 +131,8 @@ fn is_word_kept(known: &Known, from: u32, ops: &[Operation], to: u32, number: u3
 
 /// Whether the first row has the second one's word of this number, or there is none.
 fn has_word(row: &[u64], other: &[u64], number: u32) -> bool
-    ensures { IsTrue result → HasBits (slice_get row.now number) (slice_get other.now number) }
+    ensures tells { IsTrue result → HasBits (slice_get row.now number) (slice_get other.now number) }
+    ensures made { result ≡ made.has_word row.now other.now number }
 {
     match other.get(number as usize) {
         None => true,
@@ -129,7 +141,8 @@ fn has_word(row: &[u64], other: &[u64], number: u32) -> bool
 }
 
 fn is_word(row: &[u64], number: u32, word: u64) -> bool
-    ensures { IsTrue result → slice_get row.now number ≡ Some word }
+    ensures tells { IsTrue result → slice_get row.now number ≡ Some word }
+    ensures made { result ≡ made.is_word row.now number word }
 {
     match row.get(number as usize) {
         None => false,
@@ -140,7 +153,8 @@ fn is_word(row: &[u64], number: u32, word: u64) -> bool
 fn are_bits_kept(known: &Known, from: u32, ops: &[Operation], to: u32, number: u32) -> bool
     requires rising { IsRising known.now.units }
     requires few { number ≤ 67108863 }
-    ensures { IsTrue result → IsWordKept known.now from ops.now to number }
+    ensures tells { IsTrue result → IsWordKept known.now from ops.now to number }
+    ensures made { result ≡ made.are_bits_kept known.now from ops.now to number }
 {
     for bit in 0..64 {
         if !is_kept(known, from, ops, to, number * 64 + bit) {
@@ -152,7 +166,8 @@ fn are_bits_kept(known: &Known, from: u32, ops: &[Operation], to: u32, number: u
 
 fn is_kept(known: &Known, from: u32, ops: &[Operation], to: u32, unit: u32) -> bool
     requires { IsRising known.now.units }
-    ensures { IsTrue result → IsKept known.now from ops.now to unit }
+    ensures tells { IsTrue result → IsKept known.now from ops.now to unit }
+    ensures made { result ≡ made.is_kept known.now from ops.now to unit }
 {
     !known.live.is_live(to, unit) || is_covered(known, from, ops, unit)
 }
@@ -160,7 +175,8 @@ fn is_kept(known: &Known, from: u32, ops: &[Operation], to: u32, unit: u32) -> b
 /// Whether a unit is read from the node on, or one of these operations sets its only cell.
 fn is_covered(known: &Known, node: u32, ops: &[Operation], unit: u32) -> bool
     requires { IsRising known.now.units }
-    ensures { IsTrue result → IsCovered known.now node ops.now unit }
+    ensures tells { IsTrue result → IsCovered known.now node ops.now unit }
+    ensures made { result ≡ made.is_covered known.now node ops.now unit }
 {
     known.live.is_live(node, unit) || is_killed(&known.units, ops, unit)
 }
@@ -168,7 +184,8 @@ fn is_covered(known: &Known, node: u32, ops: &[Operation], unit: u32) -> bool
 /// Whether one of these operations sets the only cell of a unit.
 fn is_killed(units: &Units, ops: &[Operation], unit: u32) -> bool
     requires { IsRising units.now }
-    ensures { IsTrue result → Kills units.now ops.now unit }
+    ensures tells { IsTrue result → Kills units.now ops.now unit }
+    ensures made { result ≡ made.is_killed units.now ops.now unit }
 {
     for number in 0..ops.len() {
         if kills(units, ops[number], unit) {
@@ -180,7 +197,8 @@ fn is_killed(units: &Units, ops: &[Operation], unit: u32) -> bool
 
 fn kills(units: &Units, operation: Operation, unit: u32) -> bool
     requires { IsRising units.now }
-    ensures { IsTrue result → KillsBy units.now operation unit }
+    ensures tells { IsTrue result → KillsBy units.now operation unit }
+    ensures made { result ≡ made.kills units.now unit operation }
 {
     match operation {
         Operation::Set(cell, _) => is_alone(units, cell, unit),

@@ -1,7 +1,8 @@
 //! All tests of a plan.
-ghost use Rattle.std.specs.Prelude.{IsTrue};
+ghost use Rattle.std.specs.Prelude.{◌≡◌, IsTrue};
 ghost use Rattle.block_rule.specs.Blocked.{IsPlan};
 ghost use Rattle.walk_states.specs.Known.{plan_of};
+ghost use Rattle.plan_tests.specs.Made as made;
 ghost use Rattle.plan_tests.specs.Nodes.{IsEntry};
 
 use crate::cells::are_units;
@@ -15,7 +16,8 @@ use walk_states::Known;
 /// with their operations and the terms, each with the units of cells at most: an edge with a 64th of the units where nearly the same is
 /// read from both its nodes on, and with none where what is read is not known.
 pub fn is_plan(graph: &Graph, known: &Known) -> bool
-    ensures { IsTrue result → IsPlan graph.now (plan_of known.now) }
+    ensures tells { IsTrue result → IsPlan graph.now (plan_of known.now) }
+    ensures made { result ≡ made.is_plan graph.now known.now }
 {
     let cells = graph.cells().len() as u32;
     let Ok(count) = u32::try_from(known.units.count()) else {
@@ -35,7 +37,8 @@ pub fn is_plan(graph: &Graph, known: &Known) -> bool
 
 /// Whether the entry is reached, and a cut point.
 fn is_entry(known: &Known, entry: NodeId) -> bool
-    ensures { IsTrue result → IsEntry (plan_of known.now) entry }
+    ensures tells { IsTrue result → IsEntry (plan_of known.now) entry }
+    ensures made { result ≡ made.is_entry known.now entry }
 {
     known.reached.get(entry.0) && known.cuts.get(entry.0)
 }

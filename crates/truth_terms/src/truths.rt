@@ -2,6 +2,7 @@ ghost use Rattle.std.specs.Prelude.{ℕ, ◌≡◌, ◌<◌, ◌==◌, ◌&&◌,
 ghost use Rattle.bv_term.specs.declared.term.Term.TheVariants.{And, Cell, Not, Or, Select};
 ghost use Rattle.bv_term.specs.WellFormed.{IsTable, widths};
 ghost use Rattle.bv_term.specs.Values.{value};
+ghost use Rattle.truth_terms.specs.Made as made;
 ghost use Rattle.truth_terms.specs.Truths.{Grew, IsBit, IsOneWide, Means, is_one};
 
 use bv_term::{Term, TermId, Terms};
@@ -10,6 +11,7 @@ use bv_term::{Term, TermId, Terms};
 fn term_at(terms: &Terms, term: TermId) -> Option<Term>
     ensures table { IsTable terms.now }
     ensures found { IfSome result (λ u. slice_get terms.now.terms term.0 ≡ Some u) }
+    ensures made { result ≡ made.term_at terms.now term }
 {
     if term.0 < terms.count() {
         Some(terms.get(term))
@@ -20,13 +22,15 @@ fn term_at(terms: &Terms, term: TermId) -> Option<Term>
 
 /// Whether the term is there and has one bit.
 pub fn is_one_wide(terms: &Terms, term: TermId) -> bool
-    ensures { IsTrue result → IsOneWide terms.now term }
+    ensures means { IsTrue result → IsOneWide terms.now term }
+    ensures made { result ≡ made.is_one_wide terms.now term }
 {
     term.0 < terms.count() && terms.width_of(term) == 1
 }
 
 fn cell_of(terms: &Terms, term: TermId) -> Option<u32>
-    ensures { IfSome result (λ c. IsTable terms.now × (slice_get terms.now.terms term.0 ≡ Some (Cell c))) }
+    ensures means { IfSome result (λ c. IsTable terms.now × (slice_get terms.now.terms term.0 ≡ Some (Cell c))) }
+    ensures made { result ≡ made.cell_of terms.now term }
 {
     match term_at(terms, term) {
         Some(Term::Cell(cell)) => Some(cell),
@@ -36,7 +40,8 @@ fn cell_of(terms: &Terms, term: TermId) -> Option<u32>
 
 /// Whether the term is the bit of a cell.
 pub fn is_cell_bit(terms: &Terms, term: TermId, cell: u32) -> bool
-    ensures { IsTrue result → IsBit terms.now term (is_one cell) }
+    ensures means { IsTrue result → IsBit terms.now term (is_one cell) }
+    ensures made { result ≡ made.is_cell_bit terms.now term cell }
 {
     match cell_of(terms, term) {
         None => false,
@@ -46,7 +51,8 @@ pub fn is_cell_bit(terms: &Terms, term: TermId, cell: u32) -> bool
 
 fn is_bit_of(terms: &Terms, term: TermId, found: u32, cell: u32) -> bool
     requires { IsTable terms.now × (slice_get terms.now.terms term.0 ≡ Some (Cell found)) }
-    ensures { IsTrue result → IsBit terms.now term (is_one cell) }
+    ensures means { IsTrue result → IsBit terms.now term (is_one cell) }
+    ensures made { result ≡ made.is_bit_of terms.now term found cell }
 {
     if found != cell {
         return false;
@@ -57,7 +63,8 @@ fn is_bit_of(terms: &Terms, term: TermId, found: u32, cell: u32) -> bool
 /// Whether the term is one of the old table.
 pub fn is_old(old: &Terms, terms: &Terms, term: TermId) -> bool
     requires { Grew old.now terms.now }
-    ensures { IsTrue result → Means terms.now term (λ s. value old.now s term) }
+    ensures means { IsTrue result → Means terms.now term (λ s. value old.now s term) }
+    ensures made { result ≡ made.is_old old.now term }
 {
     term.0 < old.count()
 }
@@ -65,7 +72,8 @@ pub fn is_old(old: &Terms, terms: &Terms, term: TermId) -> bool
 /// Whether the term is one of the old table, and has one bit.
 pub fn is_old_bit(old: &Terms, terms: &Terms, term: TermId) -> bool
     requires { Grew old.now terms.now }
-    ensures { IsTrue result → IsBit terms.now term (λ s. value old.now s term == 1) }
+    ensures means { IsTrue result → IsBit terms.now term (λ s. value old.now s term == 1) }
+    ensures made { result ≡ made.is_old_bit old.now terms.now term }
 {
     let _count = terms.count();
     if term.0 >= old.count() {
@@ -76,7 +84,8 @@ pub fn is_old_bit(old: &Terms, terms: &Terms, term: TermId) -> bool
 
 /// Whether the term is the bit 1.
 pub fn is_one_bit(terms: &Terms, term: TermId) -> bool
-    ensures { IsTrue result → IsBit terms.now term (λ s. true) }
+    ensures means { IsTrue result → IsBit terms.now term (λ s. true) }
+    ensures made { result ≡ made.is_one_bit terms.now term }
 {
     match term_at(terms, term) {
         Some(Term::Constant(_, 1)) => true,
@@ -87,7 +96,8 @@ pub fn is_one_bit(terms: &Terms, term: TermId) -> bool
 /// Whether the term is 1 where a cell is and an old term is.
 pub fn is_bit_under(old: &Terms, terms: &Terms, term: TermId, cell: u32, test: TermId) -> bool
     requires { Grew old.now terms.now }
-    ensures { IsTrue result → IsBit terms.now term (λ s. is_one cell s && value old.now s test == 1) }
+    ensures means { IsTrue result → IsBit terms.now term (λ s. is_one cell s && value old.now s test == 1) }
+    ensures made { result ≡ made.is_bit_under old.now terms.now term cell test }
 {
     match term_at(terms, term) {
         Some(Term::And(first, second)) => is_both(old, terms, term, first, second, cell, test),
@@ -106,7 +116,8 @@ fn is_both(
 ) -> bool
     requires grew { Grew old.now terms.now }
     requires found { IsTable terms.now × (slice_get terms.now.terms term.0 ≡ Some (And first second)) }
-    ensures { IsTrue result → IsBit terms.now term (λ s. is_one cell s && value old.now s test == 1) }
+    ensures means { IsTrue result → IsBit terms.now term (λ s. is_one cell s && value old.now s test == 1) }
+    ensures made { result ≡ made.is_both old.now terms.now first second cell test }
 {
     if second.0 != test.0 {
         return false;
@@ -119,7 +130,8 @@ fn is_both(
 
 /// The other part of a term that is 1 where a cell is or that part is.
 pub fn is_added(terms: &Terms, term: TermId, cell: u32) -> Option<TermId>
-    ensures { IfSome result (λ t. (p : List ℕ → Bool) → IsBit terms.now t p → IsBit terms.now term (λ s. is_one cell s || p s)) }
+    ensures means { IfSome result (λ t. (p : List ℕ → Bool) → IsBit terms.now t p → IsBit terms.now term (λ s. is_one cell s || p s)) }
+    ensures made { result ≡ made.is_added terms.now term cell }
 {
     match term_at(terms, term) {
         Some(Term::Or(first, second)) => added(terms, term, first, second, cell),
@@ -129,7 +141,8 @@ pub fn is_added(terms: &Terms, term: TermId, cell: u32) -> Option<TermId>
 
 fn added(terms: &Terms, term: TermId, first: TermId, second: TermId, cell: u32) -> Option<TermId>
     requires { IsTable terms.now × (slice_get terms.now.terms term.0 ≡ Some (Or first second)) }
-    ensures { IfSome result (λ t. (p : List ℕ → Bool) → IsBit terms.now t p → IsBit terms.now term (λ s. is_one cell s || p s)) }
+    ensures means { IfSome result (λ t. (p : List ℕ → Bool) → IsBit terms.now t p → IsBit terms.now term (λ s. is_one cell s || p s)) }
+    ensures made { result ≡ made.added terms.now first second cell }
 {
     if !is_cell_bit(terms, first, cell) {
         return None;
@@ -139,7 +152,8 @@ fn added(terms: &Terms, term: TermId, first: TermId, second: TermId, cell: u32) 
 
 /// Whether the first term is the complement of the second.
 pub fn is_not(terms: &Terms, term: TermId, other: TermId) -> bool
-    ensures { IsTrue result → (p : List ℕ → Bool) → IsBit terms.now other p → IsBit terms.now term (λ s. not (p s)) }
+    ensures means { IsTrue result → (p : List ℕ → Bool) → IsBit terms.now other p → IsBit terms.now term (λ s. not (p s)) }
+    ensures made { result ≡ made.is_not terms.now term other }
 {
     match term_at(terms, term) {
         Some(Term::Not(found)) => is_complement(terms, term, found, other),
@@ -149,7 +163,8 @@ pub fn is_not(terms: &Terms, term: TermId, other: TermId) -> bool
 
 fn is_complement(terms: &Terms, term: TermId, found: TermId, other: TermId) -> bool
     requires { IsTable terms.now × (slice_get terms.now.terms term.0 ≡ Some (Not found)) }
-    ensures { IsTrue result → (p : List ℕ → Bool) → IsBit terms.now other p → IsBit terms.now term (λ s. not (p s)) }
+    ensures means { IsTrue result → (p : List ℕ → Bool) → IsBit terms.now other p → IsBit terms.now term (λ s. not (p s)) }
+    ensures made { result ≡ made.is_complement terms.now found other }
 {
     if found.0 != other.0 {
         return false;
@@ -167,7 +182,8 @@ pub fn is_chosen(
     cell: u32,
 ) -> bool
     requires { Grew old.now terms.now }
-    ensures { IsTrue result → Means terms.now term (λ s. if is_one test s then value old.now s chosen else slice_index s cell) }
+    ensures means { IsTrue result → Means terms.now term (λ s. if is_one test s then value old.now s chosen else slice_index s cell) }
+    ensures made { result ≡ made.is_chosen old.now terms.now term test chosen cell }
 {
     match choice_of(old, terms, term, test, chosen) {
         None => false,
@@ -185,7 +201,8 @@ pub fn is_chosen_index(
     number: u32,
 ) -> bool
     requires { Grew old.now terms.now }
-    ensures { IsTrue result → Means terms.now term (λ s. if is_one test s then value old.now s chosen else number) }
+    ensures means { IsTrue result → Means terms.now term (λ s. if is_one test s then value old.now s chosen else number) }
+    ensures made { result ≡ made.is_chosen_index old.now terms.now term test chosen number }
 {
     match choice_of(old, terms, term, test, chosen) {
         None => false,
@@ -196,7 +213,8 @@ pub fn is_chosen_index(
 // The last part of a term that has an old term's value where a cell is 1, and else that of this part.
 fn choice_of(old: &Terms, terms: &Terms, term: TermId, test: u32, chosen: TermId) -> Option<TermId>
     requires { Grew old.now terms.now }
-    ensures { IfSome result (λ t. (f : List ℕ → ℕ) → Means terms.now t f → Means terms.now term (λ s. if is_one test s then value old.now s chosen else f s)) }
+    ensures means { IfSome result (λ t. (f : List ℕ → ℕ) → Means terms.now t f → Means terms.now term (λ s. if is_one test s then value old.now s chosen else f s)) }
+    ensures made { result ≡ made.choice_of old.now terms.now term test chosen }
 {
     match term_at(terms, term) {
         Some(Term::Select(bit, first, second)) => {
@@ -218,7 +236,8 @@ fn choice_in(
 ) -> Option<TermId>
     requires grew { Grew old.now terms.now }
     requires found { IsTable terms.now × (slice_get terms.now.terms term.0 ≡ Some (Select bit first second)) }
-    ensures { IfSome result (λ t. (f : List ℕ → ℕ) → Means terms.now t f → Means terms.now term (λ s. if is_one test s then value old.now s chosen else f s)) }
+    ensures means { IfSome result (λ t. (f : List ℕ → ℕ) → Means terms.now t f → Means terms.now term (λ s. if is_one test s then value old.now s chosen else f s)) }
+    ensures made { result ≡ made.choice_in old.now terms.now bit first second test chosen }
 {
     if first.0 != chosen.0 {
         return None;
@@ -233,7 +252,8 @@ fn choice_in(
 }
 
 fn is_cell(terms: &Terms, term: TermId, cell: u32) -> bool
-    ensures { IsTrue result → Means terms.now term (λ s. slice_index s cell) }
+    ensures means { IsTrue result → Means terms.now term (λ s. slice_index s cell) }
+    ensures made { result ≡ made.is_cell terms.now term cell }
 {
     match term_at(terms, term) {
         Some(Term::Cell(found)) => found == cell,
@@ -242,7 +262,8 @@ fn is_cell(terms: &Terms, term: TermId, cell: u32) -> bool
 }
 
 fn is_number(terms: &Terms, term: TermId, number: u32) -> bool
-    ensures { IsTrue result → Means terms.now term (λ s. number) }
+    ensures means { IsTrue result → Means terms.now term (λ s. number) }
+    ensures made { result ≡ made.is_number terms.now term number }
 {
     match term_at(terms, term) {
         Some(Term::Constant(_, found)) => found == number as u128,

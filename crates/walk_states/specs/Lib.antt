@@ -1,2 +1,4 @@
 pub mod Known
 pub mod Walks
+pub mod Told
+pub mod Made

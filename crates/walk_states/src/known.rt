@@ -1,4 +1,5 @@
 //! What is known of a graph's places, and what is asked of it on a walk.
+ghost use Rattle.walk_states.specs.Made as made;
 ghost use Rattle.std.specs.Prelude.{ℕ, ◌≡◌, ◌<◌, drop};
 ghost use Rattle.bv_term.specs.WellFormed.{Table};
 ghost use Rattle.block_rule.specs.Plans as plans;
@@ -78,7 +79,8 @@ pub fn guard_for(
     guard: Option<u32>,
     operation: Operation,
 ) -> Option<u32>
-    ensures { (table : Table) → guarded table result operation ≡ deed_of table (plan_of known.now) (waits_of waiting.now) guard operation }
+    ensures means { (table : Table) → guarded table result operation ≡ deed_of table (plan_of known.now) (waits_of waiting.now) guard operation }
+    ensures made { result ≡ made.guard_for (plan_of known.now) (waits_of waiting.now) guard operation }
 {
     match operation {
         Operation::Assume(_) | Operation::Draw(_, _) => guard,

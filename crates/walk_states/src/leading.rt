@@ -1,4 +1,7 @@
 //! Where a place leads to on a walk.
+ghost use Rattle.walk_states.specs.Made as made;
+ghost use Rattle.walk_states.specs.Made.{walk_of};
+ghost use Rattle.walk_states.specs.Told.{Told};
 ghost use Rattle.std.specs.Prelude.{◌≡◌, ◌+◌, ◌||◌, IfOk, None, Some};
 ghost use Rattle.bv_term.specs.Numbers.{truth};
 ghost use Rattle.truth_terms.specs.Truths.{Grew};
@@ -18,7 +21,8 @@ use std::alloc::Global;
 
 /// One more.
 fn next_of(number: u32) -> Result<u32, Stop>
-    ensures { IfOk result (λ n. n ≡ number + 1) }
+    ensures means { IfOk result (λ n. n ≡ number + 1) }
+    ensures made { Told (λ n. n) result (made.next_of number) }
 {
     if number == u32::MAX {
         return Err(Stop::Differs);
@@ -29,7 +33,8 @@ fn next_of(number: u32) -> Result<u32, Stop>
 /// A place that waits under a guard gets one more way.
 fn added(old: &Graph, new: &Graph, walk: Walk, cell: u32, test: Test) -> Result<Walk, Stop>
     requires { Grew old.now.terms new.now.terms }
-    ensures { IfOk result (Finds new.now walk (λ rest. Does (Sets cell (λ s. truth (is_set cell s || holds old.now.terms test s))) (rest (state_of walk)))) }
+    ensures means { IfOk result (Finds new.now walk (λ rest. Does (Sets cell (λ s. truth (is_set cell s || holds old.now.terms test s))) (rest (state_of walk)))) }
+    ensures made { Told walk_of result (made.added old.now.terms new.now (walk_of walk) cell test) }
 {
     let Some(cursor) = adds(old.terms(), new, walk.cursor, cell, test) else {
         return Err(Stop::Differs);
@@ -53,7 +58,8 @@ fn entered(
     test: Test,
 ) -> Result<Walk, Stop>
     requires { Grew old.now.terms new.now.terms }
-    ensures { IfOk result (Finds new.now walk (λ rest. Does (Sets walk.next (λ s. truth (holds old.now.terms test s))) (rest (with_place (state_of walk) to)))) }
+    ensures means { IfOk result (Finds new.now walk (λ rest. Does (Sets walk.next (λ s. truth (holds old.now.terms test s))) (rest (with_place (state_of walk) to)))) }
+    ensures made { Told walk_of result (made.entered old.now.terms new.now (walk_of walk) to test) }
 {
     let Some(cursor) = sets(old.terms(), new, walk.cursor, walk.next, test) else {
         return Err(Stop::Differs);
@@ -71,7 +77,8 @@ fn entered(
 
 /// A place waits surely.
 fn surely(alloc: Global, walk: Walk, to: u32) -> Result<Walk, Stop>
-    ensures { IfOk result (λ w. (state_of w ≡ with_sure (state_of walk) to) × (w.cursor ≡ walk.cursor)) }
+    ensures means { IfOk result (λ w. (state_of w ≡ with_sure (state_of walk) to) × (w.cursor ≡ walk.cursor)) }
+    ensures made { Told walk_of result (Some (made.surely (walk_of walk) to)) }
 {
     let waiting = with_wait(alloc, &walk.waiting, to, None)?;
     Ok(Walk {
@@ -95,7 +102,8 @@ fn begun(
     test: Test,
 ) -> Result<Walk, Stop>
     requires { Grew old.now.terms new.now.terms }
-    ensures { IfOk result (Finds new.now walk (λ rest. waits (plan_of known.now) (state_of walk) to sure (holds old.now.terms test) rest None)) }
+    ensures means { IfOk result (Finds new.now walk (λ rest. waits (plan_of known.now) (state_of walk) to sure (holds old.now.terms test) rest None)) }
+    ensures made { Told walk_of result (made.begun old.now.terms new.now (plan_of known.now) (walk_of walk) to sure test) }
 {
     if sure && !is_cut(known, to) {
         surely(alloc, walk, to)
@@ -116,7 +124,8 @@ fn waits_more(
     guard: Option<u32>,
 ) -> Result<Walk, Stop>
     requires { Grew old.now.terms new.now.terms }
-    ensures { IfOk result (Finds new.now walk (λ rest. waits (plan_of known.now) (state_of walk) to sure (holds old.now.terms test) rest (Some guard))) }
+    ensures means { IfOk result (Finds new.now walk (λ rest. waits (plan_of known.now) (state_of walk) to sure (holds old.now.terms test) rest (Some guard))) }
+    ensures made { Told walk_of result (made.waits_more old.now.terms new.now (walk_of walk) test guard) }
 {
     match guard {
         None => Ok(walk),
@@ -137,7 +146,8 @@ fn waits_at(
     place: Option<Option<u32>>,
 ) -> Result<Walk, Stop>
     requires { Grew old.now.terms new.now.terms }
-    ensures { IfOk result (Finds new.now walk (λ rest. waits (plan_of known.now) (state_of walk) to sure (holds old.now.terms test) rest place)) }
+    ensures means { IfOk result (Finds new.now walk (λ rest. waits (plan_of known.now) (state_of walk) to sure (holds old.now.terms test) rest place)) }
+    ensures made { Told walk_of result (made.waits_at old.now.terms new.now (plan_of known.now) (walk_of walk) to sure test place) }
 {
     match place {
         Some(guard) => waits_more(old, new, known, walk, to, sure, test, guard),
@@ -157,7 +167,8 @@ fn waits(
     test: Test,
 ) -> Result<Walk, Stop>
     requires { Grew old.now.terms new.now.terms }
-    ensures { IfOk result (Finds new.now walk (λ rest. waits (plan_of known.now) (state_of walk) to sure (holds old.now.terms test) rest (found (waits_of walk.waiting.items) to))) }
+    ensures means { IfOk result (Finds new.now walk (λ rest. waits (plan_of known.now) (state_of walk) to sure (holds old.now.terms test) rest (found (waits_of walk.waiting.items) to))) }
+    ensures made { Told walk_of result (made.waits old.now.terms new.now (plan_of known.now) (walk_of walk) to sure test) }
 {
     let place = found(&walk.waiting, to);
     waits_at(alloc, old, new, known, walk, to, sure, test, place)
@@ -165,7 +176,8 @@ fn waits(
 
 /// A run may be lost.
 fn losing(walk: Walk) -> Walk
-    ensures { (state_of result ≡ rule.losing (state_of walk)) × (result.cursor ≡ walk.cursor) }
+    ensures means { (state_of result ≡ rule.losing (state_of walk)) × (result.cursor ≡ walk.cursor) }
+    ensures made { walk_of result ≡ made.losing (walk_of walk) }
 {
     Walk {
         waiting: walk.waiting,
@@ -188,7 +200,8 @@ pub fn leads(
     test: Test,
 ) -> Result<Walk, Stop>
     requires { Grew old.now.terms new.now.terms }
-    ensures { IfOk result (Finds new.now walk (leads (plan_of known.now) (state_of walk) to sure (holds old.now.terms test))) }
+    ensures means { IfOk result (Finds new.now walk (leads (plan_of known.now) (state_of walk) to sure (holds old.now.terms test))) }
+    ensures made { Told walk_of result (made.leads old.now.terms new.now (plan_of known.now) (walk_of walk) to sure test) }
 {
     if matters(known, to) {
         waits(alloc, old, new, known, walk, to, sure, test)
@@ -200,7 +213,8 @@ pub fn leads(
 /// A check under a test: its cell says whether it failed.
 pub fn checked(old: &Graph, new: &Graph, walk: Walk, error: u32, test: Test) -> Result<Walk, Stop>
     requires { Grew old.now.terms new.now.terms }
-    ensures { IfOk result (Finds new.now walk (checked (state_of walk) error (holds old.now.terms test))) }
+    ensures means { IfOk result (Finds new.now walk (checked (state_of walk) error (holds old.now.terms test))) }
+    ensures made { Told walk_of result (made.checked old.now.terms new.now (walk_of walk) error test) }
 {
     let Some(cursor) = sets(old.terms(), new, walk.cursor, walk.next, test) else {
         return Err(Stop::Differs);
@@ -219,7 +233,8 @@ pub fn checked(old: &Graph, new: &Graph, walk: Walk, error: u32, test: Test) -> 
 /// The guard of a place and a test go into a cell of their own.
 pub fn saved(old: &Graph, new: &Graph, walk: Walk, test: Test) -> Result<Walk, Stop>
     requires { Grew old.now.terms new.now.terms }
-    ensures { IfOk result (Finds new.now walk (λ rest. Does (Sets walk.next (λ s. truth (holds old.now.terms test s))) (rest (with_saved (state_of walk))))) }
+    ensures means { IfOk result (Finds new.now walk (λ rest. Does (Sets walk.next (λ s. truth (holds old.now.terms test s))) (rest (with_saved (state_of walk))))) }
+    ensures made { Told walk_of result (made.saved old.now.terms new.now (walk_of walk) test) }
 {
     let Some(cursor) = sets(old.terms(), new, walk.cursor, walk.next, test) else {
         return Err(Stop::Differs);

@@ -1,5 +1,6 @@
 //! Lists of places that wait.
-ghost use Rattle.std.specs.Prelude.{◌≡◌, [], ◌∷◌, ◌++◌, IfOk, drop, length, nat_lt};
+ghost use Rattle.walk_states.specs.Told.{Told};
+ghost use Rattle.std.specs.Prelude.{◌≡◌, [], ◌∷◌, ◌++◌, IfOk, Some, drop, length, nat_lt};
 ghost use Rattle.block_rule.specs.Rule.{found, is_none, with_wait, without};
 ghost use Rattle.walk_states.specs.Walks.{bads_of, waits_of};
 
@@ -20,7 +21,8 @@ pub fn found(waiting: &[Waiting], node: u32) -> Option<Option<u32>>
 
 /// A list with one more place, unless it is this one.
 fn kept(all: Vec<Waiting>, place: Waiting, node: u32) -> Result<Vec<Waiting>, Stop>
-    ensures { IfOk result (λ v. waits_of v.items ≡ waits_of all.items ++ without (waits_of (place ∷ [])) node) }
+    ensures means { IfOk result (λ v. waits_of v.items ≡ waits_of all.items ++ without (waits_of (place ∷ [])) node) }
+    ensures made { Told (λ v. waits_of v.items) result (Some (waits_of all.items ++ without (waits_of (place ∷ [])) node)) }
 {
     if place.node == node {
         return Ok(all);
@@ -32,7 +34,8 @@ fn kept(all: Vec<Waiting>, place: Waiting, node: u32) -> Result<Vec<Waiting>, St
 
 /// The places that wait, without one.
 pub fn without(alloc: Global, waiting: &[Waiting], node: u32) -> Result<Vec<Waiting>, Stop>
-    ensures { IfOk result (λ v. waits_of v.items ≡ without (waits_of waiting.now) node) }
+    ensures means { IfOk result (λ v. waits_of v.items ≡ without (waits_of waiting.now) node) }
+    ensures made { Told (λ v. waits_of v.items) result (Some (without (waits_of waiting.now) node)) }
 {
     let mut all = Vec::new(alloc);
     for number in 0..waiting.len() {
@@ -43,7 +46,8 @@ pub fn without(alloc: Global, waiting: &[Waiting], node: u32) -> Result<Vec<Wait
 
 /// A list, and then the places from a number on.
 fn joined(all: Vec<Waiting>, waiting: &[Waiting], from: usize) -> Result<Vec<Waiting>, Stop>
-    ensures { IfOk result (λ v. waits_of v.items ≡ waits_of all.items ++ waits_of (drop from waiting.now)) }
+    ensures means { IfOk result (λ v. waits_of v.items ≡ waits_of all.items ++ waits_of (drop from waiting.now)) }
+    ensures made { Told (λ v. waits_of v.items) result (Some (waits_of all.items ++ waits_of (drop from waiting.now))) }
 {
     let mut more = all;
     for number in from..waiting.len() {
@@ -59,7 +63,8 @@ pub(crate) fn with_wait(
     node: u32,
     guard: Option<u32>,
 ) -> Result<Vec<Waiting>, Stop>
-    ensures { IfOk result (λ v. waits_of v.items ≡ with_wait (waits_of waiting.now) node guard) }
+    ensures means { IfOk result (λ v. waits_of v.items ≡ with_wait (waits_of waiting.now) node guard) }
+    ensures made { Told (λ v. waits_of v.items) result (Some (with_wait (waits_of waiting.now) node guard)) }
 {
     let mut all = Vec::new(alloc);
     for number in 0..waiting.len() {
@@ -75,7 +80,8 @@ pub(crate) fn with_wait(
 
 /// One more check at the end.
 pub(crate) fn with_bad(bads: Vec<Failing>, cell: u32, error: u32) -> Result<Vec<Failing>, Stop>
-    ensures { IfOk result (λ v. bads_of v.items ≡ bads_of bads.items ++ record { cell = cell; error = error } ∷ []) }
+    ensures means { IfOk result (λ v. bads_of v.items ≡ bads_of bads.items ++ record { cell = cell; error = error } ∷ []) }
+    ensures made { Told (λ v. bads_of v.items) result (Some (bads_of bads.items ++ record { cell = cell; error = error } ∷ [])) }
 {
     let mut more = bads;
     more.push(Failing { cell, error })?;

@@ -1,5 +1,7 @@
-use Rattle.std.proofs.Common.{◌≡◌, ◌<◌, ℕ, slice_get}
+use Rattle.std.proofs.Common.{◌≡◌, ◌<◌, ℕ, true, slice_get, take}
+use Rattle.block_follow.specs.Made as made
 use Rattle.block_follow.proofs.growth.more_cells.Given as goal
 
 abbrev pub invariant-loop-number : goal.invariant-loop-number
-invariant-loop-number l = (k : ℕ) → k < l.number → slice_get l.new k ≡ slice_get l.old k
+invariant-loop-number l =
+    ((k : ℕ) → k < l.number → slice_get l.new k ≡ slice_get l.old k) × (made.begins_with made.same_cell (take l.number l.old) l.new ≡ true)

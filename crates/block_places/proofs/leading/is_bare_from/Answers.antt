@@ -3,6 +3,6 @@ use Rattle.c_graph.specs.declared.graph.Operation.TheVariants.{Assume}
 use Rattle.block_places.proofs.Covering.{leaves-by}
 use Rattle.block_places.proofs.leading.is_bare_from.Goals as goal
 
-pub returns-then-leads_from : goal.returns-then-leads_from
-returns-then-leads_from c = λ t.
-    leaves-by c.args.graph.now c.args.node c.args.number (Assume c.args.test ∷ []) c.args.to (c.leads_from.ensures c.if-leads_from.true) (c.is_bare.ensures t)
+pub returns-then-leads_from-clause-tells : goal.returns-then-leads_from-clause-tells
+returns-then-leads_from-clause-tells c = λ t.
+    leaves-by c.args.graph.now c.args.node c.args.number (Assume c.args.test ∷ []) c.args.to (c.leads_from.ensures.means c.if-leads_from.true) (c.is_bare.ensures.tells t)

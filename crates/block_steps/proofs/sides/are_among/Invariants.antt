@@ -1,6 +1,6 @@
-use Rattle.std.proofs.Common.{◌≡◌, ◌<◌, ◌⊎◌, ℕ, Some, slice_get}
-use Rattle.c_graph.specs.declared.graph.EdgeId.{EdgeId}
+use Rattle.std.proofs.Common.{◌≡◌, drop}
+use Rattle.block_steps.specs.Made as made
 use Rattle.block_steps.proofs.sides.are_among.Given as goal
 
 abbrev pub invariant-loop-number : goal.invariant-loop-number
-invariant-loop-number l = (j : ℕ) (id : EdgeId) → j < l.number → slice_get l.numbers j ≡ Some id → (id.0 ≡ l.one) ⊎ (id.0 ≡ l.other)
+invariant-loop-number l = made.are_among l.numbers l.one l.other ≡ made.are_among (drop l.number l.numbers) l.one l.other

@@ -8,10 +8,10 @@ use Rattle.block_steps.specs.Tests.{holds}
 use Rattle.block_steps.proofs.Places.{does}
 use Rattle.block_steps.proofs.steps.assumed.Goals as goal
 
-pub returns : goal.returns
-returns c = λ code m.
+pub returns-clause-means : goal.returns-clause-means
+returns-clause-means c = λ code m.
     let h = c.args.graph.now in
     let (there, behind) = c.requires.found in
     let p : List ℕ → Bool = holds c.args.old.now c.args.test in
-    let bit : IsBit h.terms c.args.term p = subst (λ (t : Table). IsBit t c.args.term p) c.terms.ensures.value (c.if-not-is_test.ensures refl) in
+    let bit : IsBit h.terms c.args.term p = subst (λ (t : Table). IsBit t c.args.term p) c.terms.ensures.value (c.if-not-is_test.ensures.means refl) in
     does h c.args.cursor c.args.next (Assume c.args.term) (Tests p) code there behind (λ s w. test-is h.terms c.args.term p s bit w) tt m

@@ -5,9 +5,9 @@ use Rattle.truth_terms.specs.Truths.{IsBit}
 use Rattle.block_steps.specs.Tests.{holds}
 use Rattle.block_steps.proofs.steps.sets.Goals as goal
 
-pub returns : goal.returns
-returns c = λ code m.
+pub returns-clause-means : goal.returns-clause-means
+returns-clause-means c = λ code m.
     let p : List ℕ → Bool = holds c.args.old.now c.args.test in
     let bit : IsBit c.args.graph.now.terms c.in-Some.put.term p =
-    subst (λ (t : Table). IsBit t c.in-Some.put.term p) c.terms.ensures.value (c.if-not-is_test.ensures refl) in
-    c.in-Some.ensures (λ s. truth (p s)) code bit m
+    subst (λ (t : Table). IsBit t c.in-Some.put.term p) c.terms.ensures.value (c.if-not-is_test.ensures.means refl) in
+    c.in-Some.ensures.means (λ s. truth (p s)) code bit m

@@ -10,8 +10,8 @@ use Rattle.block_walk.proofs.Branching.{drawn-found}
 use Rattle.walk_states.proofs.Following.{same-state, weaken}
 use Rattle.block_walk.proofs.places.drawn.Goals as goal
 
-pub returns : goal.returns
-returns c =
+pub returns-clause-means : goal.returns-clause-means
+returns-clause-means c =
     let h = c.args.new.now in
     let table = c.args.old.now.terms in
     let plan = plan_of c.args.known.now in
@@ -27,11 +27,11 @@ returns c =
     let same : there ≡ clear (state_of c.args.walk) = same-state _ _ _ _ _ _ _ _ refl (ap bads_of c.new.ensures.items) refl refl in
     let flush : (code : Code) → Meets h c.in_ok-flushed.flushed code → Meets h c.args.walk.cursor (flushed (bads_of c.args.walk.bads.items) code) =
     subst (λ (bs : List Failing). (code : Code) → Meets h c.in_ok-flushed.flushed code → Meets h c.args.walk.cursor (flushed (bads_of bs) code))
-    c.deref-2.ensures.value c.in_ok-flushed.ensures in
+    c.deref-2.ensures.value c.in_ok-flushed.ensures.means in
     let moves : (code : Code) → Meets h k code → Meets h c.in_ok-sure.sure (moved table plan (waits_of c.args.walk.waiting.items) None ops code) =
     subst (λ (ws : List Waiting). (code : Code) → Meets h k code → Meets h c.in_ok-sure.sure (moved table plan (waits_of ws) None ops code))
-    c.deref-3.ensures.value c.in_ok-cursor.ensures in
+    c.deref-3.ensures.value c.in_ok-cursor.ensures.means in
     weaken c.leads.result _ _
     (λ w f rest m. drawn-found h table plan c.args.walk there c.args.guard (way_of c.args.old.now c.args.way) c.in_ok-flushed.flushed c.in_ok-sure.sure k
-    rest c.requires.draws none same flush c.in_ok-sure.ensures moves (f rest m))
-    c.leads.ensures
+    rest c.requires.draws none same flush c.in_ok-sure.ensures.means moves (f rest m))
+    c.leads.ensures.means
