@@ -1,5 +1,5 @@
 -- Errors and visits kept by a graph with joined chains, and by one graph after another.
-use Rattle.std.proofs.Common.{ℕ, Result, Ok, Err, IfOk, ◌≡◌, ◌⊎◌, inl, inr, List, [], ◌++◌, length, refl, sym, ap, ◌∙◌, subst, arith, slice_get, append_assoc, append-nil}
+use Rattle.std.proofs.Common.{Bool, true, false, if◌then◌else◌, Result, Ok, Err, IfOk, ◌≡◌, ◌⊎◌, inl, inr, List, [], ◌++◌, length, refl, sym, ap, ◌∙◌, subst, arith, slice_get, append_assoc, append-nil}
 use Rattle.bv_term.specs.WellFormed.{Table}
 use Rattle.c_graph.specs.declared.graph.Cell.{Cell}
 use Rattle.c_graph.specs.declared.graph.Edge.{Edge}
@@ -9,12 +9,15 @@ use Rattle.c_graph.specs.declared.graph.NodeId.{NodeId}
 use Rattle.c_graph.specs.Parts.{error_flow}
 use Rattle.c_graph.specs.Shape.{Flow, IsFlow}
 use Rattle.edge_chains.specs.Joining.{IsJoined}
+use Rattle.edge_chains.specs.Made.{join_chains}
 use Rattle.edge_chain_laws.specs.Keeping.{with_edges}
 use Rattle.edge_chain_back_laws.proofs.Unjoining.{chain_paths_come_back}
 use Rattle.join_laws.specs.Keeping.{KeepsErrors}
 use Rattle.join_laws.specs.Visits.{KeepsStores, KeepsVisits}
 use Rattle.join_laws.proofs.Errors.{chains_keep}
 use Rattle.join_laws.proofs.Visits.{chains_keep_loops}
+use Rattle.block_emission.specs.Whole.{is_flow, whole}
+use Rattle.block_join.specs.Made as made
 use Rattle.block_join.specs.Joined.{ChainsReturn, HasMore, IsChained, Stays}
 
 pub weaken : {A : Type 0} → {E : Type 0} → (r : Result A E) (P Q : A → Type 0) → ((x : A) → P x → Q x) → IfOk r P → IfOk r Q
@@ -34,6 +37,26 @@ same-parts g nodes joined cells terms entry loops a b c d e =
     ∙ ap (λ (x : Table). flow g.nodes joined g.cells x entry loops) c
     ∙ ap (λ (x : NodeId). flow g.nodes joined g.cells g.terms x loops) d
     ∙ ap (λ (x : List LoopAt). flow g.nodes joined g.cells g.terms g.entry x) e
+
+-- the graph that parts make is the one of these parts, or the one that stands where they make none
+pub whole-cases : (g h : Flow) → h ≡ whole g → (h ≡ g) ⊎ (h ≡ error_flow)
+whole-cases g h e = choose (is_flow g) refl
+  where
+    choose : (b : Bool) → is_flow g ≡ b → (h ≡ g) ⊎ (h ≡ error_flow)
+    choose true t = inl (e ∙ ap (λ (b : Bool). if b then g else error_flow) t)
+    choose false t = inr (e ∙ ap (λ (b : Bool). if b then g else error_flow) t)
+
+-- the parts of a graph with its joined edges make the graph with joined chains
+pub joined-made : (g : Flow) (nodes given : List Node) (edges joined : List Edge) (cells : List Cell) (terms : Table) (entry : NodeId) (loops places : List LoopAt)
+    → given ≡ nodes → places ≡ loops → nodes ≡ g.nodes → edges ≡ g.edges → cells ≡ g.cells → terms ≡ g.terms → entry ≡ g.entry → loops ≡ g.loops
+    → joined ≡ join_chains given edges entry places → whole (flow nodes joined cells terms entry loops) ≡ made.chained g
+joined-made g nodes given edges joined cells terms entry loops places n l a o b c d e m =
+    let all : joined ≡ join_chains g.nodes g.edges g.entry g.loops =
+    m ∙ ap (λ (x : List Node). join_chains x edges entry places) (n ∙ a)
+    ∙ ap (λ (x : List Edge). join_chains g.nodes x entry places) o
+    ∙ ap (λ (x : NodeId). join_chains g.nodes g.edges x places) d
+    ∙ ap (λ (x : List LoopAt). join_chains g.nodes g.edges g.entry x) (l ∙ e) in
+    ap whole (same-parts g nodes joined cells terms entry loops a b c d e ∙ ap (with_edges g) all)
 
 -- the graph of a graph's parts and joined edges
 pub chained : (g h : Flow) (nodes : List Node) (edges joined : List Edge) (cells : List Cell) (terms : Table) (entry : NodeId) (loops : List LoopAt)

@@ -1,5 +1,5 @@
 -- Cells that hold the same at the nodes of loops.
-use Rattle.std.proofs.Common.{Bool, true, false, ℕ, ◌<◌, ◌≡◌, ◌⊎◌, inl, inr, List, length, refl, ap, ◌∙◌, sym, subst, slice_get}
+use Rattle.std.proofs.Common.{Bool, true, false, ℕ, ◌<◌, ◌≡◌, inl, inr, List, length, refl, ap, ◌∙◌, sym, subst, slice_get}
 use Rattle.std.specs.Prelude.{nat_lt, ◌&&◌}
 use Rattle.std.proofs.lemmas.Bool.{lt-ltb, ltb-true}
 use Rattle.c_graph.specs.declared.graph.Cell.{Cell}

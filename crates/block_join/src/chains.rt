@@ -4,8 +4,10 @@ ghost use Rattle.c_graph.specs.Parts.{error_flow};
 ghost use Rattle.join_laws.specs.Keeping.{KeepsErrors};
 ghost use Rattle.join_laws.specs.Visits.{KeepsStores};
 ghost use Rattle.block_join.specs.Joined.{ChainsReturn, HasMore, IsChained, Stays};
+ghost use Rattle.block_join.specs.Made as made;
 
-use c_graph::{Edge, Graph, Operations, graph_from};
+use block_emission::{copied_edges, graph_of};
+use c_graph::Graph;
 use edge_chains::join_chains;
 use lv_base::Memory;
 use std::alloc::Global;
@@ -16,6 +18,7 @@ pub(crate) fn with_chains(alloc: Global, graph: Graph) -> Result<Graph, Memory>
     ensures keeps { IfOk result (λ h. KeepsErrors graph h) }
     ensures visits { IfOk result (λ h. KeepsStores graph h) }
     ensures back { IfOk result (λ h. ChainsReturn graph h) }
+    ensures made { IfOk result (λ h. h ≡ made.with_chains graph) }
 {
     let _entry = graph.entry();
     let joined = joined(alloc, &graph)?;
@@ -28,7 +31,8 @@ pub(crate) fn with_chains(alloc: Global, graph: Graph) -> Result<Graph, Memory>
 
 /// The graph of a graph's parts with joined chains of edges, or the one that stands where parts make none.
 fn joined(alloc: Global, graph: &Graph) -> Result<Graph, Memory>
-    ensures { IfOk result (λ h. IsChained graph.now h ⊎ (h ≡ error_flow)) }
+    ensures joined { IfOk result (λ h. IsChained graph.now h ⊎ (h ≡ error_flow)) }
+    ensures made { IfOk result (λ h. h ≡ made.chained graph.now) }
 {
     let nodes = graph.nodes().to_vec(alloc)?;
     let edges = copied_edges(alloc, graph.edges())?;
@@ -37,12 +41,13 @@ fn joined(alloc: Global, graph: &Graph) -> Result<Graph, Memory>
     let cells = graph.cells().to_vec(alloc)?;
     let terms = graph.terms().copy()?;
     let joined = join_chains(alloc, &nodes, edges, entry, &loops)?;
-    graph_from(alloc, nodes, joined, cells, terms, entry, loops)
+    graph_of(alloc, nodes, joined, cells, terms, entry, loops)
 }
 
 /// Whether a graph has more than the one that stands where parts make none, which is a node alone.
 fn has_more(graph: &Graph) -> bool
-    ensures { IsTrue result → HasMore graph.now }
+    ensures more { IsTrue result → HasMore graph.now }
+    ensures made { result ≡ made.has_more graph.now }
 {
     if graph.nodes().len() > 1 {
         return true;
@@ -51,26 +56,4 @@ fn has_more(graph: &Graph) -> bool
         return true;
     }
     graph.cells().len() > 0
-}
-
-fn copied_edges(alloc: Global, edges: &[Edge]) -> Result<Vec<Edge>, Memory>
-    ensures { IfOk result (λ v. v.items ≡ edges.now) }
-{
-    let mut copy = Vec::new(alloc);
-    for edge in edges {
-        copy.push(copied_edge(alloc, edge)?)?;
-    }
-    Ok(copy)
-}
-
-/// An equal edge.
-pub(crate) fn copied_edge(alloc: Global, edge: &Edge) -> Result<Edge, Memory>
-    ensures { IfOk result (λ e. e ≡ edge.now) }
-{
-    let ops = edge.ops.as_slice().to_vec(alloc)?;
-    Ok(Edge {
-        from: edge.from,
-        to: edge.to,
-        ops: Operations::new(ops),
-    })
 }

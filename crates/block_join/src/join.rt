@@ -1,20 +1,19 @@
 //! A graph of blocks is made, and taken only where it has what the rule says.
-ghost use Rattle.std.specs.Prelude.{IfOk, IsTrue};
+ghost use Rattle.std.specs.Prelude.{◌≡◌, Bool, IfOk, IsTrue};
 ghost use Rattle.program_graphs.specs.Returning.{ComesBack};
 ghost use Rattle.join_laws.specs.Keeping.{KeepsErrors};
 ghost use Rattle.join_laws.specs.Visits.{KeepsMarked, KeepsVisits, MarksNeeded};
 ghost use Rattle.walk_states.specs.Known.{plan_of};
 ghost use Rattle.block_join.specs.Joined.{BlocksReturn, Stays};
 ghost use Rattle.block_join.specs.Living.{live_at, MarksWithin};
+ghost use Rattle.block_join.specs.Made as made;
 
-use crate::chains::{copied_edge, with_chains};
-use crate::emission::{Draft, Plan};
+use crate::chains::with_chains;
 use crate::live::LiveCells;
-use crate::terms::Truths;
+use block_emission::{Plan, blocked, members_of};
 use block_follow::follows_rule;
-use block_plan::{Blocks, Reads, Units, Ways, begins, blocks_of, live_units, number_of, ways_at};
-use bv_term::{TermId, Terms, are_widths};
-use c_graph::{Cell, Edge, Graph, Node, NodeId, Operations, Origin, graph_from};
+use block_plan::{Blocks, Reads, Units, blocks_of, live_units};
+use c_graph::{Graph, NodeId};
 use lv_base::Memory;
 use std::alloc::Global;
 use walk_states::Known;
@@ -28,6 +27,7 @@ pub fn join_blocks(alloc: Global, graph: Graph) -> Result<Graph, Memory>
     ensures keeps { IfOk result (λ h. KeepsErrors graph h) }
     ensures visits { IfOk result (λ h. KeepsVisits graph h) }
     ensures back { IfOk result (λ h. ComesBack graph h) }
+    ensures one { IfOk result (λ h. made.IsJoinedGraph graph h) }
 {
     let Joined { graph, live: _ } = join_blocks_live(alloc, graph)?;
     Ok(graph)
@@ -51,6 +51,7 @@ pub fn join_blocks_live(alloc: Global, graph: Graph) -> Result<Joined, Memory>
     ensures within { IfOk result (λ j. MarksWithin (live_at j.live) graph.cells) }
     ensures needed { IfOk result (λ j. MarksNeeded (live_at j.live) graph) }
     ensures back { IfOk result (λ j. ComesBack graph j.graph) }
+    ensures one { IfOk result (λ j. made.IsJoinedGraph graph j.graph) }
 {
     let count = graph.cells().len();
     let made = attempted(alloc, &graph)?;
@@ -105,8 +106,10 @@ struct Attempt {
     members: Vec<Vec<NodeId>>,
 }
 
-// The graph of the blocks before chains are joined. It is tested, so nothing is said of it.
-fn attempted(alloc: Global, graph: &Graph) -> Result<Attempt, Memory> {
+/// The graph of the blocks before chains are joined.
+fn attempted(alloc: Global, graph: &Graph) -> Result<Attempt, Memory>
+    ensures made { IfOk result (λ a. a.graph ≡ made.attempted graph.now 4194304) }
+{
     let blocks = blocks_of(alloc, graph)?;
     let units = Units::new(alloc, graph.cells())?;
     let reads = Reads::new(alloc, graph.terms(), &units)?;
@@ -138,180 +141,4 @@ fn attempted(alloc: Global, graph: &Graph) -> Result<Attempt, Memory> {
         known,
         members,
     })
-}
-
-// The edges of each block, and those of nodes that keep theirs.
-fn blocked(alloc: Global, plan: Plan<'_>, members: &[Vec<NodeId>]) -> Result<Graph, Memory> {
-    let graph = plan.graph;
-    let first = number_of(graph.cells().len())?;
-    let truths = with_cells(alloc, graph, room_for(members))?;
-    let nodes = graph.nodes().to_vec(alloc)?;
-    let mut draft = Draft::new(alloc, nodes, truths, first);
-    for (number, places) in members.iter().enumerate() {
-        let node = NodeId(number_of(number)?);
-        if begins(graph, plan.blocks, node) {
-            draft.block(plan, places)?;
-        } else {
-            keep_edges(alloc, graph, plan.blocks, node, &mut draft)?;
-        }
-    }
-    end_where_nothing_matters(alloc, graph, plan.blocks, &mut draft)?;
-    finish(alloc, graph, draft)
-}
-
-fn empty_lists(alloc: Global, count: usize) -> Result<Vec<Vec<NodeId>>, Memory> {
-    let mut lists = Vec::new(alloc);
-    for _ in 0..count {
-        lists.push(Vec::new(alloc))?;
-    }
-    Ok(lists)
-}
-
-// The places of each block, by its cut point, which comes first.
-fn members_of(alloc: Global, graph: &Graph, blocks: &Blocks) -> Result<Vec<Vec<NodeId>>, Memory> {
-    let mut members = empty_lists(alloc, graph.nodes().len())?;
-    for number in 0..number_of(graph.nodes().len())? {
-        let node = NodeId(number);
-        if blocks.matters.get(node.0) {
-            let start = blocks.starts.get(node.0).unwrap_or(node.0) as usize;
-            if start < members.len() {
-                members[start].push(node)?;
-            }
-        }
-    }
-    Ok(members)
-}
-
-// Saved cells for the largest block: at most three a place.
-fn room_for(members: &[Vec<NodeId>]) -> u32 {
-    let mut most = 0usize;
-    for places in members {
-        most = most.max(places.len());
-    }
-    u32::try_from(most).unwrap_or(u32::MAX).saturating_mul(3)
-}
-
-// The graph's terms over its cells and so many saved cells of one bit.
-fn with_cells(alloc: Global, graph: &Graph, more: u32) -> Result<Truths, Memory> {
-    let mut widths = graph.terms().cells().to_vec(alloc)?;
-    for _ in 0..more {
-        widths.push(1)?;
-    }
-    copied(alloc, graph.terms(), widths)
-}
-
-// A table of the same terms over other cells, over which they are well formed where these begin with the old ones.
-fn copied(alloc: Global, terms: &Terms, widths: Vec<u32>) -> Result<Truths, Memory> {
-    if !are_widths(&widths) {
-        return Ok(Truths {
-            terms: Terms::new(alloc, Vec::new(alloc)),
-            is_sound: false,
-        });
-    }
-    let mut truths = Truths {
-        terms: Terms::new(alloc, widths),
-        is_sound: true,
-    };
-    for number in 0..terms.count() {
-        let term = terms.get(TermId(number));
-        if truths.terms.fits(term) {
-            truths.terms.append(term)?;
-        } else {
-            truths.is_sound = false;
-        }
-    }
-    Ok(truths)
-}
-
-// A node that keeps its edges, but for those to nodes that do not matter.
-fn keep_edges(
-    alloc: Global,
-    graph: &Graph,
-    blocks: &Blocks,
-    node: NodeId,
-    draft: &mut Draft,
-) -> Result<(), Memory> {
-    let is_kept = blocks.matters.get(node.0)
-        && blocks.cuts.get(node.0)
-        && matches!(ways_at(&blocks.ways, node), Ways::Kept);
-    if !is_kept {
-        return Ok(());
-    }
-    for edge in graph.outs(alloc, node)?.as_slice() {
-        if let Some(edge) = graph.edges().get(edge.0 as usize) {
-            if blocks.matters.get(edge.to.0) {
-                draft.edges.push(copied_edge(alloc, edge)?)?;
-            }
-        }
-    }
-    Ok(())
-}
-
-// Where neither an error nor a loop's node is reached, one edge leads from the entry to an end.
-fn end_where_nothing_matters(
-    alloc: Global,
-    graph: &Graph,
-    blocks: &Blocks,
-    draft: &mut Draft,
-) -> Result<(), Memory> {
-    let entry = graph.entry();
-    let is_plain = matches!(graph.nodes().get(entry.0 as usize), Some(Node::Plain));
-    if blocks.matters.get(entry.0) || !is_plain {
-        return Ok(());
-    }
-    let mut end = entry;
-    for (number, node) in graph.nodes().iter().enumerate() {
-        if *node == Node::End {
-            end = NodeId(number_of(number)?);
-        }
-    }
-    draft.edges.push(Edge {
-        from: entry,
-        to: end,
-        ops: Operations::new(Vec::new(alloc)),
-    })?;
-    Ok(())
-}
-
-// The graph's cells, and so many saved cells of one bit.
-fn all_cells(alloc: Global, graph: &Graph, used: u32) -> Result<Vec<Cell>, Memory> {
-    let mut cells = graph.cells().to_vec(alloc)?;
-    for _ in 0..used {
-        cells.push(Cell {
-            width: 1,
-            origin: Origin::Saved,
-        })?;
-    }
-    Ok(cells)
-}
-
-fn widths_of(alloc: Global, cells: &[Cell]) -> Result<Vec<u32>, Memory> {
-    let mut widths = Vec::new(alloc);
-    for cell in cells {
-        widths.push(cell.width)?;
-    }
-    Ok(widths)
-}
-
-// The graph of the blocks that were made.
-fn finish(alloc: Global, graph: &Graph, draft: Draft) -> Result<Graph, Memory> {
-    let Draft {
-        alloc: _,
-        nodes,
-        edges,
-        truths,
-        used,
-        ..
-    } = draft;
-    let cells = all_cells(alloc, graph, used)?;
-    let last = copied(alloc, &truths.terms, widths_of(alloc, &cells)?)?;
-    // nodes over terms that are not well formed count for nothing: without a node the parts make no graph
-    let nodes = if truths.is_sound && last.is_sound {
-        nodes
-    } else {
-        Vec::new(alloc)
-    };
-    let loops = graph.loops().to_vec(alloc)?;
-    let Truths { terms, is_sound: _ } = last;
-    graph_from(alloc, nodes, edges, cells, terms, graph.entry(), loops)
 }

@@ -1,24 +1,9 @@
 //! Joins everything between two cut points of a graph into one edge of guarded operations, with one branch for its failed checks
 //! and one for each way out.
 //!
-//! What a place, a cut point, a block and a sure place are, [`block_plan`] says. All that does not matter is dropped, and a run
-//! that gets there is **lost**: it stops.
+//! What a place, a cut point, a block and a sure place are, [`block_plan`] says, and [`block_emission`], what the edges of a block are.
 //!
-//! **The edge of a block** goes over its places in order. Each has a guard of one bit: 1 at a sure place, else a saved cell that is
-//! 1 where the run is at the place. A way to another place under a test sets that place's cell to its guard and the test, and a later
-//! way to the same place adds to it. A store goes through the guard (`x := guard ? new : x`; a store into an array through its
-//! index) unless the guard is 1, or no place that waits reads the cell before it sets it. A check sets a cell that says whether it
-//! failed. Before a draw, and at the block's end, one branch asks whether any check failed; its true side is a chain of branches on
-//! these cells in the order of the places, since the first check that failed is the one that happened. At the end the ways out are
-//! branches in the order of their numbers, the last without a test unless a side was lost. Behind a lost side an Assume of its cell
-//! stands at the next sure place.
-//!
-//! **Numbers.** Nodes keep their numbers; nodes of branches are places that the block took in, or stand behind all others. The saved
-//! cells stand behind all others, and each block begins anew with the first of them, since none is read from a cut point on.
-//!
-//! But for the plan it takes time in proportion to the graph, times the ways out that wait at once in a block.
-//!
-//! Of how blocks are made no contract says more than that the call returns. What was made is tested ([`block_follow`]): where it has the
+//! Which graph is made, a definition says, but for what the test answers. What was made is tested ([`block_follow`]): where it has the
 //! blocks that the rule says and no more, its runs meet the errors that runs of the first graph meet, and chains of its edges become one
 //! edge each ([`edge_chains`]); where it has not, chains of the first graph's edges are joined instead, and where these make no graph, the
 //! first graph is the answer. So runs of the answer meet the errors that runs of the first graph meet, with the same values, and no others,
@@ -26,10 +11,8 @@
 #![tactic(auto)]
 
 mod chains;
-mod emission;
 mod join;
 mod live;
-mod terms;
 
 pub use join::{Joined, join_blocks, join_blocks_live};
 pub use live::LiveCells;

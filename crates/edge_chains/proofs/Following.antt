@@ -27,7 +27,7 @@ among-split (z ∷ xs) y x (zero, s) = inl (zero, s)
 among-split (z ∷ xs) y x (suc k, s) = elim (among-split xs y x (k, s)) [ inl a ↦ inl (suc a.0, a.1) | inr e ↦ inr e ]
 
 -- an element by its number
-there : (xs : List Edge) (k : ℕ) (x : Edge) → k < length xs → x ≡ get_or xs k x → slice_get xs k ≡ Some x
+pub there : (xs : List Edge) (k : ℕ) (x : Edge) → k < length xs → x ≡ get_or xs k x → slice_get xs k ≡ Some x
 there [] k x lt is = absurd (omega (arith, lt))
 there (y ∷ xs) zero x lt is = ap (λ (z : Edge). Some z) (sym is)
 there (y ∷ xs) (suc k) x lt is = there xs k x (omega (arith, lt)) is

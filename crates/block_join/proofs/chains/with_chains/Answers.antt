@@ -3,10 +3,10 @@ use Rattle.block_join.proofs.Keeping.{chained-back, chained-keeps, chained-stays
 use Rattle.block_join.proofs.chains.with_chains.Goals as goal
 
 pub returns-then-has_more-clause-stays : goal.returns-then-has_more-clause-stays
-returns-then-has_more-clause-stays c = chained-stays c.args.graph c.in_ok-joined.joined c.in_ok-joined.ensures (c.has_more.ensures c.if-has_more.true)
+returns-then-has_more-clause-stays c = chained-stays c.args.graph c.in_ok-joined.joined c.in_ok-joined.ensures.joined (c.has_more.ensures.more c.if-has_more.true)
 
 pub returns-then-has_more-clause-visits : goal.returns-then-has_more-clause-visits
-returns-then-has_more-clause-visits c = chained-visits c.args.graph c.in_ok-joined.joined c.in_ok-joined.ensures (c.has_more.ensures c.if-has_more.true)
+returns-then-has_more-clause-visits c = chained-visits c.args.graph c.in_ok-joined.joined c.in_ok-joined.ensures.joined (c.has_more.ensures.more c.if-has_more.true)
 
 pub returns-else-has_more-clause-stays : goal.returns-else-has_more-clause-stays
 returns-else-has_more-clause-stays c = stays-own c.args.graph
@@ -15,11 +15,11 @@ pub returns-else-has_more-clause-visits : goal.returns-else-has_more-clause-visi
 returns-else-has_more-clause-visits c = stores-own c.args.graph
 
 pub returns-then-has_more-clause-keeps : goal.returns-then-has_more-clause-keeps
-returns-then-has_more-clause-keeps c = chained-keeps c.args.graph c.in_ok-joined.joined c.in_ok-joined.ensures (c.has_more.ensures c.if-has_more.true)
+returns-then-has_more-clause-keeps c = chained-keeps c.args.graph c.in_ok-joined.joined c.in_ok-joined.ensures.joined (c.has_more.ensures.more c.if-has_more.true)
 
 pub returns-then-has_more-clause-back : goal.returns-then-has_more-clause-back
 returns-then-has_more-clause-back c =
-    chained-back c.args.graph c.in_ok-joined.joined c.entry-entry.ensures.flow c.in_ok-joined.ensures (c.has_more.ensures c.if-has_more.true)
+    chained-back c.args.graph c.in_ok-joined.joined c.entry-entry.ensures.flow c.in_ok-joined.ensures.joined (c.has_more.ensures.more c.if-has_more.true)
 
 pub returns-else-has_more-clause-keeps : goal.returns-else-has_more-clause-keeps
 returns-else-has_more-clause-keeps c = keeps-own c.args.graph

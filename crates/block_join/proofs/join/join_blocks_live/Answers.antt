@@ -1,8 +1,9 @@
-use Rattle.std.proofs.Common.{None, Some, ap, length, refl}
+use Rattle.std.proofs.Common.{None, Some, ap, false, length, refl, true, ◌∙◌}
 use Rattle.join_laws.specs.Keeping.{KeepsErrors}
 use Rattle.join_laws.specs.Visits.{KeepsMarked, KeepsVisits}
 use Rattle.walk_states.specs.Known.{plan_of}
 use Rattle.block_join.specs.Joined.{BlocksReturn, Stays}
+use Rattle.block_join.specs.Made.{with_chains}
 use Rattle.block_join.proofs.Coming.{blocks-come, chains-come}
 use Rattle.block_join.proofs.Keeping.{kept-on, stays-on, stores-visit, visits-on}
 use Rattle.block_join.proofs.Marking.{live-needed, live-read, live-within, marked-on, stores-marked}
@@ -65,3 +66,9 @@ returns-in_ok-graph-2-clause-needed c =
 
 pub returns-in_ok-graph-2-clause-back : goal.returns-in_ok-graph-2-clause-back
 returns-in_ok-graph-2-clause-back c = chains-come c.args.graph c.in_ok-graph-2.graph c.in_ok-graph-2.ensures.back
+
+pub returns-in_ok-graph-clause-one : goal.returns-in_ok-graph-clause-one
+returns-in_ok-graph-clause-one c = (true, c.in_ok-graph.ensures.made ∙ ap with_chains c.in_ok-made.ensures.made)
+
+pub returns-in_ok-graph-2-clause-one : goal.returns-in_ok-graph-2-clause-one
+returns-in_ok-graph-2-clause-one c = (false, c.in_ok-graph-2.ensures.made)

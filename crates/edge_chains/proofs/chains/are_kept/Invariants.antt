@@ -1,7 +1,6 @@
-use Rattle.std.proofs.Common.{◌≡◌, ◌<◌, ℕ, Some, slice_get}
-use Rattle.c_graph.specs.declared.graph.Node.{Node}
-use Rattle.edge_chains.specs.Links.{IsKept, flag_at}
+use Rattle.std.proofs.Common.{◌≡◌, drop}
+use Rattle.edge_chains.specs.Made as made
 use Rattle.edge_chains.proofs.chains.are_kept.Given as goal
 
 abbrev pub invariant-loop-number : goal.invariant-loop-number
-invariant-loop-number l = (n : ℕ) (x : Node) → n < l.number → slice_get l.nodes n ≡ Some x → IsKept x (flag_at l.inner n)
+invariant-loop-number l = made.kept_from l.inner l.number (drop l.number l.nodes) ≡ made.are_kept l.nodes l.inner

@@ -1,0 +1,4 @@
+pub mod Blocking
+pub mod Emitting
+pub mod Putting
+pub mod Whole
