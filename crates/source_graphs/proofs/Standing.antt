@@ -1,9 +1,10 @@
 -- The answer of the inlining is that of the program, where there is one.
-use Rattle.std.proofs.Common.{inl, inr, ◌≡◌, ◌⊎◌, ◌<◌, ◌≤◌, ℕ, zero, suc, List, Result, Ok, Err, refl, subst, arith}
+use Rattle.std.proofs.Common.{inl, inr, ◌≡◌, ◌⊎◌, ◌<◌, ◌≤◌, ℕ, zero, suc, List, Result, Ok, Err, ap, ◌∙◌, refl, subst, arith}
 use Rattle.std.specs.Prelude.{IfErr, IfOk}
 use Rattle.lv_base.specs.declared.fail.SourceFail.{SourceFail}
 use Rattle.lv_base.specs.declared.fail.SourceFail.TheVariants.{Fault, Over, Memory}
 use Rattle.c_typed.specs.Facts.{IsTyped}
+use Rattle.c_typed.specs.Tree.{Program}
 use Rattle.c_typed.specs.Parts.{Parts, tree_of}
 use Rattle.c_graph.specs.Shape.{Flow}
 use Rattle.c_graph.specs.Functions.{Flows, AreFlows}
@@ -18,7 +19,10 @@ use Rattle.program_graphs.specs.Standing.{ErrorsFollow}
 use Rattle.program_graphs.specs.Returning.{ErrorsComeBack}
 use Rattle.source_graph_laws.proofs.Inlined.{inlined_graphs_stand}
 use Rattle.source_graphs.specs.Refusals.{IsTooBig}
-use Rattle.source_graphs.specs.Whole.{graph_of}
+use Rattle.call_order.specs.Order.{callees}
+use Rattle.call_order.specs.Walks.{order_by_walk}
+use Rattle.function_graph_laws.specs.Laws as functions
+use Rattle.source_graphs.specs.Whole.{GraphsAreOfTrees, graph_of, whole_of}
 use Rattle.source_graphs.specs.Refusals.IsTooBig.{copies, memory}
 
 pub answer_follows :
@@ -64,5 +68,14 @@ answer_refused t order p (Ok g) ordered made many = tt
 answer_refused t order p (Err e) ordered made many = inlining_refused t order p e ordered made many
 
 -- the copies of graphs that are the program's are the program's graph
-pub answer_is : (t : Parts) (order : List ℕ) (p : Flows) (r : Result Flow SourceFail) → p ≡ built t order → IfOk r (λ g. g ≡ inlined p) → IfOk r (λ g. g ≡ graph_of t order)
-answer_is t order p r e h = subst (λ (q : Flows). IfOk r (λ g. g ≡ inlined q)) e h
+pub answer_is :
+    (t : Parts) (order : List ℕ) (p : Flows) (r : Result Flow SourceFail) → order ≡ order_by_walk (callees (tree_of t)) → p ≡ built t order
+    → IfOk r (λ g. g ≡ inlined p) → IfOk r (λ g. g ≡ whole_of t)
+answer_is t order p r walked e h =
+    subst (λ (o : List ℕ). IfOk r (λ g. g ≡ graph_of t o)) walked (subst (λ (q : Flows). IfOk r (λ g. g ≡ inlined q)) e h)
+
+-- where the graphs of functions are those of trees, so is the one that is made of them
+pub of-trees : functions.GraphsAreOfTrees → GraphsAreOfTrees
+of-trees h t u e =
+    let order : order_by_walk (callees (tree_of t)) ≡ order_by_walk (callees (tree_of u)) = ap (λ (p : Program). order_by_walk (callees p)) e in
+    ap (graph_of t) order ∙ ap inlined (h t u (order_by_walk (callees (tree_of u))) e)

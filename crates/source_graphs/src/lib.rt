@@ -11,7 +11,7 @@ ghost use Rattle.block_join.specs.Living.{live_at};
 ghost use Rattle.witness_visit_laws.specs.Visited.{CellsStand, VisitsMarked};
 ghost use Rattle.source_graphs.specs.Refusals.{IsTooBig};
 ghost use Rattle.source_graphs.specs.Visits.{VisitsInBlocks};
-ghost use Rattle.source_graphs.specs.Whole.{graph_of};
+ghost use Rattle.source_graphs.specs.Whole.{GraphsAreOfTrees, IsJoinedOf, whole_of};
 
 use block_join::{Joined, join_blocks_live};
 use c_graph::Graph;
@@ -21,7 +21,7 @@ use cfg_build::build;
 use code_fit_laws::typed_code_passes;
 use edge_count_laws::built_is_sparse;
 use elaboration_laws::sources_read;
-use function_graph_laws::following_makes_flows;
+use function_graph_laws::{following_makes_flows, graphs_are_of_trees};
 use lv_base::{Memory, Model, SourceFail};
 use lv_outside::{FileFail, Folder, Got, HostFolder};
 use run_replay::orders_agree;
@@ -71,13 +71,12 @@ pub fn examined(alloc: Global, source: &[u8], model: Model) -> Result<Examined, 
     source_checks::accepted(alloc, &unit, model)
 }
 
-/// The graph of a program with each call a copy, a node for each instruction, which is one function of its typed tree and the order of its
-/// functions: each run of the program that ends in an error has a run
-/// of the graph to that error, and each run of the graph to an error is one of the program. Each visit of a listed loop has a run to the
+/// The graph of a program with each call a copy, a node for each instruction, which is one function of its typed tree: each run of the
+/// program that ends in an error has a run of the graph to that error, and each run of the graph to an error is one of the program. Each visit of a listed loop has a run to the
 /// loop's node, in a store that shows what the objects hold, in cells that lie as the program's layout says. Fails with `Over` for limit 4
 /// or 5.
 pub fn whole_graph(alloc: Global, examined: &Examined) -> Result<Graph, SourceFail>
-    ensures one { IfOk result (λ g. g ≡ graph_of examined.now.typed examined.now.order) }
+    ensures one { IfOk result (λ g. g ≡ whole_of examined.now.typed) }
     ensures follow { IfOk result (ErrorsFollow (tree_of examined.now.typed)) }
     ensures back { IfOk result (ErrorsComeBack (tree_of examined.now.typed)) }
     ensures visits { IfOk result (VisitsFollow (program_setting examined.now.typed examined.now.order) (tree_of examined.now.typed)) }
@@ -98,10 +97,11 @@ pub fn whole_graph(alloc: Global, examined: &Examined) -> Result<Graph, SourceFa
     inline(alloc, &graphs)
 }
 
-/// The graph of a program's blocks: each run of the program that ends in an error has a run of the graph to that error, and each run of the
+/// The graph of a program's blocks, which is one of two functions of its typed tree: each run of the program that ends in an error has a run of the graph to that error, and each run of the
 /// graph to an error is one of the program. Each visit of a listed loop has a run to the loop's node, in a store that shows what the objects
 /// hold in the cells that are needed there. Fails with `Over` for limit 4 or 5, which the graph of its instructions passes.
 pub fn blocks_of(alloc: Global, examined: &Examined) -> Result<Graph, SourceFail>
+    ensures one { IfOk result (IsJoinedOf examined.now.typed) }
     ensures stands { IfOk result (λ g. StandsFor g (tree_of examined.now.typed)) }
     ensures visits { IfOk result (VisitsInBlocks (program_setting examined.now.typed examined.now.order) (tree_of examined.now.typed)) }
     ensures limits { IfErr result (IsTooBig examined.now.typed examined.now.order) }
@@ -112,6 +112,7 @@ pub fn blocks_of(alloc: Global, examined: &Examined) -> Result<Graph, SourceFail
 
 /// The graph of [`blocks_of`], with the cells that show at a loop's node what the objects hold at each visit.
 pub fn joined_blocks(alloc: Global, examined: &Examined) -> Result<Joined, SourceFail>
+    ensures one { IfOk result (λ j. IsJoinedOf examined.now.typed j.graph) }
     ensures stands { IfOk result (λ j. StandsFor j.graph (tree_of examined.now.typed)) }
     ensures visits { IfOk result (λ j. VisitsInBlocks (program_setting examined.now.typed examined.now.order) (tree_of examined.now.typed) j.graph) }
     ensures marked { IfOk result (λ j. VisitsMarked (program_setting examined.now.typed examined.now.order) (tree_of examined.now.typed) (live_at j.live) j.graph) }
@@ -130,4 +131,11 @@ pub fn joined_blocks(alloc: Global, examined: &Examined) -> Result<Joined, Sourc
 pub fn source_blocks(alloc: Global, source: &[u8], model: Model) -> Result<Graph, SourceFail> {
     let examined = examined(alloc, source, model)?;
     blocks_of(alloc, &examined)
+}
+
+/// The graph of a program is that of its typed tree, wherever that lies in memory.
+pub fn program_graphs_are_of_trees()
+    ensures { GraphsAreOfTrees }
+{
+    graphs_are_of_trees();
 }

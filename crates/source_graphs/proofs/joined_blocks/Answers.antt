@@ -1,4 +1,6 @@
-use Rattle.std.proofs.Common.{◌≤◌, length, arith}
+use Rattle.std.proofs.Common.{◌≤◌, subst, length, arith}
+use Rattle.c_graph.specs.Shape.{Flow}
+use Rattle.block_join.specs.Made.{IsJoinedGraph}
 use Rattle.source_graphs.proofs.joined_blocks.Goals as goal
 
 pub returns-in-Ok-clause-stands : goal.returns-in-Ok-clause-stands
@@ -6,6 +8,9 @@ returns-in-Ok-clause-stands c =
     let flow = c.entry-entry.ensures.flow in
     let few : length c.in_ok-graph.graph.nodes ≤ 2147483647 = omega (arith, flow.few) in
     c.joined_graphs_stand.ensures c.args.examined.now.typed c.in_ok-graph.graph c.in-Ok.blocks.graph few c.in_ok-graph.ensures.follow c.in_ok-graph.ensures.back c.in-Ok.ensures.keeps c.in-Ok.ensures.back
+
+pub returns-in-Ok-clause-one : goal.returns-in-Ok-clause-one
+returns-in-Ok-clause-one c = subst (λ (g : Flow). IsJoinedGraph g c.in-Ok.blocks.graph) c.in_ok-graph.ensures.one c.in-Ok.ensures.one
 
 pub returns-in-Ok-clause-visits : goal.returns-in-Ok-clause-visits
 returns-in-Ok-clause-visits c = record {

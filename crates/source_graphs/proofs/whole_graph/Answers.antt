@@ -18,7 +18,8 @@ returns-clause-one c =
     let passes = c.typed_code_passes.ensures t order typed c.order-order.ensures.examined.ordered in
     let follows = c.in_ok-graphs.ensures.whole c.following_makes_flows.ensures passes in
     let is : c.in_ok-graphs.graphs ≡ built t order = c.in_ok-graphs.ensures.one c.following_makes_flows.ensures passes in
-    answer_is t order c.in_ok-graphs.graphs c.inline.result is (c.inline.ensures.one (c.built_is_sparse.ensures t order c.in_ok-graphs.graphs (inl follows)))
+    answer_is t order c.in_ok-graphs.graphs c.inline.result c.order-order.ensures.examined.walked is
+    (c.inline.ensures.one (c.built_is_sparse.ensures t order c.in_ok-graphs.graphs (inl follows)))
 
 pub returns-clause-follow : goal.returns-clause-follow
 returns-clause-follow c =
