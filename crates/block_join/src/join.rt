@@ -1,9 +1,10 @@
 //! A graph of blocks is made, and taken only where it has what the rule says.
-ghost use Rattle.std.specs.Prelude.{◌≡◌, Bool, IfOk, IsTrue};
+ghost use Rattle.std.specs.Prelude.{◌≡◌, IfOk, IsTrue};
 ghost use Rattle.program_graphs.specs.Returning.{ComesBack};
 ghost use Rattle.join_laws.specs.Keeping.{KeepsErrors};
 ghost use Rattle.join_laws.specs.Visits.{KeepsMarked, KeepsVisits, MarksNeeded};
 ghost use Rattle.walk_states.specs.Known.{plan_of};
+ghost use Rattle.block_follow.specs.Made.{lists_of};
 ghost use Rattle.block_join.specs.Joined.{BlocksReturn, Stays};
 ghost use Rattle.block_join.specs.Living.{live_at, MarksWithin};
 ghost use Rattle.block_join.specs.Made as made;
@@ -27,7 +28,7 @@ pub fn join_blocks(alloc: Global, graph: Graph) -> Result<Graph, Memory>
     ensures keeps { IfOk result (λ h. KeepsErrors graph h) }
     ensures visits { IfOk result (λ h. KeepsVisits graph h) }
     ensures back { IfOk result (λ h. ComesBack graph h) }
-    ensures one { IfOk result (λ h. made.IsJoinedGraph graph h) }
+    ensures one { IfOk result (λ h. h ≡ made.joined graph) }
 {
     let Joined { graph, live: _ } = join_blocks_live(alloc, graph)?;
     Ok(graph)
@@ -51,7 +52,7 @@ pub fn join_blocks_live(alloc: Global, graph: Graph) -> Result<Joined, Memory>
     ensures within { IfOk result (λ j. MarksWithin (live_at j.live) graph.cells) }
     ensures needed { IfOk result (λ j. MarksNeeded (live_at j.live) graph) }
     ensures back { IfOk result (λ j. ComesBack graph j.graph) }
-    ensures one { IfOk result (λ j. made.IsJoinedGraph graph j.graph) }
+    ensures one { IfOk result (λ j. j.graph ≡ made.joined graph) }
 {
     let count = graph.cells().len();
     let made = attempted(alloc, &graph)?;
@@ -92,6 +93,7 @@ fn have_same_runs(
     ensures marked { IfOk result (λ b. IsTrue b → KeepsMarked (plan_of known.now).live graph.now blocked.now) }
     ensures needed { IfOk result (λ b. IsTrue b → MarksNeeded (plan_of known.now).live graph.now) }
     ensures back { IfOk result (λ b. IsTrue b → BlocksReturn graph.now blocked.now) }
+    ensures made { IfOk result (λ b. b ≡ made.tested graph.now blocked.now known.now (lists_of members.now)) }
 {
     let _entry = graph.entry();
     let _start = blocked.entry();
@@ -109,6 +111,7 @@ struct Attempt {
 /// The graph of the blocks before chains are joined.
 fn attempted(alloc: Global, graph: &Graph) -> Result<Attempt, Memory>
     ensures made { IfOk result (λ a. a.graph ≡ made.attempted graph.now 4194304) }
+    ensures test { IfOk result (λ a. made.tested graph.now a.graph a.known (lists_of a.members.items) ≡ made.has_blocks graph.now 4194304) }
 {
     let blocks = blocks_of(alloc, graph)?;
     let units = Units::new(alloc, graph.cells())?;

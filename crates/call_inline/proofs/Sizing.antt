@@ -147,6 +147,36 @@ exact graphs sizes sized settled f few =
     let least : min (nodes_with graphs (size_in sizes) f) 65537 ≤ size_in sizes f = settled f in
     omega (arith, most, least, few)
 
+-- ---- Copies of few nodes
+
+node-few : (s t : ℕ → ℕ) (v : Node) → ((g : ℕ) → min (t g) 65537 ≤ s g) → min (nodes_at t v) 65537 ≤ min (nodes_at s v) 65537
+node-few s t Plain h = omega arith
+node-few s t (Error kind at) h = omega arith
+node-few s t End h = omega arith
+node-few s t (Call callee next) h = let m : min (t callee) 65537 ≤ s callee = h callee in omega (arith, m)
+
+among-few : (s t : ℕ → ℕ) (vs : List Node) → ((g : ℕ) → min (t g) 65537 ≤ s g) → min (nodes_among t vs) 65537 ≤ min (nodes_among s vs) 65537
+among-few s t [] h = omega arith
+among-few s t (v ∷ vs) h =
+    let first : min (nodes_at t v) 65537 ≤ min (nodes_at s v) 65537 = node-few s t v h in
+    let rest : min (nodes_among t vs) 65537 ≤ min (nodes_among s vs) 65537 = among-few s t vs h in
+    omega (arith, first, rest)
+
+-- down to each depth a function has no more nodes than its settled size says, which counts to 65,537
+pub settled-few : (graphs : List FnFlow) (sizes : List ℕ) → AreSettled graphs sizes → (depth f : ℕ) → min (copy_nodes graphs depth f) 65537 ≤ size_in sizes f
+settled-few graphs sizes settled zero f = omega arith
+settled-few graphs sizes settled (suc depth) f =
+    let below : min (nodes_among (copy_nodes graphs depth) (nodes_of (slice_get graphs f))) 65537 ≤ min (nodes_with graphs (size_in sizes) f) 65537 =
+    among-few (size_in sizes) (copy_nodes graphs depth) (nodes_of (slice_get graphs f)) (λ g. settled-few graphs sizes settled depth g) in
+    let enough : min (nodes_with graphs (size_in sizes) f) 65537 ≤ size_in sizes f = settled f in
+    omega (arith, below, enough)
+
+-- so a function whose settled size is few has few down to each depth
+pub few-copies : (graphs : List FnFlow) (sizes : List ℕ) → AreSettled graphs sizes → (f : ℕ) → size_in sizes f ≤ 65536 → (depth : ℕ) → copy_nodes graphs depth f ≤ 65536
+few-copies graphs sizes settled f few depth =
+    let most : min (copy_nodes graphs depth f) 65537 ≤ size_in sizes f = settled-few graphs sizes settled depth f in
+    omega (arith, most, few)
+
 -- ---- Sums
 
 -- from a place on there are the node at the place, and those behind it

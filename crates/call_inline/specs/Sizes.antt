@@ -64,3 +64,7 @@ abbrev pub TooMany : Flows → SourceFail → Type 0
 TooMany p (Fault fault at) = ⊥
 TooMany p (Over number count) = (number ≡ 5) × (65536 < count) × ((depth : ℕ) × (count ≤ copy_nodes p.graphs depth p.main))
 TooMany p Memory = Unit {0}
+
+-- main has no more nodes than the limit, with the copies of all that it calls, down to whatever depth of calls
+abbrev pub HasFew : Flows → Type 0
+HasFew p = (depth : ℕ) → copy_nodes p.graphs depth p.main ≤ 65536

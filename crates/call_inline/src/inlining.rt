@@ -5,7 +5,7 @@ ghost use Rattle.call_inline.specs.Inlining.{Inlines, IsInlining};
 ghost use Rattle.call_inline.specs.Inlined.{inlined};
 ghost use Rattle.call_inline.specs.Copying.{copies_after, graph_of, lists_of, loop_in, main_loops};
 ghost use Rattle.call_inline.specs.Layout.{AreSparse, IsLaidOut};
-ghost use Rattle.call_inline.specs.Sizes.{TooMany};
+ghost use Rattle.call_inline.specs.Sizes.{HasFew, TooMany};
 
 use crate::copies::copies_of;
 use crate::edges::edges_of_all;
@@ -33,6 +33,7 @@ pub fn inline(alloc: Global, graphs: &FnGraphs) -> Result<Graph, SourceFail>
     ensures whole { AreSparse graphs.now → IfOk result (λ g. IsInlining graphs.now g) }
     ensures only { IfOk result (λ g. (g ≡ inlined graphs.now) ⊎ (g ≡ error_flow)) }
     ensures one { AreSparse graphs.now → IfOk result (λ g. g ≡ inlined graphs.now) }
+    ensures few { IfOk result (λ _. HasFew graphs.now) }
     ensures limit { IfErr result (TooMany graphs.now) }
 {
     let sizes = sizes_of(alloc, graphs.graphs())?;

@@ -4,22 +4,31 @@ use Rattle.c_typed.specs.Parts.{Parts, tree_of}
 use Rattle.call_order.specs.Order.{callees}
 use Rattle.call_order.specs.Walks.{order_by_walk}
 use Rattle.c_graph.specs.Shape.{Flow}
+use Rattle.c_graph.specs.Functions.{Flows}
 use Rattle.cfg_build.specs.Built.{built}
 use Rattle.call_inline.specs.Inlined.{inlined}
-use Rattle.block_join.specs.Made.{IsJoinedGraph}
+use Rattle.block_join.specs.Made.{joined}
 
--- of a program's typed tree and an order of its functions: the graphs of these, and that of `main` in which each call is a copy
-abbrev pub graph_of : Parts → List ℕ → Flow
-graph_of t order = inlined (built t order)
+-- the order in which a walk along the calls of a tree's functions leaves them
+abbrev pub own_order : Parts → List ℕ
+own_order t = order_by_walk (callees (tree_of t))
 
--- of a typed tree alone, with its functions in the order in which a walk along their calls leaves them
+-- the graphs of its functions, in that order
+unfoldable pub built_of : Parts → Flows
+built_of t = built t (own_order t)
+
+-- the graph of `main` in which each call is a copy
 abbrev pub whole_of : Parts → Flow
-whole_of t = graph_of t (order_by_walk (callees (tree_of t)))
+whole_of t = inlined (built_of t)
 
--- a graph of its blocks: by one answer of the test whether the blocks that are made are what the rule says
-abbrev pub IsJoinedOf : Parts → Flow → Type 0
-IsJoinedOf t g = IsJoinedGraph (whole_of t) g
+-- the graph of its blocks
+unfoldable pub joined_of : Parts → Flow
+joined_of t = joined (whole_of t)
 
 -- Two typed trees in memory that say the same have one graph.
 abbrev pub GraphsAreOfTrees : Type 0
 GraphsAreOfTrees = (t u : Parts) → tree_of t ≡ tree_of u → whole_of t ≡ whole_of u
+
+-- So they have one graph of blocks.
+abbrev pub BlocksAreOfTrees : Type 0
+BlocksAreOfTrees = (t u : Parts) → tree_of t ≡ tree_of u → joined_of t ≡ joined_of u

@@ -1,6 +1,7 @@
-use Rattle.std.proofs.Common.{◌≤◌, subst, length, arith}
+use Rattle.std.proofs.Common.{◌≤◌, ◌∙◌, ap, length, arith}
 use Rattle.c_graph.specs.Shape.{Flow}
-use Rattle.block_join.specs.Made.{IsJoinedGraph}
+use Rattle.block_join.specs.Made.{joined}
+use Rattle.source_graphs.specs.Whole.{joined_of}
 use Rattle.source_graphs.proofs.joined_blocks.Goals as goal
 
 pub returns-in-Ok-clause-stands : goal.returns-in-Ok-clause-stands
@@ -10,7 +11,8 @@ returns-in-Ok-clause-stands c =
     c.joined_graphs_stand.ensures c.args.examined.now.typed c.in_ok-graph.graph c.in-Ok.blocks.graph few c.in_ok-graph.ensures.follow c.in_ok-graph.ensures.back c.in-Ok.ensures.keeps c.in-Ok.ensures.back
 
 pub returns-in-Ok-clause-one : goal.returns-in-Ok-clause-one
-returns-in-Ok-clause-one c = subst (λ (g : Flow). IsJoinedGraph g c.in-Ok.blocks.graph) c.in_ok-graph.ensures.one c.in-Ok.ensures.one
+unfolding joined_of
+returns-in-Ok-clause-one c = c.in-Ok.ensures.one ∙ ap (λ (g : Flow). joined g) c.in_ok-graph.ensures.one
 
 pub returns-in-Ok-clause-visits : goal.returns-in-Ok-clause-visits
 returns-in-Ok-clause-visits c = record {

@@ -3,6 +3,7 @@ use Rattle.block_back_laws.proofs.Runs.{block_paths_come_back}
 use Rattle.join_laws.proofs.Errors.{blocks_keep}
 use Rattle.join_laws.proofs.Visits.{blocks_keep_live, blocks_keep_loops, plans_mark_needed}
 use Rattle.block_follow.proofs.Growing.{both, weaken}
+use Rattle.block_join.specs.Made.{tested}
 use Rattle.block_join.proofs.join.have_same_runs.Goals as goal
 
 pub returns-clause-stays : goal.returns-clause-stays
@@ -45,3 +46,7 @@ returns-clause-back c =
     let exact = is.1 t in
     (exact.weight, (block_paths_come_back g h plan c.entry-entry.ensures.flow c.entry-start.ensures.flow (is.0 t) exact, exact.few)))
     (both c.follows_rule.result _ _ c.follows_rule.ensures.blocked c.follows_rule.ensures.exact)
+
+pub returns-clause-made : goal.returns-clause-made
+unfolding tested
+returns-clause-made c = c.follows_rule.ensures.made

@@ -1,10 +1,14 @@
-use Rattle.std.proofs.Common.{None, Some, ap, false, length, refl, true, ◌∙◌}
+use Rattle.std.proofs.Common.{List, None, Some, Vec, ap, length, refl, sym, ◌∙◌}
+use Rattle.std.specs.Global.{Global}
+use Rattle.c_graph.specs.declared.graph.NodeId.{NodeId}
 use Rattle.join_laws.specs.Keeping.{KeepsErrors}
 use Rattle.join_laws.specs.Visits.{KeepsMarked, KeepsVisits}
 use Rattle.walk_states.specs.Known.{plan_of}
 use Rattle.block_join.specs.Joined.{BlocksReturn, Stays}
-use Rattle.block_join.specs.Made.{with_chains}
+use Rattle.block_follow.specs.Made.{lists_of}
+use Rattle.block_join.specs.Made.{tested}
 use Rattle.block_join.proofs.Coming.{blocks-come, chains-come}
+use Rattle.block_join.proofs.Joining.{joined-else, joined-where}
 use Rattle.block_join.proofs.Keeping.{kept-on, stays-on, stores-visit, visits-on}
 use Rattle.block_join.proofs.Marking.{live-needed, live-read, live-within, marked-on, stores-marked}
 use Rattle.block_join.proofs.join.join_blocks_live.Goals as goal
@@ -68,7 +72,12 @@ pub returns-in_ok-graph-2-clause-back : goal.returns-in_ok-graph-2-clause-back
 returns-in_ok-graph-2-clause-back c = chains-come c.args.graph c.in_ok-graph-2.graph c.in_ok-graph-2.ensures.back
 
 pub returns-in_ok-graph-clause-one : goal.returns-in_ok-graph-clause-one
-returns-in_ok-graph-clause-one c = (true, c.in_ok-graph.ensures.made ∙ ap with_chains c.in_ok-made.ensures.made)
+returns-in_ok-graph-clause-one c =
+    let same = ap (λ (ms : List (Vec NodeId Global)). tested c.args.graph c.in_ok-made.made.graph c.in_ok-made.made.known (lists_of ms)) c.deref.ensures.value in
+    joined-where c.args.graph c.in_ok-made.made.graph c.in_ok-graph.graph (sym c.in_ok-are_same.ensures.made ∙ c.if-are_same.true) (same ∙ c.in_ok-made.ensures.test)
+    c.in_ok-made.ensures.made c.in_ok-graph.ensures.made
 
 pub returns-in_ok-graph-2-clause-one : goal.returns-in_ok-graph-2-clause-one
-returns-in_ok-graph-2-clause-one c = (false, c.in_ok-graph-2.ensures.made)
+returns-in_ok-graph-2-clause-one c =
+    let same = ap (λ (ms : List (Vec NodeId Global)). tested c.args.graph c.in_ok-made.made.graph c.in_ok-made.made.known (lists_of ms)) c.deref.ensures.value in
+    joined-else c.args.graph c.in_ok-graph-2.graph (sym c.in_ok-are_same.ensures.made ∙ c.if-are_same.false) (same ∙ c.in_ok-made.ensures.test) c.in_ok-graph-2.ensures.made
