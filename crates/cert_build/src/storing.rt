@@ -46,6 +46,7 @@ pub fn certificate(
 ) -> Result<Cert, Memory>
     ensures named { IfOk result (λ c. (c.hash ≡ hash) × (c.model ≡ model)) }
     ensures of_map { IfOk result (λ c. (c.terms.items ≡ map.now.terms.terms) × (numbered c.formulas.items ≡ map.now.at)) }
+    ensures logs { IfOk result (λ c. c.logs.items ≡ logs.items) }
     ensures accepted { (g : Flow) (learn : ℕ) → IsMapOf g map.now → AreProofs g map.now learn logs.items → IfOk result (IsAccepted g) }
 {
     let _count = map.terms().count();

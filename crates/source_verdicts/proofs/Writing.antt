@@ -9,6 +9,7 @@ use Rattle.c_run.specs.Run.{Error}
 use Rattle.c_typed.specs.Tree.{Program}
 use Rattle.c_typed.specs.Run.{run}
 use Rattle.c_graph.specs.Shape.{Flow}
+use Rattle.c_graph.specs.Runs.{Formulas}
 use Rattle.stored_text.specs.declared.StoredFail.{StoredFail}
 use Rattle.stored_text.specs.declared.StoredFail.TheVariants as stored
 use Rattle.stored_text.specs.Writing.{write_run_of}
@@ -18,18 +19,18 @@ use Rattle.cert_text.specs.Writing.{write_cert_of}
 use Rattle.cert_verdicts.specs.Judged.{IsCertificate}
 use Rattle.verdicts.specs.declared.verdict.Verdict.{Verdict}
 use Rattle.verdicts.specs.declared.verdict.Verdict.TheVariants.{Unsafe}
-use Rattle.source_verdicts.specs.Verified.{IsVerified, Meets, MeetsAt, unwritten_for}
+use Rattle.source_verdicts.specs.Verified.{IsExtracted, IsOfMap, IsVerified, Meets, MeetsAt, unwritten_for}
 use Rattle.source_verdicts.specs.Verified.IsLimit.{of_bytes, of_values}
 
 module _ (p : Program) (g : Flow) (source : List ℕ) (model : Model) (units learn : ℕ) where
-  no_cert : (cert : Cert) → IsCertificate g source model cert → (e : StoredFail) → (e ≡ stored.Memory) ⊎ (write_cert_of (content_of cert) ≡ Err e) → IsVerified p g source model units learn (unwritten_for e)
-  no_cert cert is (stored.Over number count) (inl m) = absurd (cc)
-  no_cert cert is (stored.Over number count) (inr r) = of_bytes cert is r
-  no_cert cert is (stored.Format at) h = tt
-  no_cert cert is stored.Memory h = tt
+  no_cert : (cert : Cert) (m : Formulas) → IsExtracted g units m → IsOfMap g learn m cert → IsCertificate g source model cert → (e : StoredFail) → (e ≡ stored.Memory) ⊎ (write_cert_of (content_of cert) ≡ Err e) → IsVerified p g source model units learn (unwritten_for e)
+  no_cert cert m ex held is (stored.Over number count) (inl lacks) = absurd (cc)
+  no_cert cert m ex held is (stored.Over number count) (inr r) = of_bytes cert m ex held is r
+  no_cert cert m ex held is (stored.Format at) h = tt
+  no_cert cert m ex held is stored.Memory h = tt
 
-  pub cert_unwritten : (cert : Cert) → IsCertificate g source model cert → (e : StoredFail) (v : Verdict) → v ≡ unwritten_for e → (e ≡ stored.Memory) ⊎ (write_cert_of (content_of cert) ≡ Err e) → IsVerified p g source model units learn v
-  cert_unwritten cert is e v said h = subst (IsVerified p g source model units learn) (sym said) (no_cert cert is e h)
+  pub cert_unwritten : (cert : Cert) (m : Formulas) → IsExtracted g units m → IsOfMap g learn m cert → IsCertificate g source model cert → (e : StoredFail) (v : Verdict) → v ≡ unwritten_for e → (e ≡ stored.Memory) ⊎ (write_cert_of (content_of cert) ≡ Err e) → IsVerified p g source model units learn v
+  cert_unwritten cert m ex held is e v said h = subst (IsVerified p g source model units learn) (sym said) (no_cert cert m ex held is e h)
 
   no_run : (kind : ErrorKind) (place : Place) (values : List ℤ) → Meets p source kind place values → (e : StoredFail) → (e ≡ stored.Memory) ⊎ (write_run_of values ≡ Err e) → IsVerified p g source model units learn (unwritten_for e)
   no_run kind place values meets (stored.Over number count) (inl m) = absurd (cc)

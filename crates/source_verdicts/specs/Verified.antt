@@ -1,5 +1,5 @@
 -- What the verdict on a source means.
-use Rattle.std.specs.Prelude.{ℕ, ◌≡◌, ◌⊎◌, Bool, false, nat_lt, ◌==◌, if◌then◌else◌, List, length, ℤ, Option, Some, None, Ok, Err, unsigned_abs}
+use Rattle.std.specs.Prelude.{ℕ, ◌≡◌, ◌≤◌, ◌⊎◌, Bool, true, false, nat_lt, ◌==◌, if◌then◌else◌, List, length, ℤ, Option, Some, None, Ok, Err, unsigned_abs}
 use Rattle.std.specs.List.{list_all}
 use Rattle.lv_base.specs.Place.{place_at}
 use Rattle.lv_base.specs.declared.kind.Model.{Model}
@@ -29,7 +29,8 @@ use Rattle.cert_text.specs.declared.Cert.{Cert}
 use Rattle.cert_text.specs.Content.{content_of}
 use Rattle.cert_text.specs.Reading.{read_cert_of}
 use Rattle.cert_text.specs.Writing.{write_cert_of}
-use Rattle.cert_build.specs.Proofs.{IsLowest}
+use Rattle.cert_build.specs.Proofs.{AreProofs, IsLowest}
+use Rattle.invariant_map.specs.Labels.{SaysLabels}
 use Rattle.cert_verdicts.specs.Judged.{IsCertificate}
 use Rattle.cert_check.specs.Answers.{numbered}
 use Rattle.source_verdicts.specs.declared.found.Found.{Found}
@@ -43,6 +44,30 @@ pub record IsProved (g : Flow) (source : List ℕ) (model : Model) (text : List 
   pub written : write_cert_of (content_of cert) ≡ Ok text
   pub read : read_cert_of text ≡ Ok (content_of cert)
   pub is : IsCertificate g source model cert
+
+-- The exploration is finished: a legal and steered unwinding of the graph, of no more units than are allowed, is complete. The map says at
+-- each node what the labels of the uncovered vertices there say.
+pub record IsExtracted (g : Flow) (units : ℕ) (m : Formulas) : Type 0 where
+  pub unwinding : Unwound
+  pub legal : Legal g unwinding
+  pub steered : Steered g unwinding
+  pub complete : is_complete g unwinding ≡ true
+  pub few : length unwinding.journal ≤ units
+  pub map : IsMapOf g m
+  pub says : SaysLabels g unwinding m
+
+-- The certificate holds the terms and formulas of this map, and for each of its obligations a lean refutation with so many learned clauses at most.
+pub record IsOfMap (g : Flow) (learn : ℕ) (m : Formulas) (cert : Cert) : Type 0 where
+  pub terms : cert.terms.items ≡ m.terms.terms
+  pub formulas : numbered cert.formulas.items ≡ m.at
+  pub logs : AreProofs g m learn cert.logs.items
+
+-- the text is that of the certificate of a finished exploration's map
+pub record IsSafe (g : Flow) (source : List ℕ) (model : Model) (units learn : ℕ) (text : List ℕ) : Type 0 where
+  pub proved : IsProved g source model text
+  pub map : Formulas
+  pub extracted : IsExtracted g units map
+  pub of_map : IsOfMap g learn map proved.cert
 
 -- these values, all of them being drawn, lead the program to this error
 pub record Meets (p : Program) (source : List ℕ) (kind : ErrorKind) (place : Place) (values : List ℤ) : Type 0 where
@@ -73,12 +98,12 @@ IsTooHeavy g units learn = (log : List Chain) × IsMet g units learn (λ clauses
 abbrev pub IsTooLong : Flow → ℕ → ℕ → ℕ → Type 0
 IsTooLong g units learn count = IsMet g units learn (λ clauses. IsCutOff clauses (PastLiterals count))
 
--- Which limit was passed: on the literals of a question or obligation, on the pairs of its log, on the bytes of a certificate
--- that is accepted, or on the values that lead to an error.
+-- Which limit was passed: on the literals of a question or obligation, on the pairs of its log, on the bytes of the certificate of a finished
+-- exploration's map, which is accepted, or on the values that lead to an error.
 pub data IsLimit (p : Program) (g : Flow) (source : List ℕ) (model : Model) (units learn number count : ℕ) : Type 0 where
   of_literals : number ≡ 6 → IsTooLong g units learn count → IsLimit p g source model units learn number count
   of_pairs : number ≡ 7 → count ≡ 134217728 → IsTooHeavy g units learn → IsLimit p g source model units learn number count
-  of_bytes : (cert : Cert) → IsCertificate g source model cert → write_cert_of (content_of cert) ≡ Err (stored.Over number count) → IsLimit p g source model units learn number count
+  of_bytes : (cert : Cert) (m : Formulas) → IsExtracted g units m → IsOfMap g learn m cert → IsCertificate g source model cert → write_cert_of (content_of cert) ≡ Err (stored.Over number count) → IsLimit p g source model units learn number count
   of_values : (kind : ErrorKind) (place : Place) (values : List ℤ) → Meets p source kind place values → write_run_of values ≡ Err (stored.Over number count) → IsLimit p g source model units learn number count
 
 -- a legal and steered unwinding of the graph has all units that are allowed and is not complete
@@ -92,7 +117,7 @@ pub record IsOutOfUnits (g : Flow) (units : ℕ) : Type 0 where
 -- What a verdict means, on a source with this typed tree, from the graph that was made of it, with so many units and learned
 -- clauses of a question.
 abbrev pub IsVerified : Program → Flow → List ℕ → Model → ℕ → ℕ → Verdict → Type 0
-IsVerified p g source model units learn (Safe text) = IsProved g source model text
+IsVerified p g source model units learn (Safe text) = IsSafe g source model units learn text
 IsVerified p g source model units learn (Unsafe kind place values text) = Meets p source kind place values × (write_run_of values ≡ Ok text)
 IsVerified p g source model units learn (OutOfUnits n) = (n ≡ units) × ((units ≡ 0) ⊎ IsOutOfUnits g units)
 IsVerified p g source model units learn (OutOfLearn n) = (n ≡ learn) × ((learn ≡ 0) ⊎ IsOutOfLearn g units learn)

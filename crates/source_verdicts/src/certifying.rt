@@ -1,14 +1,15 @@
-ghost use Rattle.std.specs.Prelude.{◌≡◌, ◌<◌, ◌≤◌, ℕ, true};
+ghost use Rattle.std.specs.Prelude.{◌≡◌, ◌<◌, ◌≤◌, ℕ, length, true};
 ghost use Rattle.sha2.specs.Sha256.{sha256};
 ghost use Rattle.c_graph.specs.Runs.{IsMapOf};
 ghost use Rattle.c_graph.specs.Shape.{widths_of};
 ghost use Rattle.cert_build.specs.Proofs.{AreProofs};
-ghost use Rattle.cert_check.specs.Answers.{IsAccepted, numbered};
+ghost use Rattle.cert_check.specs.Answers.{IsAccepted};
 ghost use Rattle.cover_engine.specs.Unwindings.{is_complete};
 ghost use Rattle.cover_engine.specs.Units.{Legal};
+ghost use Rattle.cover_engine.specs.Steering.{Steered};
 ghost use Rattle.obligation_laws.specs.Laws.{AllRefuted};
 ghost use Rattle.c_typed.specs.Tree.{Program};
-ghost use Rattle.source_verdicts.specs.Verified.{IsByMap, IsVerified, IsVerifiedAs};
+ghost use Rattle.source_verdicts.specs.Verified.{IsByMap, IsExtracted, IsOfMap, IsVerified, IsVerifiedAs};
 
 use crate::found::Found;
 use crate::unwritten::unwritten;
@@ -47,10 +48,11 @@ pub(crate) fn certified<R: Threads + Sync, G: Gate>(
 ) -> (Verdict, Found)
     requires cells { unwinding.now.terms.cells ≡ widths_of graph.now.cells }
     requires legal { Legal graph.now unwinding.now }
+    requires steered { Steered graph.now unwinding.now }
     requires complete { is_complete graph.now unwinding.now ≡ true }
     requires learn { 0 < budget.learn }
     requires workers { (1 ≤ budget.workers) × (budget.workers ≤ 64) }
-    ensures { (p : Program) (units : ℕ) → IsVerifiedAs p graph.now source.now model units budget.learn result }
+    ensures { (p : Program) (units : ℕ) → length unwinding.now.journal ≤ units → IsVerifiedAs p graph.now source.now model units budget.learn result }
 {
     extracted_is_inductive();
     inductive_exact();
@@ -80,11 +82,11 @@ fn proved<R: Threads + Sync, G: Gate>(
     requires refuted { AllRefuted graph.now map.now }
     requires learn { 0 < budget.learn }
     requires workers { (1 ≤ budget.workers) × (budget.workers ≤ 64) }
-    ensures { ((p : Program) (units : ℕ) → IsVerified p graph.now source.now model units budget.learn result) × IsByMap graph.now source.now model map.now result }
+    ensures { ((p : Program) (units : ℕ) → IsExtracted graph.now units map.now → IsVerified p graph.now source.now model units budget.learn result) × IsByMap graph.now source.now model map.now result }
 {
     let (learn, workers) = (budget.learn, budget.workers);
     match prove_beside(rt, alloc, graph, map, learn, workers, gate) {
-        Ok(Proved::Logs(logs)) => stored(alloc, graph, source, model, map, logs),
+        Ok(Proved::Logs(logs)) => stored(alloc, graph, source, model, map, logs, learn),
         Ok(Proved::Fails(_number)) => unreachable!(),
         Ok(Proved::Spent(_number, _log)) => Verdict::OutOfLearn(learn),
         Err(QueryFail::Over(count)) => Verdict::Over(6, count),
@@ -100,13 +102,14 @@ fn stored(
     model: Model,
     map: &Map,
     logs: Vec<Log>,
+    learn: u64,
 ) -> Verdict
     requires map { IsMapOf graph.now map.now }
-    requires proofs { (learn : ℕ) × AreProofs graph.now map.now learn logs.items }
-    ensures { ((p : Program) (units learn : ℕ) → IsVerified p graph.now source.now model units learn result) × IsByMap graph.now source.now model map.now result }
+    requires proofs { AreProofs graph.now map.now learn logs.items }
+    ensures { ((p : Program) (units : ℕ) → IsExtracted graph.now units map.now → IsVerified p graph.now source.now model units learn result) × IsByMap graph.now source.now model map.now result }
 {
     match certificate(alloc, Sha256::digest(source), model, map, logs) {
-        Ok(cert) => written(alloc, graph, source, model, map, &cert),
+        Ok(cert) => written(alloc, graph, source, model, map, &cert, learn),
         Err(_) => Verdict::NoMemory,
     }
 }
@@ -119,12 +122,13 @@ fn written(
     _model: Model,
     _map: &Map,
     cert: &Cert,
+    _learn: u64,
 ) -> Verdict
     requires hash { cert.now.hash ≡ sha256 _source.now }
     requires model { cert.now.model ≡ _model }
-    requires of_map { (cert.now.terms.items ≡ _map.now.terms.terms) × (numbered cert.now.formulas.items ≡ _map.now.at) }
+    requires of_map { IsOfMap graph.now _learn _map.now cert.now }
     requires accepted { IsAccepted graph.now cert.now }
-    ensures { ((p : Program) (units learn : ℕ) → IsVerified p graph.now _source.now _model units learn result) × IsByMap graph.now _source.now _model _map.now result }
+    ensures { ((p : Program) (units : ℕ) → IsExtracted graph.now units _map.now → IsVerified p graph.now _source.now _model units _learn result) × IsByMap graph.now _source.now _model _map.now result }
 {
     accepted_is_safe();
     written_is_read();

@@ -17,5 +17,16 @@ proved-verdict-requires-clause-refuted g c =
     λ _ _. refuted
 
 pub returns-in-Ok : goal.returns-in-Ok
-returns-in-Ok g c = λ p units.
-    (c.proved-verdict.ensures.0 p units, found_map p c.args.graph.now c.args.source.now c.args.model c.in-Ok.map c.proved-verdict.result c.proved-verdict.ensures.1)
+returns-in-Ok g c = λ p units few. (
+  c.proved-verdict.ensures.0 p units
+      (record {
+        unwinding = c.args.unwinding.now;
+        legal = c.requires.legal;
+        steered = c.requires.steered;
+        complete = c.requires.complete;
+        few = few;
+        map = c.in-Ok.ensures.map;
+        says = c.in-Ok.ensures.says;
+      }),
+  found_map p c.args.graph.now c.args.source.now c.args.model c.in-Ok.map c.proved-verdict.result c.proved-verdict.ensures.1,
+)

@@ -20,7 +20,7 @@ returns-in-Ok c =
         safe = λ draws v kind at after runs is. c.accepted_is_safe.ensures c.args.graph.now c.args.cert.now draws v kind at after c.entry-entry.ensures.flow c.requires.accepted runs is;
       };
     } in
-    (λ p units learn. proof, record { proved = proof; terms = c.requires.of_map.0; formulas = c.requires.of_map.1 })
+    (λ p units extracted. record { proved = proof; map = c.args._map.now; extracted = extracted; of_map = c.requires.of_map }, record { proved = proof; terms = c.requires.of_map.terms; formulas = c.requires.of_map.formulas })
 
 pub returns-in-Err : goal.returns-in-Err
 returns-in-Err c =
@@ -30,6 +30,6 @@ returns-in-Err c =
       accepted = c.requires.accepted;
       safe = λ draws v kind at after runs is. c.accepted_is_safe.ensures c.args.graph.now c.args.cert.now draws v kind at after c.entry-entry.ensures.flow c.requires.accepted runs is;
     } in (
-      λ p units learn. cert_unwritten p c.args.graph.now c.args._source.now c.args._model units learn c.args.cert.now is c.in-Err.fail c.unwritten.result c.unwritten.ensures c.in-Err.ensures.text,
+      λ p units extracted. cert_unwritten p c.args.graph.now c.args._source.now c.args._model units c.args._learn c.args.cert.now c.args._map.now extracted c.requires.of_map is c.in-Err.fail c.unwritten.result c.unwritten.ensures c.in-Err.ensures.text,
       no_text_map c.args.graph.now c.args._source.now c.args._model c.args._map.now c.in-Err.fail c.unwritten.result c.unwritten.ensures,
     )

@@ -17,7 +17,9 @@ replayed-requires-clause-ends g c =
     (found_ends p c.args.graph.now c.in-Ok-Feasible.unwinding c.in-Ok-Feasible.values turns c.errors_meet.ensures c.requires.back feasible (omega (arith, c.turns_for-turns.ensures, c.count.ensures)))
 
 pub returns-in-Ok-Complete : goal.returns-in-Ok-Complete
-returns-in-Ok-Complete g c = c.certified.ensures (tree_of c.args.examined.now.typed) c.args.budget.units
+returns-in-Ok-Complete g c =
+    c.certified.ensures (tree_of c.args.examined.now.typed) c.args.budget.units
+    (subst (λ e. IsExplored c.args.graph.now c.args.budget.units c.args.budget.learn e) c.in-Ok-Complete.field-0-is c.in-Ok-Complete.ensures.explored).1
 
 pub returns-in-Ok-Feasible : goal.returns-in-Ok-Feasible
 returns-in-Ok-Feasible g c = c.replayed.ensures c.args.graph.now c.args.model c.args.budget.units c.args.budget.learn
