@@ -439,6 +439,15 @@ fn answers_to_requests() {
     request_answers::safe_is_proved();
     request_answers::zero_is_certified();
     request_answers::unsafe_reaches();
+    request_answers::accepted_is_exact();
+    request_answers::safe_is_accepted();
+    request_answers::checks_agree();
+}
+
+#[test]
+fn graphs_of_sources() {
+    source_graphs::program_graphs_are_of_trees();
+    source_graphs::limits_are_exact();
 }
 
 // Of what witnesses state.

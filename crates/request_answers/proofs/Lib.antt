@@ -1,4 +1,5 @@
 pub mod Certified
+pub mod Exact
 pub mod Checks
 pub mod Files
 pub mod Judgements

@@ -32,7 +32,7 @@ limit_is source.Memory = tt
 
 pub refusal_is : (model : Model) (bytes : List ℕ) (v : Verdict) → IsRefused model bytes v → IsRefusal v
 refusal_is model bytes v (unread e read is) = subst IsRefusal (sym is) (refused_is bytes e)
-refusal_is model bytes v (over t order e replay big is) = subst IsRefusal (sym is) (limit_is e)
+refusal_is model bytes v (over t e replay big is) = subst IsRefusal (sym is) (limit_is e)
 refusal_is model bytes v (no_memory is) = subst IsRefusal (sym is) tt
 
 -- none of them is a read fault

@@ -23,7 +23,7 @@ use Rattle.witness_visit_laws.specs.Visited.{InvariantIsTrue, VisitsMarked}
 use Rattle.witness_visit_laws.proofs.Writing.{written-invariants-are-true}
 use Rattle.verdicts.specs.declared.verdict.Verdict.{Verdict}
 use Rattle.verdicts.specs.declared.verdict.Verdict.TheVariants.{Safe, Unsafe, OutOfUnits, OutOfLearn, Accepted, Rejected, Faulty, Over, ReadFault, NoMemory}
-use Rattle.request_answers.specs.Answers.{IsRefused, IsVerifyAnswer}
+use Rattle.request_answers.specs.Answers.{HasGraph, IsRefused, IsVerifyAnswer}
 use Rattle.request_answers.specs.Answers.IsVerifyAnswer.{too_long, refused, verified, read_failed, no_memory}
 use Rattle.request_answers.specs.Witnessed.{has_witness, is_reach, safe_witness_of, offset_witness_of, unsafe_witness_of, witness_of, IsTextOf, IsReachWitness, IsWitnessOf, IsWitnessBy}
 use Rattle.request_answers.proofs.Refusals.{IsRefusal, refusal_is, refusal_no_fault, verdict_no_fault}
@@ -77,10 +77,19 @@ witness_behind model stamp v t given name bytes source e f h =
 
 -- ---- What was verified
 
-module _ (t : Parts) (order : List ℕ) (g : Flow) (marks : ℕ → ℕ → Bool) (model : Model) (source : List ℕ) (stamp : Stamp) (replay : IsReplay model source (tree_of t)) (stands : StandsFor g (tree_of t))
-    (visits : VisitsMarked (program_setting t order) (tree_of t) marks g) (flow : IsFlow g) where
+module _ (t : Parts) (order : List ℕ) (g : Flow) (marks : ℕ → ℕ → Bool) (model : Model) (source : List ℕ) (stamp : Stamp) (has : HasGraph model source t g)
+    (visits : VisitsMarked (program_setting t order) (tree_of t) marks g) where
   abbrev p : Program
   p = tree_of t
+
+  abbrev replay : IsReplay model source (tree_of t)
+  replay = has.replay
+
+  abbrev stands : StandsFor g (tree_of t)
+  stands = has.stands
+
+  abbrev flow : IsFlow g
+  flow = has.flow
 
   -- the map of an accepted certificate is inductive, so that what is written of it is true
   true_there : (text : List ℕ) (m : Formulas) → HoldsMap g source model text m → (l : LoopAt) → IsLoopOf g l → InvariantIsTrue replay.tree model source g marks m l
@@ -149,14 +158,14 @@ module _ (t : Parts) (order : List ℕ) (g : Flow) (marks : ℕ → ℕ → Bool
       subst (λ (x : Verdict). IsWitnessOf name model source stamp x r.1) (sym h.0) h.1
 
   pub told_answer : (units learn : ℕ) (name : Option (List ℕ)) (told : Verdict × Found) (r : Verdict × Option (List ℕ)) → IsVerified p g source model units learn told.0 → IsTextOf name source replay.tree model g marks stamp told r → IsVerifyAnswer ⊥ model units learn source r.0
-  told_answer units learn None told r is h = subst (λ (x : Verdict). IsVerifyAnswer ⊥ model units learn source x) (sym h.0) (verified p g replay stands flow is)
-  told_answer units learn (Some name) told r is (inl h) = subst (λ (x : Verdict). IsVerifyAnswer ⊥ model units learn source x) (sym h.0) (verified p g replay stands flow is)
+  told_answer units learn None told r is h = subst (λ (x : Verdict). IsVerifyAnswer ⊥ model units learn source x) (sym h.0) (verified t g has is)
+  told_answer units learn (Some name) told r is (inl h) = subst (λ (x : Verdict). IsVerifyAnswer ⊥ model units learn source x) (sym h.0) (verified t g has is)
   told_answer units learn (Some name) told r is (inr h) = no_memory h.0
 
 -- a verification of a source that was read is no read fault
 pub answer_no_fault : (model : Model) (units learn : ℕ) (source : List ℕ) (v : Verdict) → IsVerifyAnswer ⊥ model units learn source v → v ≡ ReadFault → ⊥
 answer_no_fault model units learn source v (too_long h is) e = let both : Over 1 1048577 ≡ ReadFault = sym is ∙ e in cc
-answer_no_fault model units learn source v (refused r) e = refusal_no_fault model source v r e
-answer_no_fault model units learn source v (verified p g replay stands flow is) e = verdict_no_fault p g source model units learn v is e
+answer_no_fault model units learn source v (refused l r) e = refusal_no_fault model source v r e
+answer_no_fault model units learn source v (verified t g has is) e = verdict_no_fault (tree_of t) g source model units learn v is e
 answer_no_fault model units learn source v (read_failed h is) e = h
 answer_no_fault model units learn source v (no_memory is) e = let both : NoMemory ≡ ReadFault = sym is ∙ e in cc

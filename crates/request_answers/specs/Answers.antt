@@ -1,15 +1,15 @@
 -- The answers to requests for checks and verifications, by the files.
-use Rattle.std.specs.Prelude.{ℕ, ◌≡◌, ◌<◌, List, length, Err}
+use Rattle.std.specs.Prelude.{ℕ, ◌≡◌, ◌<◌, ◌≤◌, ◌^◌, List, length, Err}
 use Rattle.lv_base.specs.Place.{place_at}
 use Rattle.lv_base.specs.declared.kind.Model.{Model}
 use Rattle.lv_base.specs.declared.fail.SourceFail.{SourceFail}
 use Rattle.lv_base.specs.declared.fail.SourceFail.TheVariants as fail
 use Rattle.c_typed.specs.Parts.{Parts, tree_of}
-use Rattle.c_typed.specs.Tree.{Program}
 use Rattle.c_graph.specs.Shape.{Flow, IsFlow}
 use Rattle.source_reading.specs.Reading.{source_read, IsReplay}
 use Rattle.program_graphs.specs.Standing.{StandsFor}
-use Rattle.source_graphs.specs.Refusals.{IsTooBig}
+use Rattle.source_graphs.specs.Refusals.{IsTooBig, IsWithinLimits}
+use Rattle.source_graphs.specs.Whole.{joined_of}
 use Rattle.task_gen.specs.Generated.{generated}
 use Rattle.request_words.specs.Asked.{Asked, Check, Verify, Generate, plain_learn, plain_model, plain_units}
 use Rattle.verdicts.specs.declared.verdict.Verdict.{Verdict}
@@ -29,26 +29,36 @@ limit_for (fail.Over number count) = Over number count
 limit_for (fail.Fault fault at) = NoMemory
 limit_for fail.Memory = NoMemory
 
--- A source of at most 1,048,576 bytes is refused: for what is read of it, or for a limit that the graphs of its typed tree pass.
+-- A source is refused: for what is read of it, or for a limit that the graphs of its typed tree pass.
 pub data IsRefused (model : Model) (source : List ℕ) (v : Verdict) : Type 0 where
   unread : (e : SourceFail) → source_read model source ≡ Err e → v ≡ refused_for source e → IsRefused model source v
-  over : (t : Parts) (order : List ℕ) (e : SourceFail) → IsReplay model source (tree_of t) → IsTooBig t order e → v ≡ limit_for e → IsRefused model source v
+  over : (t : Parts) (e : SourceFail) → IsReplay model source (tree_of t) → IsTooBig t e → v ≡ limit_for e → IsRefused model source v
   no_memory : v ≡ NoMemory → IsRefused model source v
 
--- The answer to the check of a certificate's bytes against a source. The graph stands for the typed tree that it was made of.
+-- A source has a graph: it has at most 1,048,576 bytes, breaks no rule, and passes no limit. The graph is the one of its typed tree, for
+-- which it stands.
+pub record HasGraph (model : Model) (source : List ℕ) (t : Parts) (g : Flow) : Type 0 where
+  pub short : length source ≤ 2 ^ 20
+  pub replay : IsReplay model source (tree_of t)
+  pub within : IsWithinLimits t
+  pub is : g ≡ joined_of t
+  pub stands : StandsFor g (tree_of t)
+  pub flow : IsFlow g
+
+-- The answer to the check of a certificate's bytes against a source, on the source's graph.
 pub data IsCheckAnswer (rose : Type 0) (model : Model) (source cert : List ℕ) (v : Verdict) : Type 0 where
   too_long : 1048576 < length source → v ≡ Over 1 1048577 → IsCheckAnswer rose model source cert v
-  refused : IsRefused model source v → IsCheckAnswer rose model source cert v
-  long_cert : (p : Program) → IsReplay model source p → 67108864 < length cert → v ≡ Over 8 67108865 → IsCheckAnswer rose model source cert v
-  judged : (p : Program) (g : Flow) → IsReplay model source p → StandsFor g p → IsFlow g → IsJudged g source model cert v → IsCheckAnswer rose model source cert v
+  refused : length source ≤ 2 ^ 20 → IsRefused model source v → IsCheckAnswer rose model source cert v
+  long_cert : (t : Parts) (g : Flow) → HasGraph model source t g → 67108864 < length cert → v ≡ Over 8 67108865 → IsCheckAnswer rose model source cert v
+  judged : (t : Parts) (g : Flow) → HasGraph model source t g → length cert ≤ 67108864 → IsJudged g source model cert v → IsCheckAnswer rose model source cert v
   read_failed : rose → v ≡ ReadFault → IsCheckAnswer rose model source cert v
   no_memory : v ≡ NoMemory → IsCheckAnswer rose model source cert v
 
--- The answer to the verification of a source.
+-- The answer to the verification of a source, on the source's graph.
 pub data IsVerifyAnswer (rose : Type 0) (model : Model) (units learn : ℕ) (source : List ℕ) (v : Verdict) : Type 0 where
   too_long : 1048576 < length source → v ≡ Over 1 1048577 → IsVerifyAnswer rose model units learn source v
-  refused : IsRefused model source v → IsVerifyAnswer rose model units learn source v
-  verified : (p : Program) (g : Flow) → IsReplay model source p → StandsFor g p → IsFlow g → IsVerified p g source model units learn v → IsVerifyAnswer rose model units learn source v
+  refused : length source ≤ 2 ^ 20 → IsRefused model source v → IsVerifyAnswer rose model units learn source v
+  verified : (t : Parts) (g : Flow) → HasGraph model source t g → IsVerified (tree_of t) g source model units learn v → IsVerifyAnswer rose model units learn source v
   read_failed : rose → v ≡ ReadFault → IsVerifyAnswer rose model units learn source v
   no_memory : v ≡ NoMemory → IsVerifyAnswer rose model units learn source v
 

@@ -1,5 +1,5 @@
 -- What the answers mean.
-use Rattle.std.specs.Prelude.{ℕ, ℤ, ◌≡◌, List, Ok}
+use Rattle.std.specs.Prelude.{ℕ, ℤ, ◌≡◌, ◌⊎◌, ◌≤◌, List, length, Ok}
 use Rattle.lv_outside.specs.Counts.{Rose}
 use Rattle.lv_base.specs.Place.{place_at}
 use Rattle.lv_base.specs.declared.kind.Model.{Model}
@@ -13,16 +13,17 @@ use Rattle.cert_text.specs.Content.{content_of}
 use Rattle.cert_text.specs.Reading.{read_cert_of}
 use Rattle.cert_verdicts.specs.Judged.{HasNoErrors, IsCertificate}
 use Rattle.source_verdicts.specs.Laws.{IsAcceptedBack}
-use Rattle.source_verdicts.specs.Verified.{IsProved}
+use Rattle.source_verdicts.specs.Verified.{IsSafe}
 use Rattle.source_reading.specs.Reading.{source_read, IsReplay, RunsAs}
 use Rattle.program_graphs.specs.Standing.{StandsFor}
+use Rattle.c_typed.specs.Parts.{Parts}
 use Rattle.c_typed.specs.Tree.{Program}
 use Rattle.verdicts.specs.declared.verdict.Verdict.{Verdict}
-use Rattle.verdicts.specs.declared.verdict.Verdict.TheVariants.{Safe, Unsafe, Accepted}
+use Rattle.verdicts.specs.declared.verdict.Verdict.TheVariants.{Safe, Unsafe, Accepted, Over, ReadFault, NoMemory}
 use Rattle.task_gen.specs.Generated.{generated}
 use Rattle.request_words.specs.Asked.{Asked, Check, Verify, Generate, plain_model}
 use Rattle.verdicts.specs.Lines.{status_of}
-use Rattle.request_answers.specs.Answers.{IsAnswer, IsCheckAnswer, IsVerifyAnswer}
+use Rattle.request_answers.specs.Answers.{HasGraph, IsAnswer, IsCheckAnswer, IsVerifyAnswer}
 
 -- A certificate is accepted only where the source is secure, and the bytes are read to one of the source under the model, which is
 -- accepted on a graph that stands for the source's tree: no run of that graph meets an error.
@@ -34,12 +35,13 @@ AcceptedIsCertified =
     × ((c : Cert) × (read_cert_of bytes ≡ Ok (content_of c)) × IsCertificate g source model c))
 
 -- A source is called safe only where it is secure, with the text of a certificate that is accepted on a graph that stands for its
--- tree: no run of that graph meets an error, and each check of the text against that graph accepts it, or memory runs out.
+-- tree: no run of that graph meets an error, and each check of the text against that graph accepts it, or memory runs out. The certificate is
+-- that of the map of a complete unwinding, which is legal and steered and has no more units than are allowed.
 abbrev pub SafeIsProved : Type 0
 SafeIsProved =
     (before behind : ℕ) (model : Model) (units learn : ℕ) (source text : List ℕ) → IsVerifyAnswer (Rose before behind) model units learn source (Safe text)
     → (tree : Items) × (source_read model source ≡ Ok tree) × Secure tree model
-    × ((p : Program) × (g : Flow) × RunsAs p tree model × StandsFor g p × IsFlow g × IsProved g source model text
+    × ((p : Program) × (g : Flow) × RunsAs p tree model × StandsFor g p × IsFlow g × IsSafe g source model units learn text
     × IsAcceptedBack g source model text)
 
 -- The source has a typed tree that runs as it does, and a graph that stands for the tree, no run of which meets an error: so no run of
@@ -70,3 +72,45 @@ UnsafeReaches =
     → IsVerifyAnswer (Rose before behind) model units learn source (Unsafe kind place values text)
     → (tree : Items) × (source_read model source ≡ Ok tree)
     × ((at : ℕ) × (place ≡ place_at source at) × Reaches tree model values kind at)
+
+-- ---- Exact answers
+
+-- The answer is not one of the bytes: memory runs out, or the host refuses to read.
+abbrev pub IsStopped : Type 0 → Verdict → Type 0
+IsStopped rose v = (v ≡ NoMemory) ⊎ (rose × (v ≡ ReadFault))
+
+-- What a check has to accept: the source has a graph, and the bytes, which are not too many, are read to a certificate of this source under
+-- this model, which is accepted on the graph.
+pub record IsAcceptable (model : Model) (source bytes : List ℕ) : Type 0 where
+  pub tree : Parts
+  pub graph : Flow
+  pub has : HasGraph model source tree graph
+  pub short : length bytes ≤ 67108864
+  pub cert : Cert
+  pub read : read_cert_of bytes ≡ Ok (content_of cert)
+  pub is : IsCertificate graph source model cert
+
+-- A check accepts what it has to accept, and nothing else.
+abbrev pub AcceptedIsExact : Type 0
+AcceptedIsExact =
+    (before behind : ℕ) (model : Model) (source bytes : List ℕ) (v : Verdict) → IsCheckAnswer (Rose before behind) model source bytes v
+    → (v ≡ Accepted → IsAcceptable model source bytes) × (IsAcceptable model source bytes → (v ≡ Accepted) ⊎ IsStopped (Rose before behind) v)
+
+-- What a verification calls safe, each check of the same source by the text that was written accepts.
+abbrev pub SafeIsAccepted : Type 0
+SafeIsAccepted =
+    (before between behind : ℕ) (model : Model) (units learn : ℕ) (source text : List ℕ) (v : Verdict)
+    → IsVerifyAnswer (Rose before between) model units learn source (Safe text) → IsCheckAnswer (Rose between behind) model source text v
+    → (v ≡ Accepted) ⊎ IsStopped (Rose between behind) v
+
+-- the same answer, but for the count that is told of what passes a limit
+abbrev pub IsSame : Verdict → Verdict → Type 0
+IsSame v w = (v ≡ w) ⊎ ((number : ℕ) × ((m : ℕ) × ((n : ℕ) × (v ≡ Over number m) × (w ≡ Over number n))))
+
+-- Two checks of the same bytes against the same source have one answer, unless one of them is stopped: so the first reason why
+-- bytes are rejected is told, whoever looks for it.
+abbrev pub ChecksAgree : Type 0
+ChecksAgree =
+    (before between behind : ℕ) (model : Model) (source bytes : List ℕ) (v w : Verdict)
+    → IsCheckAnswer (Rose before between) model source bytes v → IsCheckAnswer (Rose between behind) model source bytes w
+    → IsStopped (Rose before between) v ⊎ (IsStopped (Rose between behind) w ⊎ IsSame v w)

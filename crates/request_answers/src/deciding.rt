@@ -2,8 +2,6 @@ ghost use Rattle.std.specs.Prelude.{◌≡◌, ◌≤◌, ◌<◌, ◌^◌, ℕ,
 ghost use Rattle.std.specs.Option.{option_map};
 ghost use Rattle.lv_outside.specs.Counts.{Rose};
 ghost use Rattle.c_typed.specs.Parts.{tree_of};
-ghost use Rattle.source_reading.specs.Reading.{IsReplay};
-ghost use Rattle.program_graphs.specs.Standing.{StandsFor};
 ghost use Rattle.cfg_build.specs.Graphs.{program_setting};
 ghost use Rattle.block_join.specs.Living.{live_at};
 ghost use Rattle.witness_visit_laws.specs.Visited.{VisitsMarked};
@@ -12,7 +10,7 @@ ghost use Rattle.request_words.specs.Asked.{plain_learn, plain_model, plain_unit
 ghost use Rattle.request_words.specs.Views.{asked_by};
 ghost use Rattle.moment_text.specs.Moments.{IsMoment};
 ghost use Rattle.request_answers.specs.Witnessed.{IsWitnessBy, IsWitnessed, has_witness, named_for};
-ghost use Rattle.request_answers.specs.Answers.{IsAnswer, IsCheckAnswer, IsKnown, IsVerifyAnswer};
+ghost use Rattle.request_answers.specs.Answers.{HasGraph, IsAnswer, IsCheckAnswer, IsKnown, IsVerifyAnswer};
 
 use crate::loading::{Loaded, load_source};
 use crate::witnessing::{with_witness, witness_name};
@@ -110,8 +108,7 @@ fn check_cert<R: Threads + Sync, F: Folder, G: Gate>(
     checking: Checking<'_>,
     gate: &G,
 ) -> Verdict
-    requires replay { IsReplay checking.model source.now (tree_of parts.now.examined.typed) }
-    requires stands { StandsFor parts.now.joined.graph (tree_of parts.now.examined.typed) }
+    requires graph { HasGraph checking.model source.now parts.now.examined.typed parts.now.joined.graph }
     ensures answer { F.tells folder.old → IsCheckAnswer (Rose (F.read_faults folder.old) (F.read_faults folder.new)) checking.entry.model source.now (F.file folder.old checking.entry.cert.now) result }
     ensures read_fault { result ≡ Verdict.ReadFault → Rose (F.read_faults folder.old) (F.read_faults folder.new) }
     ensures tells { F.tells folder.old → F.tells folder.new }
@@ -270,8 +267,7 @@ fn verify_loaded<R: Threads + Sync, G: Gate>(
     requires small { length source.now ≤ 2 ^ 20 }
     requires workers { (1 ≤ budget.workers) × (budget.workers ≤ 64) }
     requires moment { IsMoment stamp.moment }
-    requires replay { IsReplay model source.now (tree_of parts.now.examined.typed) }
-    requires stands { StandsFor parts.now.joined.graph (tree_of parts.now.examined.typed) }
+    requires graph { HasGraph model source.now parts.now.examined.typed parts.now.joined.graph }
     requires marked { VisitsMarked (program_setting parts.now.examined.typed parts.now.examined.order) (tree_of parts.now.examined.typed) (live_at parts.now.joined.live) parts.now.joined.graph }
     ensures answer { IsVerifyAnswer ⊥ model budget.units budget.learn source.now result.0 }
     ensures witness { IsWitnessBy (option_map (λ s. s.now) name.entry) model source.now stamp result.0 result.1 }

@@ -1,5 +1,5 @@
 //! What the answers mean, each law as the contract of a function that does nothing.
-ghost use Rattle.request_answers.specs.Laws.{AcceptedIsCertified, SafeIsProved, UnsafeReaches, ZeroIsCertified};
+ghost use Rattle.request_answers.specs.Laws.{AcceptedIsCertified, AcceptedIsExact, ChecksAgree, SafeIsAccepted, SafeIsProved, UnsafeReaches, ZeroIsCertified};
 
 /// A certificate is accepted only where the source is secure, and with what makes its graph safe.
 pub fn accepted_is_certified()
@@ -19,4 +19,19 @@ pub fn zero_is_certified()
 /// A source is called unsafe only with values that reach the error.
 pub fn unsafe_reaches()
     ensures { UnsafeReaches }
+{}
+
+/// A check accepts the bytes that it has to accept, and no others, unless memory runs out or the host refuses to read.
+pub fn accepted_is_exact()
+    ensures { AcceptedIsExact }
+{}
+
+/// What a verification calls safe, each check of the same source by the text that was written accepts.
+pub fn safe_is_accepted()
+    ensures { SafeIsAccepted }
+{}
+
+/// Two checks of the same bytes against the same source have one answer, unless memory runs out or the host refuses to read.
+pub fn checks_agree()
+    ensures { ChecksAgree }
 {}

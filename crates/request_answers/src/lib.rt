@@ -11,4 +11,7 @@ mod storing;
 mod witnessing;
 
 pub use answering::{Told, answer};
-pub use laws::{accepted_is_certified, safe_is_proved, unsafe_reaches, zero_is_certified};
+pub use laws::{
+    accepted_is_certified, accepted_is_exact, checks_agree, safe_is_accepted, safe_is_proved,
+    unsafe_reaches, zero_is_certified,
+};

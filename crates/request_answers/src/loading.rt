@@ -2,11 +2,10 @@
 ghost use Rattle.std.specs.Prelude.{◌≡◌, ◌≤◌, ◌^◌, length, MatchResult};
 ghost use Rattle.c_typed.specs.Parts.{tree_of};
 ghost use Rattle.source_reading.specs.Reading.{IsReplay};
-ghost use Rattle.program_graphs.specs.Standing.{StandsFor};
 ghost use Rattle.cfg_build.specs.Graphs.{program_setting};
 ghost use Rattle.block_join.specs.Living.{live_at};
 ghost use Rattle.witness_visit_laws.specs.Visited.{VisitsMarked};
-ghost use Rattle.request_answers.specs.Answers.{IsRefused, refused_for, limit_for};
+ghost use Rattle.request_answers.specs.Answers.{HasGraph, IsRefused, refused_for, limit_for};
 
 use block_join::Joined;
 use c_rules::Examined;
@@ -26,7 +25,7 @@ pub(crate) struct Loaded {
 /// The typed tree and the graph of a source, or the answer to it where it is refused.
 pub(crate) fn load_source(alloc: Global, source: &[u8], model: Model) -> Result<Loaded, Verdict>
     requires small { length source.now ≤ 2 ^ 20 }
-    ensures { MatchResult result (λ s. IsReplay model source.now (tree_of s.examined.typed) × (StandsFor s.joined.graph (tree_of s.examined.typed) × VisitsMarked (program_setting s.examined.typed s.examined.order) (tree_of s.examined.typed) (live_at s.joined.live) s.joined.graph)) (λ v. IsRefused model source.now v) }
+    ensures { MatchResult result (λ s. HasGraph model source.now s.examined.typed s.joined.graph × VisitsMarked (program_setting s.examined.typed s.examined.order) (tree_of s.examined.typed) (live_at s.joined.live) s.joined.graph) (λ v. IsRefused model source.now v) }
 {
     match examined(alloc, source, model) {
         Ok(examined) => with_graph(alloc, source, model, examined),
@@ -40,11 +39,15 @@ fn with_graph(
     _model: Model,
     examined: Examined,
 ) -> Result<Loaded, Verdict>
+    requires small { length _source.now ≤ 2 ^ 20 }
     requires replay { IsReplay _model _source.now (tree_of examined.typed) }
-    ensures { MatchResult result (λ s. IsReplay _model _source.now (tree_of s.examined.typed) × (StandsFor s.joined.graph (tree_of s.examined.typed) × VisitsMarked (program_setting s.examined.typed s.examined.order) (tree_of s.examined.typed) (live_at s.joined.live) s.joined.graph)) (λ v. IsRefused _model _source.now v) }
+    ensures { MatchResult result (λ s. HasGraph _model _source.now s.examined.typed s.joined.graph × VisitsMarked (program_setting s.examined.typed s.examined.order) (tree_of s.examined.typed) (live_at s.joined.live) s.joined.graph) (λ v. IsRefused _model _source.now v) }
 {
     match joined_blocks(alloc, &examined) {
-        Ok(joined) => Ok(Loaded { examined, joined }),
+        Ok(joined) => {
+            let _entry = joined.graph.entry();
+            Ok(Loaded { examined, joined })
+        }
         Err(fail) => Err(limit(fail)),
     }
 }

@@ -8,12 +8,11 @@ returns g c =
     let t = parts.examined.typed in
     let order = parts.examined.order in
     let marks = live_at parts.joined.live in
-    let flow = c.entry-entry.ensures.flow in
-    let text = c.with_witness.ensures.text c.requires.replay.tree c.requires.replay.read in
-    let answer = told_answer t order parts.joined.graph marks c.args.model c.args.source.now c.args.stamp c.requires.replay c.requires.stands c.requires.marked flow c.args.budget.units c.args.budget.learn _ _ c.with_witness.result c.verify-told.ensures.0 text in
+    let text = c.with_witness.ensures.text c.requires.graph.replay.tree c.requires.graph.replay.read in
+    let answer = told_answer t order parts.joined.graph marks c.args.model c.args.source.now c.args.stamp c.requires.graph c.requires.marked c.args.budget.units c.args.budget.learn _ _ c.with_witness.result c.verify-told.ensures.0 text in
     record {
       answer = answer;
-      witness = told_witness t order parts.joined.graph marks c.args.model c.args.source.now c.args.stamp c.requires.replay c.requires.stands c.requires.marked flow _ _ c.with_witness.result c.verify-told.ensures.1 text;
+      witness = told_witness t order parts.joined.graph marks c.args.model c.args.source.now c.args.stamp c.requires.graph c.requires.marked _ _ c.with_witness.result c.verify-told.ensures.1 text;
       silent = c.with_witness.ensures.silent;
       no_fault = answer_no_fault _ _ _ _ _ answer;
     }

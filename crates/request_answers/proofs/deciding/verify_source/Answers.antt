@@ -4,7 +4,7 @@ use Rattle.request_answers.proofs.Witnesses.{refused_witness}
 use Rattle.request_answers.proofs.deciding.verify_source.Goals as goal
 
 pub returns-in-Err-clause-answer : goal.returns-in-Err-clause-answer
-returns-in-Err-clause-answer g c = refused c.in-Err.ensures
+returns-in-Err-clause-answer g c = refused c.requires.small c.in-Err.ensures
 
 pub returns-in-Err-clause-witness : goal.returns-in-Err-clause-witness
 returns-in-Err-clause-witness g c = refused_witness _ _ _ _ _ c.in-Err.ensures
