@@ -13,7 +13,6 @@
 mod deeds;
 mod edges;
 mod ends;
-mod walking;
 mod walks;
 
 use block_join::join_blocks;

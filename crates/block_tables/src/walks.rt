@@ -1,9 +1,8 @@
 //! Walks of a graph beside walks of the graph of its blocks.
 
 use crate::ends::stop_in;
-use crate::walking::{Walk, walk_listed};
 use c_graph::Graph;
-use graph_rows::Stop;
+use graph_rows::{ListedWalk, Stop, walk_listed};
 use row_text::{RowFail, halves};
 use std::alloc::Global;
 
@@ -20,7 +19,7 @@ fn values_in(alloc: Global, text: &str) -> Result<Vec<i128>, RowFail> {
 }
 
 // Whether the graph of blocks keeps such a walk: an error behind as many values, and elsewhere any end without an error that draws no more.
-fn keeps(graph: Walk, blocks: Walk) -> bool {
+fn keeps(graph: ListedWalk, blocks: ListedWalk) -> bool {
     match (graph.stop, blocks.stop) {
         (Stop::Error(_, _), _) => blocks == graph,
         (_, Stop::End | Stop::Stuck | Stop::Loop) => true,
@@ -40,7 +39,7 @@ pub(crate) fn ends_so<R: Print>(
 ) -> Result<bool, RowFail> {
     let (inputs, wanted) = halves(rest)?;
     let inputs = values_in(alloc, inputs)?;
-    let wanted = Walk {
+    let wanted = ListedWalk {
         stop: stop_in(wanted)?,
         drawn: inputs.len(),
     };

@@ -9,9 +9,11 @@
 
 mod edges;
 mod graphs;
+mod listed;
 mod nodes;
 mod walking;
 
 pub use graphs::{graph_of, whole_graph};
+pub use listed::{ListedWalk, walk_listed};
 pub use nodes::kind_in;
 pub use walking::{Inputs, Stop, walk_on};

@@ -4,14 +4,24 @@
 //! difference, for each source and model how many there were, and at the end how many walks. A graph that is larger than its source allows
 //! counts as a difference: more than 16 nodes for each token and function before calls are copies, or two saved cells for each token; or
 //! any cell, error or choice where `main` has no statement. It ends with status 1 where there is a difference or a source that has no graph.
+//!
+//! A file whose name ends with `.txt` is a table, and each of its rows that is not so under one of the models is a difference, printed with
+//! what came. The first of a row's columns, which have tabs between them, says what the others are:
+//!
+//! - `build`: a source, and what comes of the graphs of its functions: `made`, or `limit` with its number;
+//! - `inline`: a source whose functions have graphs, and what comes of the graph with each call a copy;
+//! - `walk` and `blocks`: a source, the values that a walk through this graph or that of its blocks draws, and how it ends: an error with its
+//!   place, or another end, behind so many values.
 #![tactic(auto)]
 
 mod chance;
 mod comparing;
+mod rows;
 mod sizes;
 mod walking;
 
 use crate::comparing::{Kept, Tally, compare};
+use crate::rows::other_of;
 use crate::sizes::{are_small, is_bare};
 use block_join::join_blocks;
 use lv_base::{Model, SourceFail};
@@ -19,7 +29,8 @@ use source_graphs::{LoadFail, examined, load, whole_graph};
 use std::alloc::Global;
 use std::process::ExitCode;
 use std::rt::{Env, Files};
-use std::{env, io};
+use std::{env, io, str};
+use table_rows::Flaw;
 
 // Why the sources were not tried.
 #[derive(Clone, Copy, Debug, PartialEq)]
@@ -27,6 +38,8 @@ enum Refusal {
     Memory,
     Words,
     Load(LoadFail),
+    // A table is no text.
+    Text,
     Output,
 }
 
@@ -43,7 +56,7 @@ fn sum(first: Tally, second: Tally) -> Tally {
     }
 }
 
-// A graph that is larger than it may be counts as a walk that ended in another way.
+// A graph that is larger than it may be, or a row that is not so, counts as a walk that ended in another way.
 fn tally_of(is_well: bool) -> Tally {
     Tally {
         walks: 0,
@@ -100,12 +113,55 @@ fn try_source<R: Print>(
     }
 }
 
+// Tries a row under a data model; whether it is so.
+fn is_so<R: Print>(alloc: Global, rt: &R, row: &str, model: Model) -> Result<bool, Refusal> {
+    let under = model.name();
+    let printed = match other_of(alloc, row, model) {
+        Ok(None) => return Ok(true),
+        Ok(Some(came)) => {
+            let came = came.as_str();
+            println!(rt; "{under}: {came}, and not as here: {row}")
+        }
+        Err(Flaw::Form) => println!(rt; "{under}: no row: {row}"),
+        Err(Flaw::Memory) => return Err(Refusal::Memory),
+    };
+    match printed {
+        Ok(()) => Ok(false),
+        Err(_) => Err(Refusal::Output),
+    }
+}
+
+// Tries the rows of a table. Lines that begin with `#`, and empty ones, are left out.
+fn try_table<R: Print>(alloc: Global, rt: &R, name: &str, bytes: &[u8]) -> Result<Tally, Refusal> {
+    let Ok(text) = str::from_utf8(bytes) else {
+        return Err(Refusal::Text);
+    };
+    let mut rows = 0u64;
+    let mut tally = tally_of(true);
+    for row in text.lines() {
+        if row.is_empty() || row.starts_with('#') {
+            continue;
+        }
+        rows = rows.saturating_add(1);
+        let narrow = is_so(alloc, rt, row, Model::Ilp32)?;
+        let wide = is_so(alloc, rt, row, Model::Lp64)?;
+        tally = sum(tally, tally_of(narrow && wide));
+    }
+    match println!(rt; "{name}: {rows} rows") {
+        Ok(()) => Ok(tally),
+        Err(_) => Err(Refusal::Output),
+    }
+}
+
 fn try_file<R>(rt: &R, name: &str, rounds: u32) -> Result<Tally, Refusal>
 where
     R: AllocGlobal + Files + Print + Clone + Drop,
 {
     let alloc = rt.alloc();
     let source = load(alloc, rt, name)?;
+    if name.ends_with(".txt") {
+        return try_table(alloc, rt, name, &source);
+    }
     let narrow = try_source(alloc, rt, name, &source, Model::Ilp32, rounds)?;
     let wide = try_source(alloc, rt, name, &source, Model::Lp64, rounds)?;
     Ok(sum(narrow, wide))

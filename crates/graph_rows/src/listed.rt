@@ -1,15 +1,17 @@
 //! Walks through a graph that draw listed values.
 
+use crate::walking::{Inputs, Stop, walk_on};
 use c_graph::{Graph, Origin};
-use graph_rows::{Inputs, Stop, walk_on};
 use row_text::RowFail;
 use std::alloc::Global;
 
 /// A walk: where it stopped, and how many values it drew.
 #[derive(Clone, Copy, Debug, Drop, PartialEq)]
-pub(crate) struct Walk {
-    pub(crate) stop: Stop,
-    pub(crate) drawn: usize,
+pub struct ListedWalk {
+    /// Where it stopped.
+    pub stop: Stop,
+    /// How many of the values it drew.
+    pub drawn: usize,
 }
 
 // Values of a list, and how many of them were drawn.
@@ -31,18 +33,20 @@ impl Inputs for Listed<'_> {
 
 /// The walk from the entry that draws these values. The first cells begin with the given values and the others with 0, but for saved
 /// cells, which begin with a value of their own.
-pub(crate) fn walk_listed(
+///
+/// Fails as [`walk_on`].
+pub fn walk_listed(
     alloc: Global,
     graph: &Graph,
     firsts: &[u128],
     saved: u128,
     values: &[i128],
-) -> Result<Walk, RowFail> {
+) -> Result<ListedWalk, RowFail> {
     let store = first_store(alloc, graph, firsts, saved)?;
     let mut inputs = Listed { values, drawn: 0 };
     let stop = walk_on(alloc, graph, store, &mut inputs)?;
     let drawn = inputs.drawn;
-    Ok(Walk { stop, drawn })
+    Ok(ListedWalk { stop, drawn })
 }
 
 fn first_store(
