@@ -1,3 +1,7 @@
+ghost use Rattle.std.specs.Prelude.{◌≡◌, OnOk};
+ghost use Rattle.c_tree.specs.View as v;
+ghost use Rattle.trace_sites.specs.Expressions as sites;
+
 use crate::site::{Part, Site, add};
 use c_tree::{AssignOp, BinaryOp, Expr, Listed, PrefixOp};
 use lv_base::Memory;
@@ -6,7 +10,9 @@ use tree_places::first_of;
 const DRAWS: &[u8; 18] = b"__VERIFIER_nondet_";
 
 // A called function that draws a value.
-fn add_draw(called: &Expr, found: &mut Vec<Site>) -> Result<(), Memory> {
+fn add_draw(called: &Expr, found: &mut Vec<Site>) -> Result<(), Memory>
+    ensures { OnOk result (found.new.items ≡ sites.draw_behind found.old.items (v.expr called.now)) }
+{
     match called {
         Expr::Name(name, at) if name.as_bytes().starts_with(DRAWS) => {
             add(found, Part::Draw, *at, *at)
@@ -16,14 +22,18 @@ fn add_draw(called: &Expr, found: &mut Vec<Site>) -> Result<(), Memory> {
 }
 
 // A left operand that decides whether the right one is evaluated.
-fn add_left(left: &Expr, op: BinaryOp, at: u32, found: &mut Vec<Site>) -> Result<(), Memory> {
+fn add_left(left: &Expr, op: BinaryOp, at: u32, found: &mut Vec<Site>) -> Result<(), Memory>
+    ensures { OnOk result (found.new.items ≡ sites.left_behind found.old.items (v.expr left.now) op at) }
+{
     match op {
         BinaryOp::AndAlso | BinaryOp::OrElse => add(found, Part::Decision, first_of(left), at),
         _ => Ok(()),
     }
 }
 
-fn add_assignment(op: AssignOp, at: u32, found: &mut Vec<Site>) -> Result<(), Memory> {
+fn add_assignment(op: AssignOp, at: u32, found: &mut Vec<Site>) -> Result<(), Memory>
+    ensures { OnOk result (found.new.items ≡ sites.assignment_behind found.old.items op at) }
+{
     match op {
         AssignOp::Plain => add(found, Part::Assignment, at, at),
         _ => Ok(()),
@@ -34,7 +44,10 @@ fn add_assignment(op: AssignOp, at: u32, found: &mut Vec<Site>) -> Result<(), Me
 ///
 /// Fails with `Memory`.
 #[cycle(sites)]
-pub(crate) fn part_sites(parts: &[Listed], found: &mut Vec<Site>) -> Result<(), Memory> {
+#[tactic(auto, using(crate::proofs::Lists::parts_more, std::proofs::lemmas::List::take_all))]
+pub(crate) fn part_sites(parts: &[Listed], found: &mut Vec<Site>) -> Result<(), Memory>
+    ensures { OnOk result (found.new.items ≡ sites.parts_behind found.old.items (v.parts_of parts.now)) }
+{
     for part in parts {
         expression_sites(&part.value, found)?;
     }
@@ -46,7 +59,9 @@ pub(crate) fn part_sites(parts: &[Listed], found: &mut Vec<Site>) -> Result<(), 
 ///
 /// Fails with `Memory`.
 #[cycle(sites)]
-pub(crate) fn expression_sites(e: &Expr, found: &mut Vec<Site>) -> Result<(), Memory> {
+pub(crate) fn expression_sites(e: &Expr, found: &mut Vec<Site>) -> Result<(), Memory>
+    ensures { OnOk result (found.new.items ≡ sites.expression_behind found.old.items (v.expr e.now)) }
+{
     match e {
         Expr::Name(_, _) | Expr::Number(_, _, _) | Expr::Letter(_, _) => Ok(()),
         Expr::Paren(_, e, _) => expression_sites(e, found),
@@ -82,7 +97,9 @@ pub(crate) fn expression_sites(e: &Expr, found: &mut Vec<Site>) -> Result<(), Me
 /// The sites in an expression that may be left out.
 ///
 /// Fails with `Memory`.
-pub(crate) fn option_sites(e: &Option<Box<Expr>>, found: &mut Vec<Site>) -> Result<(), Memory> {
+pub(crate) fn option_sites(e: &Option<Box<Expr>>, found: &mut Vec<Site>) -> Result<(), Memory>
+    ensures { OnOk result (found.new.items ≡ sites.option_behind found.old.items (v.option_expr e.now)) }
+{
     match e {
         None => Ok(()),
         Some(e) => expression_sites(e, found),

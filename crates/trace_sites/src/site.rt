@@ -1,3 +1,6 @@
+ghost use Rattle.std.specs.Prelude.{◌≡◌, OnOk};
+ghost use Rattle.trace_sites.specs.Expressions.{with_site};
+
 use lv_base::Memory;
 
 /// What stands at a site.
@@ -24,7 +27,9 @@ pub struct Site {
 /// Another site behind those that were found.
 ///
 /// Fails with `Memory`.
-pub(crate) fn add(found: &mut Vec<Site>, part: Part, from: u32, to: u32) -> Result<(), Memory> {
+pub(crate) fn add(found: &mut Vec<Site>, part: Part, from: u32, to: u32) -> Result<(), Memory>
+    ensures { OnOk result (found.new.items ≡ with_site found.old.items part from to) }
+{
     found.push(Site { part, from, to })?;
     Ok(())
 }

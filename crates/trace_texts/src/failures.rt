@@ -1,4 +1,4 @@
-ghost use Rattle.std.specs.Prelude.{◌≡◌, ◌++◌, ◌∷◌, [], codes, IfOk, string_bytes};
+ghost use Rattle.std.specs.Prelude.{◌≡◌, ◌++◌, ◌∷◌, [], codes, replicate, IfOk, string_bytes};
 ghost use Rattle.std.specs.Fmt.{decimal, signed_decimal};
 ghost use Rattle.lv_base.specs.Names.{error_name};
 ghost use Rattle.trace_texts.specs.Names as names;
@@ -68,7 +68,9 @@ pub fn broken(alloc: Global, at: &str, kind: ErrorKind, what: &str) -> Result<St
 }
 
 /// A mark behind so many columns.
-pub fn caret(alloc: Global, columns: usize) -> Result<String, Memory> {
+pub fn caret(alloc: Global, columns: usize) -> Result<String, Memory>
+    ensures { IfOk result (λ s. string_bytes s ≡ replicate columns 32 ++ (codes "^" ++ 10 ∷ [])) }
+{
     let mut text = String::new(alloc);
     for _ in 0..columns {
         text.push_str(" ")?;
