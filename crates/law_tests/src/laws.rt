@@ -311,6 +311,7 @@ fn visits_of_loops() {
     loop_visit_laws::loops_turn();
     loop_visit_laws::loop_visits_follow();
     inline_visit_laws::inlined_spots_follow();
+    loop_listing_laws::loops_are_listed();
     source_visit_laws::inlined_visits_follow();
     source_visit_laws::visits_hold();
     join_laws::blocks_keep_loops();

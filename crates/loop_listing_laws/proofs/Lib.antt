@@ -1,0 +1,8 @@
+mod Counting
+mod Calming
+mod Nearing
+mod Standing
+mod Seeking
+mod Programs
+mod Graphs
+mod Whole
