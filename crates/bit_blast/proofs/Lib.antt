@@ -5,3 +5,4 @@ pub mod Ready
 pub mod Cones
 pub mod Steps
 pub mod Over
+pub mod Flat

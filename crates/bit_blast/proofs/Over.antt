@@ -12,11 +12,11 @@ use Rattle.bit_words.specs.Elements.{decoded, stored, AllLong}
 use Rattle.bv_term.specs.WellFormed.{Table}
 use Rattle.bit_blast.specs.Done.{Known}
 use Rattle.bit_blast.specs.Emission.{cell_at}
-use Rattle.bit_blast.specs.Held.{Held, fresh_lits, fresh_cells, placed, replaced, known_index, store_in, store_of, begun, new_of, rebind_of, renew_of, IsOver, above_all}
+use Rattle.bit_blast.specs.Held.{Held, fresh_lits, fresh_cells, placed, replaced, known_index, store_open, store_in, store_of, begun, new_of, rebind_of, renew_of, IsOver, above_all}
 use Rattle.bit_blast.proofs.Lengths.{folded-outs}
 use Rattle.bit_blast.proofs.Steps.{stored-many}
 
-cell-width : (cells : List (List Lit)) (k : ℕ) → length (cell_at cells k) ≡ slice_index (map length cells) k
+pub cell-width : (cells : List (List Lit)) (k : ℕ) → length (cell_at cells k) ≡ slice_index (map length cells) k
 cell-width [] k = refl
 cell-width (c ∷ cs) zero = refl
 cell-width (c ∷ cs) (suc k) = cell-width cs k
@@ -47,7 +47,7 @@ over-rebind cell to h table e o = over-none table h.next h.one (placed h.cells c
 pub over-renew : (h : Held) (table : Table) → IsOver table h → IsOver table (renew_of h)
 over-renew h table o = over-none table h.next None h.cells o.cells
 
-long-at : (w : ℕ) (cells : List (List Lit)) (f m k : ℕ) → AllLong w (take m (drop f cells)) → k < m → f + m ≤ length cells → length (cell_at cells (f + k)) ≡ w
+pub long-at : (w : ℕ) (cells : List (List Lit)) (f m k : ℕ) → AllLong w (take m (drop f cells)) → k < m → f + m ≤ length cells → length (cell_at cells (f + k)) ≡ w
 long-at w cells f zero k h lt le = absurd (omega arith)
 long-at w [] zero (suc m) k h lt le = absurd (omega arith)
 long-at w (c ∷ cs) zero (suc m) zero h lt le = h.0
@@ -59,7 +59,7 @@ long-at w (c ∷ cs) (suc f) (suc m) k h lt le =
     let e : suc f + k ≡ suc (f + k) = omega arith in
     ap (λ (i : ℕ). length (cell_at (c ∷ cs) i)) e ∙ long-at w cs f (suc m) k h lt (omega arith)
 
-replaced-widths : (w : ℕ) (cells : List (List Lit)) (f : ℕ) (news : List (List Lit)) → AllLong w news
+pub replaced-widths : (w : ℕ) (cells : List (List Lit)) (f : ℕ) (news : List (List Lit)) → AllLong w news
     → ((k : ℕ) → k < length news → length (cell_at cells (f + k)) ≡ w) → map length (replaced cells f news) ≡ map length cells
 replaced-widths w cells f [] h g = refl
 replaced-widths w cells f (c ∷ cs) h g =
@@ -71,13 +71,19 @@ replaced-widths w cells f (c ∷ cs) h g =
     ∙ (ap (λ (t : ℕ). length (cell_at cells t)) z ∙ g 0 (omega arith)))) in
     placed-widths (replaced cells (suc f) cs) f c (h.0 ∙ sym at) ∙ i
 
-stored-long : (w : ℕ) (one : Lit) (n : ℕ) (es : List Lit) (cs : List (List Lit)) (value : List Lit) → length value ≡ w → AllLong w cs
+pub stored-long : (w : ℕ) (one : Lit) (n : ℕ) (es : List Lit) (cs : List (List Lit)) (value : List Lit) → length value ≡ w → AllLong w cs
     → AllLong w (stored one n es cs value).cells
 stored-long w one n [] cs value e h = tt
 stored-long w one n (p ∷ es) [] value e h = tt
 stored-long w one n (p ∷ es) (c ∷ cs) value e h =
     let s = folded_made one n (selected n p value c) in
     (folded-outs one n (selected n p value c) ∙ (selected-length n p value c (e ∙ sym h.0) ∙ e), stored-long w one (n + length s.defs) es cs value e h.1)
+
+pub store-open-long : (one : Lit) (n : ℕ) (cs : List (List Lit)) (index value : List Lit) → AllLong (length value) cs
+    → AllLong (length value) (store_open one n cs index value).cells
+store-open-long one n cs index value h =
+    let d = folded_made one n (decoded n one index (length cs)) in
+    stored-long (length value) one (n + length d.defs) d.outs cs value refl h
 
 take-many : (m : ℕ) (cs : List (List Lit)) → length (take m cs) ≤ m
 take-many zero cs = omega arith

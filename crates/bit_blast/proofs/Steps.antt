@@ -1,5 +1,5 @@
 -- The code of cells, steps and single bits, step by step.
-use Rattle.std.proofs.Common.{◌≡◌, ℕ, ◌+◌, ◌-◌, ◌≤◌, ◌<◌, length, List, [], ◌∷◌, ◌++◌, map, take, drop, get_or, set, arith, ap, sym, ◌∙◌, refl, suc, zero, false, subst, append_assoc}
+use Rattle.std.proofs.Common.{◌≡◌, ℕ, ◌+◌, ◌-◌, ◌≤◌, ◌<◌, length, List, [], ◌∷◌, ◌++◌, map, take, drop, get_or, arith, ap, sym, ◌∙◌, refl, suc, zero, false, subst, append_assoc}
 use Rattle.std.specs.Prelude.{Option, Some, None, slice_get, is_some}
 use Rattle.std.proofs.lemmas.Bool.{false≢true}
 use Rattle.std.proofs.lemmas.List.{drop_more}
@@ -63,33 +63,6 @@ sum_more n w i s ws lt ew e =
     let d : drop i ws ≡ w ∷ drop (i + 1) ws = drop_more ws i 0 lt ∙ ap (λ (t : ℕ). t ∷ drop (i + 1) ws) (sym ew) in
     let f : sum_of (drop i ws) ≡ w + sum_of (drop (i + 1) ws) = ap sum_of d in
     omega (arith, e, f)
-
--- cells as lists
-pub cell-map : {A : Type 0} (f : A → List Lit) (xs : List A) (k : ℕ) (x : A) → k < length xs → x ≡ get_or xs k x → f x ≡ cell_at (map f xs) k
-cell-map f [] k x lt e = absurd (omega arith)
-cell-map f (y ∷ xs) zero x lt e = ap f e
-cell-map f (y ∷ xs) (suc k) x lt e = cell-map f xs k x (omega arith) e
-
-pub placed-map : {A : Type 0} (f : A → List Lit) (xs : List A) (k : ℕ) (x : A) → map f (set xs k x) ≡ placed (map f xs) k (f x)
-placed-map f [] k x = refl
-placed-map f (y ∷ xs) zero x = refl
-placed-map f (y ∷ xs) (suc k) x = ap (λ t. f y ∷ t) (placed-map f xs k x)
-
-map-drop-all : {A : Type 0} (f : A → List Lit) (xs : List A) (k : ℕ) → map f (drop k xs) ≡ drop k (map f xs)
-map-drop-all f xs zero = refl
-map-drop-all f [] (suc k) = refl
-map-drop-all f (x ∷ xs) (suc k) = map-drop-all f xs k
-
-map-take-all : {A : Type 0} (f : A → List Lit) (xs : List A) (k : ℕ) → map f (take k xs) ≡ take k (map f xs)
-map-take-all f xs zero = refl
-map-take-all f [] (suc k) = refl
-map-take-all f (x ∷ xs) (suc k) = ap (λ t. f x ∷ t) (map-take-all f xs k)
-
--- a range of the cells
-pub range-map : {A : Type 0} (f : A → List Lit) (xs ys : List A) (first m k : ℕ) → ys ≡ take k (drop first xs) → k ≡ m
-    → map f ys ≡ take m (drop first (map f xs))
-range-map f xs ys first m k e i =
-    ap (map f) e ∙ (map-take-all f (drop first xs) k ∙ (ap (take k) (map-drop-all f xs first) ∙ ap (λ (t : ℕ). take t (drop first (map f xs))) i))
 
 -- a cell in its place, the later ones being there
 pub replaced_put : (cells now new : List (List Lit)) (first n : ℕ) (rest more : List (List Lit)) (c : List Lit) → now ≡ replaced cells (suc (first + n)) rest
@@ -196,10 +169,10 @@ turn-put one cells ts n n1 n2 done now new ks i left k t old d1 d2 lits e le h g
     × (new ≡ (emitted one cells ts n done x).done) in
     subst P (sym (drop-back ks i left k e le h)) (q.0, q.1, last)
 
-pub cell-past : {A : Type 0} (f : A → List Lit) (xs : List A) (k : ℕ) → length xs ≤ k → [] ≡ cell_at (map f xs) k
-cell-past f [] k le = refl
-cell-past f (x ∷ xs) zero le = absurd (omega arith)
-cell-past f (x ∷ xs) (suc k) le = cell-past f xs k (omega arith)
+pub cell-past : (cs : List (List Lit)) (k : ℕ) → length cs ≤ k → [] ≡ cell_at cs k
+cell-past [] k le = refl
+cell-past (c ∷ cs) zero le = absurd (omega arith)
+cell-past (c ∷ cs) (suc k) le = cell-past cs k (omega arith)
 
 -- a second cell with literals is there
 pub two-cells : (cells : List (List Lit)) (w : ℕ) → length (cell_at cells 1) ≡ w → 0 < w → 2 ≤ length cells

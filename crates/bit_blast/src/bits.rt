@@ -8,10 +8,11 @@ ghost use Rattle.bit_blast.specs.Cone.{cone_of};
 ghost use Rattle.bit_blast.specs.Done.{lits_of, is_done};
 ghost use Rattle.bit_blast.specs.Held.{begun, blast_of, fresh_of, fresh_lits, fresh_cells, sum_of, above, above_all, new_of, rebind_of, renew_of, store_of, IsOver};
 
+use crate::cells::{Cells, new_lits};
 use crate::cone::cone;
 use crate::done::DoneTerms;
 use crate::emit::put_terms;
-use crate::store::{place, put_store};
+use crate::store::put_store;
 use bit_gates::{Def, Net, NoRoom, close};
 use bv_term::{TermId, Terms};
 use lv_base::Memory;
@@ -25,17 +26,16 @@ use std::marker::Model;
 pub struct Bits {
     next: u32,
     one: Option<Lit>,
-    cells: Vec<Vec<Lit>>,
+    cells: Cells,
     done: DoneTerms,
 }
 
 impl Model for Bits {
-    ghost use Rattle.std.specs.Prelude.{map};
     ghost use Rattle.bit_blast.specs.Held.{Held};
 
     ghost Value = { Held };
 
-    ghost view = { λ s. record { next = s.next; one = s.one; cells = map (λ c. c.items) s.cells.items; done = s.done } };
+    ghost view = { λ s. record { next = s.next; one = s.one; cells = s.cells; done = s.done } };
 }
 
 // The first variable above this one and `next`.
@@ -76,50 +76,6 @@ fn above_clauses(clauses: &Clauses) -> u64
     free
 }
 
-// Positive literals of so many variables from `next` on.
-fn new_lits(alloc: Global, next: u32, width: u32) -> Result<Vec<Lit>, NoRoom>
-    ensures lits { IfOk result (λ r. r.items ≡ fresh_lits next width) }
-    ensures room { IfOk result (λ _. next + width ≤ 4294967295) }
-{
-    if width > u32::MAX - next {
-        return Err(NoRoom);
-    }
-    let mut outs = Vec::new(alloc);
-    for i in 0..width {
-        outs.push(Lit {
-            var: next + i,
-            positive: true,
-        })?;
-    }
-    Ok(outs)
-}
-
-// Appends a cell.
-fn push_cell(cells: &mut Vec<Vec<Lit>>, cell: Vec<Lit>) -> Result<(), NoRoom>
-    ensures { IfOk result (λ _. map (λ c. c.items) cells.new.items ≡ map (λ c. c.items) cells.old.items ++ cell.items ∷ []) }
-{
-    match cells.push(cell) {
-        Ok(()) => Ok(()),
-        Err(_) => Err(NoRoom),
-    }
-}
-
-// Literals of their own for cells of these widths, and the next variable.
-fn new_cells(alloc: Global, first: u32, widths: &[u32]) -> Result<(Vec<Vec<Lit>>, u32), NoRoom>
-    ensures cells { IfOk result (λ r. map (λ c. c.items) r.0.items ≡ fresh_cells first widths.now) }
-    ensures next { IfOk result (λ r. r.1 ≡ first + sum_of widths.now) }
-{
-    let mut cells = Vec::new(alloc);
-    let mut next = first;
-    for i in 0..widths.len() {
-        let width = widths[i];
-        let lits = new_lits(alloc, next, width)?;
-        push_cell(&mut cells, lits)?;
-        next += width;
-    }
-    Ok((cells, next))
-}
-
 // The constant literal, which is made where there is none yet.
 fn put_one(net: &mut Net, one: Option<Lit>) -> Result<Lit, NoRoom>
     ensures start { net.new.start ≡ net.old.start }
@@ -138,19 +94,19 @@ fn put_blast(
     alloc: Global,
     net: &mut Net,
     one: &mut Option<Lit>,
-    cells: &[Vec<Lit>],
+    cells: &Cells,
     done: &mut DoneTerms,
     terms: &Terms,
     term: u32,
 ) -> Result<(), NoRoom>
     requires there { term < length terms.now.terms }
-    requires over { IsOver terms.now (record { next = net.old.next; one = one.old; cells = map (λ c. c.items) cells.now; done = done.old }) }
+    requires over { IsOver terms.now (record { next = net.old.next; one = one.old; cells = cells.now; done = done.old }) }
     ensures start { net.new.start ≡ net.old.start }
     ensures grew { IfOk result (λ _.
-        let m = blast_of terms.now term (record { next = net.old.next; one = one.old; cells = map (λ c. c.items) cells.now; done = done.old }) in
+        let m = blast_of terms.now term (record { next = net.old.next; one = one.old; cells = cells.now; done = done.old }) in
         Grew net.old.next net.old.defs.items net.new.next net.new.defs.items m.defs
         × (one.new ≡ m.held.one) × (done.new ≡ m.held.done)) }
-    ensures over { IfOk result (λ _. IsOver terms.now (record { next = net.new.next; one = one.new; cells = map (λ c. c.items) cells.now; done = done.new })) }
+    ensures over { IfOk result (λ _. IsOver terms.now (record { next = net.new.next; one = one.new; cells = cells.now; done = done.new })) }
     ensures done { IfOk result (λ _. is_done done.new term ≡ true) }
 {
     let _all = terms.count();
@@ -159,17 +115,6 @@ fn put_blast(
     let found = cone(alloc, terms, done, term)?;
     put_terms(alloc, net, lit, cells, done, terms, &found)?;
     Ok(())
-}
-
-// The literals of a cell, none past the last cell.
-fn cell_of(cells: &[Vec<Lit>], cell: usize) -> &[Lit]
-    ensures { result.now ≡ cell_at (map (λ c. c.items) cells.now) cell }
-{
-    if cell < cells.len() {
-        &cells[cell]
-    } else {
-        &[]
-    }
 }
 
 impl Bits {
@@ -186,7 +131,7 @@ impl Bits {
         if free > u32::MAX as u64 {
             return Err(BlastFail::Memory);
         }
-        match new_cells(alloc, free as u32, cells) {
+        match Cells::new(alloc, free as u32, cells) {
             Err(_) => Err(BlastFail::Memory),
             Ok((all, next)) => Ok(Bits {
                 next,
@@ -215,7 +160,7 @@ impl Bits {
     pub fn cell(&self, cell: u32) -> &[Lit]
         ensures { result.now ≡ cell_at self.now.cells cell }
     {
-        cell_of(&self.cells, cell as usize)
+        self.cells.get(cell as usize)
     }
 
     /// Whether a term counts as done.
@@ -255,7 +200,7 @@ impl Bits {
         ensures whole { OnErr result ⊥ }
         ensures over { IfOk result (λ _. (table : Table) → IsOver table self.old → IsOver table self.new) }
     {
-        place(&mut self.cells, cell as usize, to);
+        self.cells.set(cell as usize, &to);
         self.done.clear();
         let _ = clauses;
         Ok(())

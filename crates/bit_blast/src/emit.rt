@@ -1,4 +1,5 @@
-ghost use Rattle.std.specs.Prelude.{◌≡◌, ℕ, ◌+◌, ◌-◌, ◌≤◌, ◌<◌, length, map, take, drop, List, [], ◌∷◌, ◌++◌, IfOk, None, All};
+ghost use Rattle.std.specs.Prelude.{◌≡◌, ℕ, ◌+◌, ◌-◌, ◌≤◌, ◌<◌, length, map, take, drop, List, [], ◌∷◌, ◌++◌, IfOk, None, All, nat_lt, if◌then◌else◌};
+ghost use Rattle.prop.specs.Logic.{negated};
 ghost use Rattle.bit_gates.specs.Cut.{Grew};
 ghost use Rattle.bit_gates.specs.Shifts.{top_of};
 ghost use Rattle.bit_words.specs.Elements.{AllLong};
@@ -7,6 +8,7 @@ ghost use Rattle.bit_words.specs.Words.{spelled_of, copies_of};
 ghost use Rattle.bit_blast.specs.Done.{lits_of};
 ghost use Rattle.bit_blast.specs.Emission.{cell_at, no_cell, element_of, emission, IsReady, AllReady, emitted};
 
+use crate::cells::{Cells, copied, some_cells};
 use crate::done::DoneTerms;
 use crate::gates::{
     extend, fold_ands, fold_arithmetic, fold_choice, fold_difference, fold_equal, fold_left,
@@ -19,14 +21,6 @@ use bv_term::{Term, TermId, Terms};
 use prop::Lit;
 use std::alloc::Global;
 
-// A copy of some literals.
-fn copied(alloc: Global, lits: &[Lit]) -> Result<Vec<Lit>, NoRoom>
-    ensures { IfOk result (λ r. r.items ≡ lits.now) }
-{
-    let copy = Vec::from_slice(alloc, lits)?;
-    Ok(copy)
-}
-
 // As many zeros as the first cell has literals.
 fn put_none(alloc: Global, one: Lit, cells: &[Vec<Lit>]) -> Result<Vec<Lit>, NoRoom>
     requires { 1 ≤ length cells.now }
@@ -35,34 +29,6 @@ fn put_none(alloc: Global, one: Lit, cells: &[Vec<Lit>]) -> Result<Vec<Lit>, NoR
     let width = cells[0].len();
     let none = copies(alloc, one.negate(), width)?;
     Ok(none)
-}
-
-/// The cell that an index names among some cells of one width, or zeros. A known index costs one cell.
-pub fn put_element(
-    alloc: Global,
-    net: &mut Net,
-    one: Lit,
-    cells: &[Vec<Lit>],
-    index: &[Lit],
-) -> Result<Vec<Lit>, NoRoom>
-    requires some { 1 ≤ length cells.now }
-    requires index { length index.now ≤ 128 }
-    requires widths { AllLong (length (cell_at (map (λ c. c.items) cells.now) 0)) (map (λ c. c.items) cells.now) }
-    ensures start { net.new.start ≡ net.old.start }
-    ensures grew { IfOk result (λ r.
-        let m = element_of one net.old.next (map (λ c. c.items) cells.now) index.now (spelled_of one index.now) in
-        Grew net.old.next net.old.defs.items net.new.next net.new.defs.items m.defs × (r.items ≡ m.outs)) }
-{
-    match spelled(one, index) {
-        Some(k) => {
-            if k < cells.len() as u128 {
-                cell_copy(alloc, cells, k as usize)
-            } else {
-                put_none(alloc, one, cells)
-            }
-        }
-        None => put_choice(alloc, net, one, cells, index),
-    }
 }
 
 // The cell that an index names, where the index is not known: a literal for each place, and a choice by these.
@@ -91,12 +57,33 @@ fn put_choice(
     Ok(out)
 }
 
-// The element of the `m` cells from the first on.
-fn put_at(
+// The cell at a known place among the `m` cells from the first on, or zeros.
+fn put_known(
+    alloc: Global,
+    one: Lit,
+    cells: &Cells,
+    first: usize,
+    m: usize,
+    k: u128,
+) -> Result<Vec<Lit>, NoRoom>
+    requires { first + m ≤ length cells.now }
+    ensures { IfOk result (λ r. r.items
+        ≡ (if nat_lt k m then cell_at cells.now (first + k) else copies_of (negated one) (length (cell_at cells.now first)))) }
+{
+    let _all = cells.len();
+    if k < m as u128 {
+        cell_copy(alloc, cells, first + k as usize)
+    } else {
+        copies(alloc, one.negate(), cells.get(first).len())
+    }
+}
+
+// The cell that an index names among the `m` cells from the first on, where the index is not known.
+fn put_unknown(
     alloc: Global,
     net: &mut Net,
     one: Lit,
-    cells: &[Vec<Lit>],
+    cells: &Cells,
     first: usize,
     m: usize,
     index: &[Lit],
@@ -104,15 +91,41 @@ fn put_at(
     requires some { 1 ≤ m }
     requires there { first + m ≤ length cells.now }
     requires index { length index.now ≤ 128 }
-    requires widths { AllLong (length (cell_at (take m (drop first (map (λ c. c.items) cells.now))) 0)) (take m (drop first (map (λ c. c.items) cells.now))) }
+    requires widths { AllLong (length (cell_at (take m (drop first cells.now)) 0)) (take m (drop first cells.now)) }
     ensures start { net.new.start ≡ net.old.start }
     ensures grew { IfOk result (λ r.
-        let m = element_of one net.old.next (take m (drop first (map (λ c. c.items) cells.now))) index.now (spelled_of one index.now) in
+        let m = element_of one net.old.next (take m (drop first cells.now)) index.now None in
         Grew net.old.next net.old.defs.items net.new.next net.new.defs.items m.defs × (r.items ≡ m.outs)) }
 {
-    let some = &cells[first..first + m];
-    let out = put_element(alloc, net, one, some, index)?;
+    let some = some_cells(alloc, cells, first, m)?;
+    let out = put_choice(alloc, net, one, &some, index)?;
     Ok(out)
+}
+
+/// The cell that an index names among the `m` cells from the first on, which have one width, or zeros. A known index costs
+/// one cell.
+pub fn put_element(
+    alloc: Global,
+    net: &mut Net,
+    one: Lit,
+    cells: &Cells,
+    first: usize,
+    m: usize,
+    index: &[Lit],
+) -> Result<Vec<Lit>, NoRoom>
+    requires some { 1 ≤ m }
+    requires there { first + m ≤ length cells.now }
+    requires index { length index.now ≤ 128 }
+    requires widths { AllLong (length (cell_at (take m (drop first cells.now)) 0)) (take m (drop first cells.now)) }
+    ensures start { net.new.start ≡ net.old.start }
+    ensures grew { IfOk result (λ r.
+        let m = element_of one net.old.next (take m (drop first cells.now)) index.now (spelled_of one index.now) in
+        Grew net.old.next net.old.defs.items net.new.next net.new.defs.items m.defs × (r.items ≡ m.outs)) }
+{
+    match spelled(one, index) {
+        Some(k) => put_known(alloc, one, cells, first, m, k),
+        None => put_unknown(alloc, net, one, cells, first, m, index),
+    }
 }
 
 // One bit of a word.
@@ -141,11 +154,10 @@ fn word(alloc: Global, l: Lit) -> Result<Vec<Lit>, NoRoom>
 }
 
 // The literals of a cell.
-fn cell_copy(alloc: Global, cells: &[Vec<Lit>], cell: usize) -> Result<Vec<Lit>, NoRoom>
-    requires { cell < length cells.now }
-    ensures { IfOk result (λ r. r.items ≡ cell_at (map (λ c. c.items) cells.now) cell) }
+fn cell_copy(alloc: Global, cells: &Cells, cell: usize) -> Result<Vec<Lit>, NoRoom>
+    ensures { IfOk result (λ r. r.items ≡ cell_at cells.now cell) }
 {
-    copied(alloc, &cells[cell])
+    copied(alloc, cells.get(cell))
 }
 
 /// The literals of a term over those of its operands and of the cells, in a net that grows by what the term adds.
@@ -153,21 +165,21 @@ pub fn put_term(
     alloc: Global,
     net: &mut Net,
     one: Lit,
-    cells: &[Vec<Lit>],
+    cells: &Cells,
     done: &DoneTerms,
     term: Term,
 ) -> Result<Vec<Lit>, NoRoom>
-    requires { IsReady (map (λ c. c.items) cells.now) (lits_of done.now) term }
+    requires { IsReady cells.now (lits_of done.now) term }
     ensures start { net.new.start ≡ net.old.start }
     ensures grew { IfOk result (λ r.
-        let m = emission one (map (λ c. c.items) cells.now) (lits_of done.now) net.old.next term in
+        let m = emission one cells.now (lits_of done.now) net.old.next term in
         Grew net.old.next net.old.defs.items net.new.next net.new.defs.items m.defs × (r.items ≡ m.outs)) }
 {
     match term {
         Term::Constant(w, v) => numeral(alloc, one, w, v),
         Term::Cell(c) => cell_copy(alloc, cells, c as usize),
         Term::Element(first, m, i) => {
-            put_at(
+            put_element(
                 alloc,
                 net,
                 one,
@@ -208,16 +220,16 @@ pub fn put_terms(
     alloc: Global,
     net: &mut Net,
     one: Lit,
-    cells: &[Vec<Lit>],
+    cells: &Cells,
     done: &mut DoneTerms,
     terms: &Terms,
     cone: &[u32],
 ) -> Result<(), NoRoom>
     requires there { All (λ k. k < length terms.now.terms) cone.now }
-    requires ready { AllReady one (map (λ c. c.items) cells.now) terms.now.terms net.old.next done.old cone.now }
+    requires ready { AllReady one cells.now terms.now.terms net.old.next done.old cone.now }
     ensures start { net.new.start ≡ net.old.start }
     ensures grew { IfOk result (λ r.
-        let m = emitted one (map (λ c. c.items) cells.now) terms.now.terms net.old.next done.old cone.now in
+        let m = emitted one cells.now terms.now.terms net.old.next done.old cone.now in
         Grew net.old.next net.old.defs.items net.new.next net.new.defs.items m.defs × (done.new ≡ m.done)) }
 {
     let mut left = cone.len();

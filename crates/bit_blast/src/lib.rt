@@ -6,6 +6,7 @@
 #![tactic(auto)]
 
 mod bits;
+mod cells;
 mod cone;
 mod done;
 mod emit;

@@ -5,27 +5,22 @@ ghost use Rattle.bit_words.specs.Words.{spelled_of};
 ghost use Rattle.bit_blast.specs.Emission.{cell_at};
 ghost use Rattle.bit_blast.specs.Held.{placed, replaced, store_open, store_in, known_index};
 
+use crate::cells::{Cells, some_cells};
 use bit_gates::{Net, NoRoom};
 use bit_words::{fold, put_decoded, put_stored, spelled};
 use prop::Lit;
 use std::alloc::Global;
 
-/// Puts literals in the place of those of a cell.
-pub fn place(cells: &mut Vec<Vec<Lit>>, at: usize, to: Vec<Lit>)
-    requires { at < length cells.old.items }
-    ensures cells { map (λ c. c.items) cells.new.items ≡ placed (map (λ c. c.items) cells.old.items) at to.items }
-    ensures many { length cells.new.items ≡ length cells.old.items }
+// Puts cells in the place of those from the first on, which have as many literals.
+fn replace(cells: &mut Cells, first: usize, mut news: Vec<Vec<Lit>>)
+    requires there { first + length news.items ≤ length cells.old }
+    requires widths { AllLong (length (cell_at cells.old first)) (take (length news.items) (drop first cells.old)) }
+    requires news { AllLong (length (cell_at cells.old first)) (map (λ c. c.items) news.items) }
+    ensures { cells.new ≡ replaced cells.old first (map (λ c. c.items) news.items) }
 {
-    cells[at] = to;
-}
-
-// Puts cells in the place of those from the first on.
-fn replace(cells: &mut Vec<Vec<Lit>>, first: usize, mut news: Vec<Vec<Lit>>)
-    requires { first + length news.items ≤ length cells.old.items }
-    ensures { map (λ c. c.items) cells.new.items ≡ replaced (map (λ c. c.items) cells.old.items) first (map (λ c. c.items) news.items) }
-{
+    let _all = cells.len();
     while let Some(to) = news.pop() {
-        place(cells, first + news.len(), to);
+        cells.set(first + news.len(), &to);
     }
 }
 
@@ -55,33 +50,16 @@ fn put_store_open(
     Ok(news)
 }
 
-// A copy of some literals.
-fn copied(alloc: Global, lits: &[Lit]) -> Result<Vec<Lit>, NoRoom>
-    ensures { IfOk result (λ r. r.items ≡ lits.now) }
-{
-    let copy = Vec::from_slice(alloc, lits)?;
-    Ok(copy)
-}
-
 // Stores a value at a known place among the cells from the first on.
-fn store_known(
-    alloc: Global,
-    cells: &mut Vec<Vec<Lit>>,
-    first: usize,
-    count: usize,
-    k: u128,
-    value: &[Lit],
-) -> Result<(), NoRoom>
-    requires { first + count ≤ length cells.old.items }
-    ensures { IfOk result (λ _. map (λ c. c.items) cells.new.items
-        ≡ (if nat_lt k count then placed (map (λ c. c.items) cells.old.items) (first + k) value.now else map (λ c. c.items) cells.old.items)) }
+fn store_known(cells: &mut Cells, first: usize, count: usize, k: u128, value: &[Lit])
+    requires there { first + count ≤ length cells.old }
+    requires widths { AllLong (length value.now) (take count (drop first cells.old)) }
+    ensures { cells.new ≡ (if nat_lt k count then placed cells.old (first + k) value.now else cells.old) }
 {
-    if k >= count as u128 {
-        return Ok(());
+    let _all = cells.len();
+    if k < count as u128 {
+        cells.set(first + k as usize, value);
     }
-    let to = copied(alloc, value)?;
-    place(cells, first + k as usize, to);
-    Ok(())
 }
 
 // Stores a value at a place that is not known among the cells from the first on.
@@ -89,23 +67,23 @@ fn store_unknown(
     alloc: Global,
     net: &mut Net,
     one: Lit,
-    cells: &mut Vec<Vec<Lit>>,
+    cells: &mut Cells,
     first: usize,
     count: usize,
     index: &[Lit],
     value: &[Lit],
 ) -> Result<(), NoRoom>
     requires some { 1 ≤ count }
-    requires there { first + count ≤ length cells.old.items }
+    requires there { first + count ≤ length cells.old }
     requires index { length index.now ≤ 128 }
-    requires widths { AllLong (length value.now) (take count (drop first (map (λ c. c.items) cells.old.items))) }
+    requires widths { AllLong (length value.now) (take count (drop first cells.old)) }
     ensures start { net.new.start ≡ net.old.start }
     ensures grew { IfOk result (λ _.
-        let m = store_in one net.old.next (map (λ c. c.items) cells.old.items) first count index.now value.now None in
-        Grew net.old.next net.old.defs.items net.new.next net.new.defs.items m.defs
-        × (map (λ c. c.items) cells.new.items ≡ m.cells)) }
+        let m = store_in one net.old.next cells.old first count index.now value.now None in
+        Grew net.old.next net.old.defs.items net.new.next net.new.defs.items m.defs × (cells.new ≡ m.cells)) }
 {
-    let news = put_store_open(alloc, net, one, &cells[first..first + count], index, value)?;
+    let olds = some_cells(alloc, cells, first, count)?;
+    let news = put_store_open(alloc, net, one, &olds, index, value)?;
     replace(cells, first, news);
     Ok(())
 }
@@ -115,26 +93,28 @@ pub fn put_store(
     alloc: Global,
     net: &mut Net,
     one: Lit,
-    cells: &mut Vec<Vec<Lit>>,
+    cells: &mut Cells,
     first: usize,
     count: usize,
     index: &[Lit],
     value: &[Lit],
 ) -> Result<(), NoRoom>
-    requires there { first + count ≤ length cells.old.items }
+    requires there { first + count ≤ length cells.old }
     requires index { length index.now ≤ 128 }
-    requires widths { AllLong (length value.now) (take count (drop first (map (λ c. c.items) cells.old.items))) }
+    requires widths { AllLong (length value.now) (take count (drop first cells.old)) }
     ensures start { net.new.start ≡ net.old.start }
     ensures grew { IfOk result (λ _.
-        let m = store_in one net.old.next (map (λ c. c.items) cells.old.items) first count index.now value.now (known_index count (spelled_of one index.now)) in
-        Grew net.old.next net.old.defs.items net.new.next net.new.defs.items m.defs
-        × (map (λ c. c.items) cells.new.items ≡ m.cells)) }
+        let m = store_in one net.old.next cells.old first count index.now value.now (known_index count (spelled_of one index.now)) in
+        Grew net.old.next net.old.defs.items net.new.next net.new.defs.items m.defs × (cells.new ≡ m.cells)) }
 {
     if count == 0 {
         return Ok(());
     }
     match spelled(one, index) {
-        Some(k) => store_known(alloc, cells, first, count, k, value),
+        Some(k) => {
+            store_known(cells, first, count, k, value);
+            Ok(())
+        }
         None => store_unknown(alloc, net, one, cells, first, count, index, value),
     }
 }

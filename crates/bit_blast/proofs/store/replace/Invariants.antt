@@ -7,8 +7,8 @@ invariant-loop-to l =
     let all = map (λ c. c.items) l.fn.news.items in
     let n = length l.news.items in
     (map (λ c. c.items) l.news.items ≡ take n all) × (n ≤ length all)
-    × (length l.cells.items ≡ length l.initial.cells.items)
-    × (map (λ c. c.items) l.cells.items ≡ replaced (map (λ c. c.items) l.initial.cells.items) (l.first + n) (drop n all))
+    × (length l.cells ≡ length l.initial.cells)
+    × (l.cells ≡ replaced l.initial.cells (l.first + n) (drop n all))
 
 abbrev pub decreases-loop-to : goal.decreases-loop-to
 decreases-loop-to l = vec_len l.news
