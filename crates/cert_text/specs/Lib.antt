@@ -4,6 +4,7 @@ pub mod Letters
 pub mod Places
 pub mod Fields
 pub mod Steps
+pub mod Quick
 pub mod Drafts
 pub mod Reading
 pub mod Ranges

@@ -80,7 +80,8 @@ impl Draft {
         Ok(())
     }
 
-    fn add_pair(&mut self, pivot: u32, clause: u32) -> Result<(), StoredFail>
+    /// A pair more of the last chain.
+    pub fn add_pair(&mut self, pivot: u32, clause: u32) -> Result<(), StoredFail>
         ensures { MatchResult result (λ _. said_of self.new ≡ acted (Act.Pairs pivot clause) (said_of self.old)) (λ e. e ≡ StoredFail.Memory) }
     {
         if self.chain.pairs.push(pivot, clause).is_err() {

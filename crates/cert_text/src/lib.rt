@@ -8,6 +8,7 @@
 mod draft;
 mod field;
 mod letters;
+mod pairs;
 mod place;
 mod reading;
 mod steps;

@@ -9,6 +9,7 @@ ghost use Rattle.cert_text.specs.Reading.{start, read_from, read_cert_of};
 
 use crate::Cert;
 use crate::draft::Draft;
+use crate::pairs::{Quick, quick_step};
 use crate::place::{Fixed, Part, Place, Slot};
 use crate::steps::{Next, step};
 use std::alloc::Global;
@@ -36,16 +37,26 @@ fn read_bytes(alloc: Global, bytes: &[u8]) -> Result<Cert, StoredFail>
     let mut place = first_place();
     let mut part = Part::Fresh;
     for (at, byte) in bytes.iter().enumerate() {
-        match step(place, part, *byte) {
-            Next::Refused => return Err(StoredFail::Format(at as u64)),
-            Next::Part(next) => part = next,
-            Next::Moves(next) => {
-                if draft.apply(alloc, next).is_err() {
-                    return Err(StoredFail::Memory);
-                }
-                place = next.to;
+        match quick_step(place, part, *byte) {
+            Quick::Digits(value) => part = Part::Digits(value),
+            Quick::Pivot(pivot) => {
+                place.slot = Slot::Clause(pivot);
                 part = Part::Fresh;
             }
+            Quick::Pair(pivot, clause) => {
+                draft.add_pair(pivot, clause)?;
+                place.slot = Slot::Pivot;
+                part = Part::Fresh;
+            }
+            Quick::Other => match step(place, part, *byte) {
+                Next::Refused => return Err(StoredFail::Format(at as u64)),
+                Next::Part(next) => part = next,
+                Next::Moves(next) => {
+                    draft.apply(alloc, next)?;
+                    place = next.to;
+                    part = Part::Fresh;
+                }
+            },
         }
     }
     if place.slot.is_done() {
