@@ -10,7 +10,7 @@ use Rattle.bv_term.specs.WellFormed.{Table}
 use Rattle.formula_diagrams.specs.Writings.{IsPlain, IsPlain.is_constant, IsPlain.is_cell, IsPlain.is_bit, IsPlain.is_not, IsPlain.is_and, IsPlain.is_or}
 use Rattle.obligation_laws.proofs.Alike.{Has}
 use Rattle.term_copy.specs.Copies.{AreCopies, number_in}
-use Rattle.cover_engine.specs.Reads.{list_at, named_after, named_in, names}
+use Rattle.needed_cells.specs.Reads.{list_at, named_after, named_in, names}
 
 -- lists of cells
 pub has-left : (xs ys : List ℕ) (c : ℕ) → Has xs c → Has (xs ++ ys) c

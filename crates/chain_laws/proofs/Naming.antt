@@ -16,7 +16,7 @@ use Rattle.formula_diagrams.specs.Writings.{IsPlain}
 use Rattle.interpolants.specs.NamedCells.{AreNamed, IsCellOf}
 use Rattle.term_copy.specs.Copies.{AreCopies, number_in}
 use Rattle.obligation_laws.proofs.Alike.{Has}
-use Rattle.cover_engine.specs.Reads.{OnlyNames, names, needed_along}
+use Rattle.needed_cells.specs.Reads.{OnlyNames, names, needed_along}
 use Rattle.chain_laws.proofs.Copying.{map-back}
 use Rattle.chain_laws.proofs.Names.{all-contained, names-plain, plain-copied}
 use Rattle.chain_laws.proofs.Needs.{needed-within}

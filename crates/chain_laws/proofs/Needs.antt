@@ -24,7 +24,7 @@ use Rattle.path_formula.specs.Reads as reads
 use Rattle.path_formula.specs.Needs as needs
 use Rattle.path_formula.specs.Questions as questions
 use Rattle.obligation_laws.proofs.Alike.{Has, apart}
-use Rattle.cover_engine.specs.Reads.{cells_from, list_at, named_after, named_in, names, needed_along, needed_by, needed_by_all, operations_of, without}
+use Rattle.needed_cells.specs.Reads.{cells_from, list_at, named_after, named_in, names, needed_along, needed_by, needed_by_all, operations_of, without}
 use Rattle.chain_laws.proofs.Names.{fronts, has-left, has-right, names-before, names-made}
 
 -- lists in rising order

@@ -1,4 +1,3 @@
-pub mod Reads
 pub mod Unwindings
 pub mod Caches
 pub mod Settlings

@@ -15,7 +15,7 @@ use Rattle.reach_tree.specs.Trees.{vertex_at, expanded, strengthened, root_at}
 use Rattle.cover_engine.specs.declared.unit.Apart.{Apart}
 use Rattle.cover_engine.specs.declared.unit.UnitDone.{UnitDone}
 use Rattle.cover_engine.specs.declared.unit.UnitDone.TheVariants.{Expand, Refine, CoverYes, CoverNo}
-use Rattle.cover_engine.specs.Reads.{OnlyNames, needed_along}
+use Rattle.needed_cells.specs.Reads.{OnlyNames, needed_along}
 use Rattle.cover_engine.specs.Unwindings.{Unwound, Pair, has, path_of, is_open_leaf, is_true_term, is_false_term, may_pair, may_settle}
 
 -- a store meets a label where each conjunct holds in it

@@ -425,10 +425,19 @@ fn formulas_along_paths() {
 }
 
 #[test]
-fn needed_cells() {
+fn reads_of_cells() {
     needed_cell_laws::needed_is_read();
     needed_cell_laws::cuts_are_read();
     needed_cell_laws::shared_is_read();
+}
+
+#[test]
+fn stores_that_agree() {
+    needed_cells::named_cells_decide();
+    needed_cells::needed_by_decides();
+    needed_cells::needed_cells_decide();
+    needed_cells::needed_along_decides();
+    needed_cells::edges_keep_whole();
 }
 
 #[test]

@@ -8,7 +8,7 @@ use Rattle.c_graph.specs.Shape.{HasWidth}
 use Rattle.reach_tree.specs.declared.vertex.VertexId.{VertexId}
 use Rattle.reach_tree.specs.declared.vertex.Vertex.{Vertex}
 use Rattle.reach_tree.specs.Trees.{vertex_at}
-use Rattle.cover_engine.specs.Reads.{OnlyNames, needed_along, needed_by_all, operations_of}
+use Rattle.needed_cells.specs.Reads.{OnlyNames, needed_along, needed_by_all, operations_of}
 use Rattle.cover_engine.specs.Unwindings.{path_of, path_up}
 use Rattle.cover_engine.specs.Units.{Links, NameNeeded, edges_to}
 use Rattle.cover_engine.proofs.RefineLemmas.{path-more}

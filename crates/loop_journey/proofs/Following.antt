@@ -11,7 +11,7 @@ use Rattle.c_graph.specs.declared.graph.Edge.{Edge}
 use Rattle.c_graph.specs.declared.graph.Operation.TheVariants.{Assume}
 use Rattle.c_graph.specs.Shape.{HasWidth, widths_of}
 use Rattle.c_graph.specs.Steps.{IsWhole, Leads, Moment, drawn, in_range_of, modulo, moment, operated_all}
-use Rattle.cover_engine.specs.Reads.{OnlyNames, needed_by_all, operations_of, without}
+use Rattle.needed_cells.specs.Reads.{OnlyNames, needed_by_all, operations_of, without}
 use Rattle.cover_engine.specs.Units.{EdgeImplies}
 use Rattle.loop_journey.specs.declared.formula.Formula.{Formula}
 use Rattle.loop_journey.specs.declared.formula.Formula.TheVariants.{Always, IsZero, Never}

@@ -5,7 +5,7 @@ use Rattle.c_graph.specs.declared.graph.EdgeId.{EdgeId}
 use Rattle.c_graph.specs.Shape.{HasWidth}
 use Rattle.reach_tree.specs.declared.vertex.VertexId.{VertexId}
 use Rattle.reach_tree.specs.declared.vertex.Vertex.{Vertex}
-use Rattle.cover_engine.specs.Reads.{needed_along}
+use Rattle.needed_cells.specs.Reads.{needed_along}
 use Rattle.cover_engine.specs.Unwindings.{path_of, path_up}
 use Rattle.cover_engine.specs.Units.{Links, NameNeeded, begins_true, edges_to}
 use Rattle.loop_journey.specs.declared.formula.Formula.{Formula}

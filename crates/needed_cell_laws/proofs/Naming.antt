@@ -5,11 +5,10 @@ use Rattle.bv_term.specs.declared.term.Term.{Term}
 use Rattle.bv_term.specs.declared.term.Term.TheVariants.{Constant, Cell, Element, Add, Subtract, Multiply, Divide, Remainder, And, Or, Xor, Not, ShiftLeft, ShiftRight, ShiftSigned, Equal, Less, LessSigned, Select, ZeroExtend, SignExtend, Truncate, Bit}
 use Rattle.bv_term.specs.declared.term.TermId.{TermId}
 use Rattle.bv_term.specs.WellFormed.{Table}
-use Rattle.bit_blast.specs.Cone.{numbers, uses_of}
 use Rattle.obligation_laws.proofs.Alike.{Has}
-use Rattle.cover_engine.specs.Reads.{cells_from, list_at, named_after, named_in, names}
+use Rattle.needed_cells.specs.Reads.{cells_from, list_at, named_after, named_in, names}
 use Rattle.chain_laws.proofs.Names.{has-either}
-use Rattle.needed_cell_laws.specs.Readings.{Names, Names.is_cell, Names.is_element, Names.by_operand}
+use Rattle.needed_cells.specs.Readings.{Names, Names.is_cell, Names.is_element, Names.by_operand, operands_of}
 
 pub within : (first n c : ℕ) → Has (cells_from first n) c → (first ≤ c) × (c < first + n)
 within first zero c h = absurd h
@@ -21,16 +20,16 @@ abbrev Sound : Table → List (List ℕ) → Type 0
 Sound table done = (k c : ℕ) → Has (list_at done k) c → Names table c k
 
 module _ (table : Table) (done : List (List ℕ)) (sound : Sound table done) (t c : ℕ) (u : Term) (g : slice_get table.terms t ≡ Some u) where
-  operand : (k : ℕ) → Contains (numbers (uses_of u)) k → Has (list_at done k) c → Names table c t
+  operand : (k : ℕ) → Contains (operands_of u) k → Has (list_at done k) c → Names table c t
   operand k there h = by_operand u k g there (sound k c h)
 
-  two : (xs : List ℕ) (i j : ℕ) → numbers (uses_of u) ≡ i ∷ j ∷ xs → Has (list_at done i ++ list_at done j) c → Names table c t
+  two : (xs : List ℕ) (i j : ℕ) → operands_of u ≡ i ∷ j ∷ xs → Has (list_at done i ++ list_at done j) c → Names table c t
   two xs i j e h = elim (has-either (list_at done i) (list_at done j) c h) [
     | inl a ↦ operand i (subst (λ (ns : List ℕ). Contains ns i) (sym e) (0, omega arith, refl)) a
     | inr b ↦ operand j (subst (λ (ns : List ℕ). Contains ns j) (sym e) (1, omega arith, refl)) b
   ]
 
-  three : (i j k : ℕ) → numbers (uses_of u) ≡ i ∷ j ∷ k ∷ [] → Has (list_at done i ++ (list_at done j ++ list_at done k)) c → Names table c t
+  three : (i j k : ℕ) → operands_of u ≡ i ∷ j ∷ k ∷ [] → Has (list_at done i ++ (list_at done j ++ list_at done k)) c → Names table c t
   three i j k e h = elim (has-either (list_at done i) (list_at done j ++ list_at done k) c h) [
     | inl a ↦ operand i (subst (λ (ns : List ℕ). Contains ns i) (sym e) (0, omega arith, refl)) a
     | inr r ↦ elim (has-either (list_at done j) (list_at done k) c r) [

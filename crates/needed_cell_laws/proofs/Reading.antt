@@ -7,9 +7,9 @@ use Rattle.c_graph.specs.declared.graph.Operation.TheVariants.{Assume, Set, SetA
 use Rattle.c_graph.specs.declared.graph.EdgeId.{EdgeId}
 use Rattle.c_graph.specs.Shape.{Flow}
 use Rattle.obligation_laws.proofs.Alike.{Has}
-use Rattle.cover_engine.specs.Reads.{cells_from, names, needed_along, needed_by, needed_by_all, operations_of, without}
+use Rattle.needed_cells.specs.Reads.{cells_from, names, needed_along, needed_by, needed_by_all, operations_of, without}
 use Rattle.chain_laws.proofs.Names.{has-either}
-use Rattle.needed_cell_laws.specs.Readings.{IsRead, Reads, Sets, Unset, operations_along}
+use Rattle.needed_cells.specs.Readings.{IsRead, Reads, Sets, Unset, operations_along}
 use Rattle.needed_cell_laws.specs.Laws.{NeededIsRead}
 use Rattle.needed_cell_laws.proofs.Naming.{names-are, within}
 

@@ -5,8 +5,8 @@ use Rattle.c_graph.specs.Shape.{Flow, IsFlow}
 use Rattle.path_query.specs.declared.query.Bundle.{Bundle}
 use Rattle.path_formula.specs.Questions.{question_of}
 use Rattle.path_laws.specs.Steps.{HasVariable, Occurs}
-use Rattle.cover_engine.specs.Reads.{needed_along}
-use Rattle.needed_cell_laws.specs.Readings.{IsRead, operations_along}
+use Rattle.needed_cells.specs.Reads.{needed_along}
+use Rattle.needed_cells.specs.Readings.{IsRead, operations_along}
 
 -- an operation of edges in order reads the cell before one sets it
 abbrev pub IsReadAlong : Flow → List EdgeId → ℕ → Type 0
