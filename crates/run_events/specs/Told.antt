@@ -1,5 +1,5 @@
 -- What is told of an instruction.
-use Rattle.std.specs.Prelude.{ℕ, suc, if◌then◌else◌, int_le, ◌&&◌, List, [], ◌∷◌, slice_index_or, ℤ, pos, unsigned_abs}
+use Rattle.std.specs.Prelude.{ℕ, suc, if◌then◌else◌, int_le, ◌&&◌, List, [], ◌∷◌, slice_index_or, Option, Some, None, ℤ, pos, unsigned_abs}
 use Rattle.lv_base.specs.Integers.{is_zero}
 use Rattle.slot_code.specs.declared.flat.Instruction.{Instruction}
 use Rattle.slot_code.specs.declared.flat.Instruction.TheVariants as i
@@ -42,8 +42,22 @@ operand_slot (i.Take slot at from needed) = from
 operand_slot (i.Return slot) = slot
 operand_slot _ = 0
 
-abbrev pub operands_of : List ℤ → Instruction → Operands
-operands_of slots x = values_from slots (operand_slot x)
+-- the value of an element, and 0 where there is none
+abbrev pub element_in : List (List ℤ) → ℕ → ℕ → ℤ
+element_in store object element = slice_index_or (slice_index_or store object []) element (pos 0)
+
+-- the object with an element that `++` or `--` changes
+abbrev pub changed_object : Instruction → Option ℕ
+changed_object (i.Change slot before by k at object) = Some object
+changed_object _ = None
+
+-- in the second place stands what such an element held before
+abbrev pub with_held : Operands → List (List ℤ) → Option ℕ → Operands
+with_held o store None = o
+with_held o store (Some object) = record { first = o.first; second = element_in store object (unsigned_abs o.first); third = o.third }
+
+abbrev pub operands_of : List ℤ → List (List ℤ) → Instruction → Operands
+operands_of slots store x = with_held (values_from slots (operand_slot x)) store (changed_object x)
 
 -- ---- Events
 
@@ -58,7 +72,7 @@ row_events place element (v ∷ vs) = event place element v ∷ row_events place
 -- the value of an element behind a write
 abbrev pub written : ℕ → Operands → List (List ℤ) → ℕ → List Event
 written place o store object =
-    event place (unsigned_abs o.first) (slice_index_or (slice_index_or store object []) (unsigned_abs o.first) (pos 0)) ∷ []
+    event place (unsigned_abs o.first) (element_in store object (unsigned_abs o.first)) ∷ []
 
 -- whether something was returned
 abbrev pub presence : Operands → ℕ

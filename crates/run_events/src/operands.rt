@@ -2,10 +2,12 @@ ghost use Rattle.std.specs.Prelude.{◌≡◌, ◌≤◌, length};
 ghost use Rattle.slot_code.specs.Slots.{get, slots_of};
 ghost use Rattle.run_events.specs.Told as told;
 
+use slot_board::{Board, Row};
 use slot_code::Instruction;
 
 /// What stands in the slot of an instruction and in the two behind it, before it is done: its operands, from the first on. Of a
-/// call that gave something they are the place to return to, what was returned, and whether something was.
+/// call that gave something they are the place to return to, what was returned, and whether something was. Of `++` and `--` the
+/// second is what the element held, whose index is the first.
 #[derive(Clone, Copy, Debug, PartialEq, Eq)]
 pub struct Operands {
     pub first: i128,
@@ -71,10 +73,45 @@ fn operand_slot(instruction: Instruction) -> usize
     }
 }
 
-/// The operands of an instruction.
-pub(crate) fn operands_of(slots: &[i128], instruction: Instruction) -> Operands
-    requires { slots_of instruction ≤ length slots.now }
-    ensures { result ≡ told.operands_of slots.now instruction }
+/// The value of an element, and 0 where there is none.
+pub(crate) fn element_in(store: &[Row], object: u32, element: u128) -> i128
+    ensures { result ≡ told.element_in store.now object element }
 {
-    values_from(slots, operand_slot(instruction))
+    match store.get(object as usize) {
+        Some(row) => row.value_at(element),
+        None => 0,
+    }
+}
+
+// The object with an element that `++` or `--` changes.
+fn changed_object(instruction: Instruction) -> Option<u32>
+    ensures { result ≡ told.changed_object instruction }
+{
+    match instruction {
+        Instruction::Change(_, _, _, _, _, object) => Some(object),
+        _ => None,
+    }
+}
+
+// In the second place stands what such an element held before.
+fn with_held(operands: Operands, store: &[Row], object: Option<u32>) -> Operands
+    ensures { result ≡ told.with_held operands store.now object }
+{
+    match object {
+        None => operands,
+        Some(object) => Operands {
+            first: operands.first,
+            second: element_in(store, object, operands.first.unsigned_abs()),
+            third: operands.third,
+        },
+    }
+}
+
+/// The operands of an instruction, before it is done on this board.
+pub(crate) fn operands_of(board: &Board, instruction: Instruction) -> Operands
+    requires { slots_of instruction ≤ length board.now.slots.items }
+    ensures { result ≡ told.operands_of board.now.slots.items board.now.store.items instruction }
+{
+    let values = values_from(&board.slots, operand_slot(instruction));
+    with_held(values, &board.store, changed_object(instruction))
 }

@@ -1,8 +1,8 @@
-ghost use Rattle.std.specs.Prelude.{◌≡◌, [], ◌∷◌, IfOk, slice_index_or, pos, List, ℤ};
+ghost use Rattle.std.specs.Prelude.{◌≡◌, [], ◌∷◌, IfOk, slice_index_or};
 ghost use Rattle.event_log.specs.Noted.{noted};
 ghost use Rattle.run_events.specs.Told as told;
 
-use crate::operands::{Operands, value_in};
+use crate::operands::{Operands, element_in, value_in};
 use event_log::{Event, Log};
 use lv_base::Memory;
 use slot_board::{Board, Row};
@@ -32,16 +32,6 @@ fn tell_object(log: &mut Log, place: usize, store: &[Row], object: u32) -> Resul
     match store.get(object as usize) {
         Some(row) => tell_row(log, place, row),
         None => Ok(()),
-    }
-}
-
-// The value of an element, and 0 where there is none.
-fn element_in(store: &[Row], object: u32, element: u128) -> i128
-    ensures { result ≡ slice_index_or (slice_index_or store.now object []) element (pos 0) }
-{
-    match store.get(object as usize) {
-        Some(row) => row.value_at(element),
-        None => 0,
     }
 }
 

@@ -78,9 +78,9 @@ pub fn follow(
     requires sizes { IsTrue (fits board.old.store.items instruction.now) }
     ensures next { IfOk result (λ step. next_of place step board.new ≡ act_of model inputs.now instruction.now place board.old) }
     ensures kept { shape_of board.new ≡ shape_of board.old }
-    ensures told { IfOk result (λ step. trail.new ≡ told.step_told step instruction.now board.new.slots.items board.new.store.items (told.at_place trail.old place (told.operands_of board.old.slots.items instruction.now))) }
+    ensures told { IfOk result (λ step. trail.new ≡ told.step_told step instruction.now board.new.slots.items board.new.store.items (told.at_place trail.old place (told.operands_of board.old.slots.items board.old.store.items instruction.now))) }
 {
-    trail.come_to(place, operands_of(&board.slots, *instruction));
+    trail.come_to(place, operands_of(board, *instruction));
     let step = board.act(instruction, place, inputs, model);
     tell_step(trail, step, *instruction, board)?;
     Ok(step)

@@ -1,3 +1,5 @@
+mod Following
+mod Boards
 mod Whole
 mod Starts
 mod Places

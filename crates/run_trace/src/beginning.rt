@@ -1,4 +1,4 @@
-ghost use Rattle.std.specs.Prelude.{◌≡◌, ◌≤◌, ◌<◌, length, IfOk, IfNone, map, pos, Option, option_map};
+ghost use Rattle.std.specs.Prelude.{◌≡◌, IfOk, map, pos, option_map, replicate};
 ghost use Rattle.c_typed.specs.View as v;
 ghost use Rattle.c_typed.specs.Run as run;
 ghost use Rattle.c_typed.specs.Parts.{tree_of};
@@ -76,7 +76,7 @@ pub(crate) fn new_board(
     slots: usize,
     turns: u64,
 ) -> Result<Board, Memory>
-    ensures slots { IfOk result (λ b. length b.slots.items ≡ slots) }
+    ensures slots { IfOk result (λ b. b.slots.items ≡ replicate slots (pos 0)) }
     ensures state { IfOk result (λ b. state_of b ≡ state (run.start_store (tree_of typed.now).objects) 0 turns) }
 {
     let store = start_rows(alloc, typed.objects())?;

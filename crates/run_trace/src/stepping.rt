@@ -1,10 +1,10 @@
 ghost use Rattle.std.specs.Prelude.{◌≡◌, ◌≤◌, length, slice_get, IsTrue, IfOk};
 ghost use Rattle.std.specs.Option.{option_copied};
-ghost use Rattle.typed_range_laws.specs.Guards as guards;
 ghost use Rattle.slot_code.specs.Slots.{slots_in};
-ghost use Rattle.slot_code.specs.Machine as flat;
+ghost use Rattle.slot_code.specs.Machine.{machine};
 ghost use Rattle.slot_board.specs.Boards.{state_of};
 ghost use Rattle.slot_machine.specs.Shapes.{all_fit};
+ghost use Rattle.run_trace.specs.Runs.{followed, follow_from};
 
 use lv_base::{Memory, Model};
 use run_events::{Trail, follow};
@@ -32,7 +32,7 @@ pub(crate) fn trace_from(
 ) -> Result<Ending, Memory>
     requires slots { slots_in code.now ≤ length board.old.slots.items }
     requires sizes { IsTrue (all_fit board.old.store.items code.now) }
-    ensures run { IfOk result (λ ending. ending ≡ flat.run_from model (λ op kind x y. guards.guarded model op kind x y) inputs.now code.now (flat.machine start board.old.slots.items (state_of board.old))) }
+    ensures { IfOk result (λ ending. followed ending trail.new ≡ follow_from model inputs.now code.now (machine start board.old.slots.items (state_of board.old)) trail.old) }
 {
     let mut place = start;
     'steps: loop {

@@ -1,14 +1,14 @@
-ghost use Rattle.std.specs.Prelude.{◌≡◌, ◌≤◌, ◌<◌, ◌+◌, length, IfOk, IfSome, IsTrue, List, ℤ, option_map, suc, pos};
-ghost use Rattle.c_typed.specs.Tree.{Program};
+ghost use Rattle.std.specs.Prelude.{◌≡◌, ◌≤◌, ◌<◌, length, IfOk, IsTrue, option_map, pos};
 ghost use Rattle.c_typed.specs.Parts.{tree_of};
 ghost use Rattle.c_typed.specs.Run as typed;
-ghost use Rattle.slot_code.specs.Programs.{Code};
+ghost use Rattle.slot_code.specs.Programs as programs;
 ghost use Rattle.slot_code.specs.Slots.{put, slots_in};
-ghost use Rattle.slot_code.specs.Machine.{ending_of, run_code};
+ghost use Rattle.slot_code.specs.Machine.{ending_of};
 ghost use Rattle.slot_values.specs.Seen as values;
+ghost use Rattle.slot_compiler.specs.Seen as seen;
 ghost use Rattle.slot_machine.specs.Shapes.{all_fit};
 ghost use Rattle.slot_board.specs.Boards.{state_of};
-ghost use Rattle.run_trace.specs.Runs.{begun, SlotFits};
+ghost use Rattle.run_trace.specs.Runs.{followed, slots_for, follow_main, follow};
 
 use crate::beginning::{main_link, new_board};
 use crate::stepping::trace_from;
@@ -22,19 +22,17 @@ use slot_compiler::{Code, compiled, slots_in};
 use slot_values::Link;
 use std::alloc::Global;
 
-/// A run that was followed: how it ended, its code, what it left behind, and the values of all objects at its end.
+/// A run that was followed: how it ended, its code, and what it left behind.
 #[derive(Drop)]
 pub struct Trace {
     pub ending: Ending,
     pub code: Code,
     pub trail: Trail,
-    pub board: Board,
 }
 
 // How many slots the code and the place to return to need.
 fn slots_wanted(code: &[Instruction], link: Option<Link>) -> Result<usize, Memory>
-    ensures code { IfOk result (λ n. slots_in code.now ≤ n) }
-    ensures link { IfOk result (λ n. SlotFits link n) }
+    ensures { IfOk result (λ n. n ≡ slots_for code.now (option_map values.link_of link)) }
 {
     let own = slots_in(code)?;
     match link {
@@ -63,10 +61,9 @@ fn ran(
     inputs: &[i128],
     model: Model,
 ) -> Result<Ending, Memory>
-    requires slots { slots_in code.now ≤ length board.old.slots.items }
-    requires link { SlotFits link (length board.old.slots.items) }
+    requires slots { slots_for code.now (option_map values.link_of link) ≤ length board.old.slots.items }
     requires sizes { IsTrue (all_fit board.old.store.items code.now) }
-    ensures { IfOk result (λ ending. ending ≡ begun model code.now (option_map values.link_of link) inputs.now board.old.slots.items (state_of board.old)) }
+    ensures { IfOk result (λ ending. followed ending trail.new ≡ follow_main model inputs.now code.now (option_map values.link_of link) board.old.slots.items (state_of board.old) trail.old) }
 {
     let Some(link) = link else {
         return Ok(Ending::Ended);
@@ -76,7 +73,7 @@ fn ran(
 }
 
 /// The run of an examined tree on these inputs, with so many turns, and the last events on the way, up to so many of them. It ends as
-/// `Replay::run` on the same inputs says, which has the same clause.
+/// `Replay::run` on the same inputs says, which has the same clause as `ending`.
 ///
 /// Fails with `Memory` where there is no more memory, or where the code has a place, a skip or a slot without a number.
 pub fn traced(
@@ -86,7 +83,9 @@ pub fn traced(
     turns: u64,
     most: usize,
 ) -> Result<Trace, Memory>
-    ensures { IfOk result (λ trace. trace.ending ≡ ending_of (typed.run turns (tree_of examined.now.typed) inputs.now)) }
+    ensures code { IfOk result (λ trace. seen.code_of trace.code ≡ programs.code_of (tree_of examined.now.typed) examined.now.order) }
+    ensures run { IfOk result (λ trace. followed trace.ending trace.trail ≡ follow (tree_of examined.now.typed) examined.now.order inputs.now turns most) }
+    ensures ending { IfOk result (λ trace. trace.ending ≡ ending_of (typed.run turns (tree_of examined.now.typed) inputs.now)) }
 {
     orders_agree();
     let typed = examined.typed();
@@ -108,6 +107,5 @@ pub fn traced(
         ending,
         code,
         trail,
-        board,
     })
 }

@@ -52,14 +52,7 @@ fn tell(
         sites: &sites,
     };
     event_lines(&scene, &trace.trail.log, text)?;
-    ending_lines(
-        &scene,
-        trace.ending,
-        &trace.trail,
-        &trace.board.store,
-        values,
-        text,
-    )
+    ending_lines(&scene, trace.ending, &trace.trail, values, text)
 }
 
 // The answer to a run on these values, behind the lines of the run.

@@ -1,7 +1,5 @@
-ghost use Rattle.std.specs.Prelude.{◌≡◌, ◌++◌, ◌∷◌, [], codes, replicate, IfOk, string_bytes};
-ghost use Rattle.std.specs.Fmt.{decimal, signed_decimal};
-ghost use Rattle.lv_base.specs.Names.{error_name};
-ghost use Rattle.trace_texts.specs.Names as names;
+ghost use Rattle.std.specs.Prelude.{◌≡◌, IfOk, string_bytes};
+ghost use Rattle.trace_texts.specs.Failures as failures;
 
 use crate::names::{crement_text, operator_text};
 use c_tree::{BinaryOp, Crement};
@@ -10,7 +8,7 @@ use std::alloc::Global;
 
 /// The operation that failed, with its operands.
 pub fn operated(alloc: Global, left: i128, op: BinaryOp, right: i128) -> Result<String, Memory>
-    ensures { IfOk result (λ s. string_bytes s ≡ signed_decimal left ++ (codes " " ++ (names.operator_text op ++ (codes " " ++ signed_decimal right)))) }
+    ensures { IfOk result (λ s. string_bytes s ≡ failures.operated left op right) }
 {
     let op = operator_text(op);
     Ok(format!(in alloc; "{left} {op} {right}")?)
@@ -18,7 +16,7 @@ pub fn operated(alloc: Global, left: i128, op: BinaryOp, right: i128) -> Result<
 
 /// The `++` or `--` that failed, with the value before it.
 pub fn changed(alloc: Global, by: Crement, value: i128) -> Result<String, Memory>
-    ensures { IfOk result (λ s. string_bytes s ≡ names.crement_text by ++ (codes " of " ++ signed_decimal value)) }
+    ensures { IfOk result (λ s. string_bytes s ≡ failures.changed by value) }
 {
     let by = crement_text(by);
     Ok(format!(in alloc; "{by} of {value}")?)
@@ -26,42 +24,42 @@ pub fn changed(alloc: Global, by: Crement, value: i128) -> Result<String, Memory
 
 /// An index outside its array.
 pub fn no_element(alloc: Global, name: &str, index: i128, count: usize) -> Result<String, Memory>
-    ensures { IfOk result (λ s. string_bytes s ≡ name.now ++ (codes "[" ++ (signed_decimal index ++ (codes "], of " ++ (decimal count ++ codes " elements"))))) }
+    ensures { IfOk result (λ s. string_bytes s ≡ failures.no_element name.now index count) }
 {
     Ok(format!(in alloc; "{name}[{index}], of {count} elements")?)
 }
 
 /// A value that a function did not return.
 pub fn absent(alloc: Global, name: &str) -> Result<String, Memory>
-    ensures { IfOk result (λ s. string_bytes s ≡ name.now ++ codes " returned no value") }
+    ensures { IfOk result (λ s. string_bytes s ≡ failures.absent name.now) }
 {
     Ok(format!(in alloc; "{name} returned no value")?)
 }
 
 /// The minus that failed, with its operand.
 pub fn negated(alloc: Global, value: i128) -> Result<String, Memory>
-    ensures { IfOk result (λ s. string_bytes s ≡ codes "-(" ++ (signed_decimal value ++ codes ")")) }
+    ensures { IfOk result (λ s. string_bytes s ≡ failures.negated value) }
 {
     Ok(format!(in alloc; "-({value})")?)
 }
 
 /// A value that is none of a kind.
 pub fn unfit(alloc: Global, value: i128, kind: &str) -> Result<String, Memory>
-    ensures { IfOk result (λ s. string_bytes s ≡ signed_decimal value ++ (codes " is no " ++ kind.now)) }
+    ensures { IfOk result (λ s. string_bytes s ≡ failures.unfit value kind.now) }
 {
     Ok(format!(in alloc; "{value} is no {kind}")?)
 }
 
 /// What the run asks for that is not given.
 pub fn wanting(alloc: Global, at: &str, what: &str) -> Result<String, Memory>
-    ensures { IfOk result (λ s. string_bytes s ≡ at.now ++ (what.now ++ 10 ∷ [])) }
+    ensures { IfOk result (λ s. string_bytes s ≡ failures.wanting at.now what.now) }
 {
     Ok(format!(in alloc; "{at}{what}\n")?)
 }
 
 /// An error, with what failed.
 pub fn broken(alloc: Global, at: &str, kind: ErrorKind, what: &str) -> Result<String, Memory>
-    ensures { IfOk result (λ s. string_bytes s ≡ at.now ++ (error_name kind ++ (codes ": " ++ (what.now ++ 10 ∷ [])))) }
+    ensures { IfOk result (λ s. string_bytes s ≡ failures.broken at.now kind what.now) }
 {
     let kind = kind.name();
     Ok(format!(in alloc; "{at}{kind}: {what}\n")?)
@@ -69,7 +67,7 @@ pub fn broken(alloc: Global, at: &str, kind: ErrorKind, what: &str) -> Result<St
 
 /// A mark behind so many columns.
 pub fn caret(alloc: Global, columns: usize) -> Result<String, Memory>
-    ensures { IfOk result (λ s. string_bytes s ≡ replicate columns 32 ++ (codes "^" ++ 10 ∷ [])) }
+    ensures { IfOk result (λ s. string_bytes s ≡ failures.caret columns) }
 {
     let mut text = String::new(alloc);
     for _ in 0..columns {

@@ -1,5 +1,4 @@
-ghost use Rattle.std.specs.Prelude.{◌≡◌, ◌++◌, ◌∷◌, [], codes, IfOk, string_bytes};
-ghost use Rattle.std.specs.Fmt.{decimal, signed_decimal};
+ghost use Rattle.std.specs.Prelude.{◌≡◌, IfOk, string_bytes};
 ghost use Rattle.trace_texts.specs.Lines as lines;
 
 use lv_base::{Memory, Place};
@@ -30,42 +29,42 @@ pub fn element_text(alloc: Global, name: &str, index: Option<u128>) -> Result<St
 
 /// A call drew a value.
 pub fn drawn(alloc: Global, at: &str, name: &str, value: i128) -> Result<String, Memory>
-    ensures { IfOk result (λ s. string_bytes s ≡ at.now ++ (name.now ++ (codes "() gives " ++ (signed_decimal value ++ 10 ∷ [])))) }
+    ensures { IfOk result (λ s. string_bytes s ≡ lines.drawn at.now name.now value) }
 {
     Ok(format!(in alloc; "{at}{name}() gives {value}\n")?)
 }
 
 /// A local object without an initial value: its kind and its name.
 pub fn valueless_text(alloc: Global, kind: &str, object: &str) -> Result<String, Memory>
-    ensures { IfOk result (λ s. string_bytes s ≡ kind.now ++ (codes " " ++ (object.now ++ codes " has no value"))) }
+    ensures { IfOk result (λ s. string_bytes s ≡ lines.valueless_text kind.now object.now) }
 {
     Ok(format!(in alloc; "{kind} {object} has no value")?)
 }
 
 /// What has no value drew one.
 pub fn valued(alloc: Global, at: &str, valueless: &str, value: i128) -> Result<String, Memory>
-    ensures { IfOk result (λ s. string_bytes s ≡ at.now ++ (valueless.now ++ (codes ": " ++ (signed_decimal value ++ 10 ∷ [])))) }
+    ensures { IfOk result (λ s. string_bytes s ≡ lines.valued at.now valueless.now value) }
 {
     Ok(format!(in alloc; "{at}{valueless}: {value}\n")?)
 }
 
 /// An object got a value.
 pub fn assigned(alloc: Global, at: &str, object: &str, value: i128) -> Result<String, Memory>
-    ensures { IfOk result (λ s. string_bytes s ≡ at.now ++ (object.now ++ (codes " = " ++ (signed_decimal value ++ 10 ∷ [])))) }
+    ensures { IfOk result (λ s. string_bytes s ≡ lines.assigned at.now object.now value) }
 {
     Ok(format!(in alloc; "{at}{object} = {value}\n")?)
 }
 
 /// A parameter got the value of its argument.
 pub fn bound(alloc: Global, at: &str, name: &str, value: i128) -> Result<String, Memory>
-    ensures { IfOk result (λ s. string_bytes s ≡ at.now ++ (codes "parameter " ++ (name.now ++ (codes " = " ++ (signed_decimal value ++ 10 ∷ []))))) }
+    ensures { IfOk result (λ s. string_bytes s ≡ lines.bound at.now name.now value) }
 {
     Ok(format!(in alloc; "{at}parameter {name} = {value}\n")?)
 }
 
 /// A condition was decided.
 pub fn decided(alloc: Global, at: &str, condition: &str, holds: bool) -> Result<String, Memory>
-    ensures { IfOk result (λ s. string_bytes s ≡ at.now ++ (condition.now ++ (lines.truth_text holds ++ 10 ∷ []))) }
+    ensures { IfOk result (λ s. string_bytes s ≡ lines.decided at.now condition.now holds) }
 {
     let truth = if holds { " is true" } else { " is false" };
     Ok(format!(in alloc; "{at}{condition}{truth}\n")?)
@@ -73,21 +72,21 @@ pub fn decided(alloc: Global, at: &str, condition: &str, holds: bool) -> Result<
 
 /// A loop without a condition goes on.
 pub fn undecided(alloc: Global, at: &str) -> Result<String, Memory>
-    ensures { IfOk result (λ s. string_bytes s ≡ at.now ++ (codes "the loop has no condition" ++ 10 ∷ [])) }
+    ensures { IfOk result (λ s. string_bytes s ≡ lines.undecided at.now) }
 {
     Ok(format!(in alloc; "{at}the loop has no condition\n")?)
 }
 
 /// The value of a `switch` is that of a case.
 pub fn met(alloc: Global, at: &str, value: i128) -> Result<String, Memory>
-    ensures { IfOk result (λ s. string_bytes s ≡ at.now ++ (codes "case " ++ (signed_decimal value ++ 10 ∷ []))) }
+    ensures { IfOk result (λ s. string_bytes s ≡ lines.met at.now value) }
 {
     Ok(format!(in alloc; "{at}case {value}\n")?)
 }
 
 /// A function was called.
 pub fn called(alloc: Global, at: &str, name: &str) -> Result<String, Memory>
-    ensures { IfOk result (λ s. string_bytes s ≡ at.now ++ (codes "call of " ++ (name.now ++ 10 ∷ []))) }
+    ensures { IfOk result (λ s. string_bytes s ≡ lines.called at.now name.now) }
 {
     Ok(format!(in alloc; "{at}call of {name}\n")?)
 }
@@ -104,7 +103,7 @@ pub fn returned(alloc: Global, at: &str, name: &str, value: Option<i128>) -> Res
 
 /// Events were left out.
 pub fn left_out(alloc: Global, count: u64) -> Result<String, Memory>
-    ensures { IfOk result (λ s. string_bytes s ≡ decimal count ++ (codes " events before these are left out" ++ 10 ∷ [])) }
+    ensures { IfOk result (λ s. string_bytes s ≡ lines.left_out count) }
 {
     Ok(format!(in alloc; "{count} events before these are left out\n")?)
 }

@@ -1,0 +1,5 @@
+pub mod Excerpts
+pub mod Pairing
+pub mod Scenes
+pub mod Events
+pub mod Endings
