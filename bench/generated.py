@@ -2,7 +2,7 @@
 """Makes the sources of seeds from the words of their format (docs/FORMATS.md), and tries what the program says of them.
 
     python3 bench/generated.py source SEED                          prints the source
-    python3 bench/generated.py rows SEED..                          prints rows of crates/number_tables/data/generated.txt
+    python3 bench/generated.py rows SEED..                          prints rows of crates/tables/data/number_tables/generated.txt
     python3 bench/generated.py try PROGRAM FIRST LAST [JOBS]        runs `PROGRAM generate SEED` for each of these seeds
 
 The first block decides what is said. The value that it tests is a number masked with a constant, so it is never greater than the

@@ -1,20 +1,20 @@
 #!/usr/bin/env python3
-"""Times the checker of logs: both modes of log_bench, interleaved, and the difference as pairs a second.
+"""Times the checker of logs: the measures `check` and `walk` of the program speed, interleaved, and the difference as pairs a second.
 
-Run `rt run` in crates/log_bench first; this script runs out/log_bench.
+Run `rt run` in crates/speed first; this script runs out/speed.
 """
 import pathlib
 import resource
 import subprocess
 import sys
 
-program = pathlib.Path(__file__).resolve().parent.parent / "crates/log_bench/out/log_bench"
+program = pathlib.Path(__file__).resolve().parent.parent / "crates/speed/out/speed"
 chains = sys.argv[1] if len(sys.argv) > 1 else "100000"
 
 
 def seconds(mode):
     before = resource.getrusage(resource.RUSAGE_CHILDREN).ru_utime
-    out = subprocess.run([program, mode, chains], capture_output=True, text=True, check=True).stdout
+    out = subprocess.run([program, f"{mode}={chains}"], capture_output=True, text=True, check=True).stdout
     return resource.getrusage(resource.RUSAGE_CHILDREN).ru_utime - before, int(out.split()[1])
 
 

@@ -1,21 +1,21 @@
 #!/usr/bin/env python3
-"""Times unwindings: unwinding_bench with rising numbers of units, the user time and the memory of each, and the time of a
+"""Times unwindings: the program speed with rising numbers of units, the user time and the memory of each, and the time of a
 unit as a ratio to that of the first row.
 
-Run `rt run` in crates/unwinding_bench first; this script runs out/unwinding_bench. Words are numbers of units.
+Run `rt run` in crates/speed first; this script runs out/speed. Words are numbers of units.
 """
 import os
 import pathlib
 import subprocess
 import sys
 
-program = pathlib.Path(__file__).resolve().parent.parent / "crates/unwinding_bench/out/unwinding_bench"
+program = pathlib.Path(__file__).resolve().parent.parent / "crates/speed/out/speed"
 counts = [int(word) for word in sys.argv[1:]] or [12500, 25000, 50000, 100000]
 
 
 def measured(units):
     """The line that the program prints, its user time in seconds and its greatest memory in megabytes."""
-    with subprocess.Popen([program, str(units)], stdout=subprocess.PIPE, text=True) as child:
+    with subprocess.Popen([program, f"units={units}"], stdout=subprocess.PIPE, text=True) as child:
         line = child.stdout.read().strip()
         _, status, usage = os.wait4(child.pid, 0)
         child.returncode = os.waitstatus_to_exitcode(status)

@@ -42,8 +42,6 @@ impl From<BlastFail> for RowFail {
 /// Why tables are not tried to their end.
 #[derive(Clone, Copy, Debug, Drop, PartialEq)]
 pub enum Refusal {
-    /// The words are no names of files.
-    Words,
     /// A file could not be read.
     File,
     /// A file is longer than a mebibyte.
@@ -59,7 +57,6 @@ pub enum Refusal {
 impl fmt::Display for Refusal {
     fn fmt<W: fmt::Write>(&self, f: &mut fmt::Formatter<W>) -> fmt::Result {
         match self {
-            Refusal::Words => write!(f, "names of tables are wanted"),
             Refusal::File => write!(f, "a file could not be read"),
             Refusal::Long => write!(f, "a file is longer than a mebibyte"),
             Refusal::Text => write!(f, "a file is no text"),

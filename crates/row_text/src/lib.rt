@@ -9,6 +9,6 @@ mod words;
 
 pub use clauses::{clauses_in, lit_in, literal_rows, lits_in};
 pub use fails::{Refusal, RowFail};
-pub use tables::{Table, run_tables};
+pub use tables::{Table, try_table};
 pub use terms::{one_term, terms_in};
 pub use words::{fields, half, halves, number, numbers, wide, wides};

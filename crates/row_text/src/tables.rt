@@ -3,9 +3,8 @@
 use crate::fails::{Refusal, RowFail};
 use lv_outside::{FileFail, Folder, Got, HostFolder};
 use std::alloc::{AllocError, Global};
-use std::process::ExitCode;
-use std::rt::{Env, Files};
-use std::{env, io, str};
+use std::rt::Files;
+use std::str;
 
 // The most bytes that a table may have.
 const MOST_BYTES: usize = 1 << 20;
@@ -84,44 +83,18 @@ fn try_all<R: Print, T: Table>(
     Ok(tried)
 }
 
-// Tries the tables whose names are the words behind the program's name; how many rows are not so.
-fn try_files<R, T>(rt: &R, table: &mut T) -> Result<u64, Refusal>
+/// Tries the rows of the table in the file of this name. It prints each row that is not so, and how many rows there are; how many are
+/// not so.
+pub fn try_table<R, T>(rt: &R, table: &mut T, name: &str) -> Result<u64, Refusal>
 where
-    R: AllocGlobal + Env + Files + Print + Clone + Drop,
+    R: AllocGlobal + Files + Print + Clone + Drop,
     T: Table,
 {
     let alloc = rt.alloc();
-    let words = match env::args(rt) {
-        Ok(words) => words,
-        Err(fail) if fail.kind() == io::ErrorKind::OutOfMemory => return Err(Refusal::Memory),
-        Err(_) => return Err(Refusal::Words),
-    };
-    let mut others = 0u64;
-    for name in words.skip(1) {
-        let bytes = load(alloc, rt, name.as_str())?;
-        let tried = try_all(alloc, rt, table, &bytes)?;
-        others = others.saturating_add(tried.others);
-        let (rows, name) = (tried.rows, name.as_str());
-        if println!(rt; "{name}: {rows} rows").is_err() {
-            return Err(Refusal::Output);
-        }
-    }
-    Ok(others)
-}
-
-/// Tries the tables whose names are the words behind the program's name: prints each row that is not so and how many there
-/// were, and answers the status, 1 where there is such a row and 2 where a table is not tried to its end.
-pub fn run_tables<R, T>(rt: &R, table: &mut T) -> ExitCode
-where
-    R: AllocGlobal + Env + Files + Print + Eprint + Clone + Drop,
-    T: Table,
-{
-    match try_files(rt, table) {
-        Ok(0) => ExitCode::from(0),
-        Ok(_) => ExitCode::from(1),
-        Err(refusal) => {
-            let _ = eprintln!(rt; "{refusal}");
-            ExitCode::from(2)
-        }
+    let bytes = load(alloc, rt, name)?;
+    let Tried { rows, others } = try_all(alloc, rt, table, &bytes)?;
+    match println!(rt; "{name}: {rows} rows") {
+        Ok(()) => Ok(others),
+        Err(_) => Err(Refusal::Output),
     }
 }

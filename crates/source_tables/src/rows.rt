@@ -7,8 +7,6 @@ use std::fmt;
 /// Why a table is not tried to its end.
 #[derive(Debug, Drop, PartialEq)]
 pub enum Refusal {
-    /// The words are no names of files.
-    Words,
     /// A file could not be read.
     File,
     /// A file is longer than a mebibyte.
@@ -24,7 +22,6 @@ pub enum Refusal {
 impl fmt::Display for Refusal {
     fn fmt<W: fmt::Write>(&self, f: &mut fmt::Formatter<W>) -> fmt::Result {
         match self {
-            Refusal::Words => write!(f, "usage: source_tables FILE.."),
             Refusal::File => write!(f, "a file could not be read"),
             Refusal::Long => write!(f, "a file is longer than a mebibyte"),
             Refusal::Row(line) => write!(f, "line {line} is no row"),

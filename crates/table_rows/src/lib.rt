@@ -1,4 +1,4 @@
-//! What the row programs share: tables of rows, one a line, with tabs between their columns, and texts as they stand there.
+//! What the libraries of rows share: tables of rows, one a line, with tabs between their columns, and texts as they stand there.
 //!
 //! In a text `\n`, `\t` and `\s` stand for a line's end, a tab and a blank, `\xHH` for a byte, `\e` for nothing, `\\` for a
 //! backslash, and `\h` for the lines that C programs of the tables begin with; `«N×TEXT»` stands for a text N times.
@@ -11,5 +11,5 @@ mod text;
 
 pub use fields::{Fields, list_of, number_of};
 pub use refusal::{Flaw, Refusal};
-pub use table::{Table, other_than, run_tables};
+pub use table::{Table, other_than, try_table};
 pub use text::text_of;

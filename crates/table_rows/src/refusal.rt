@@ -41,8 +41,6 @@ impl From<SourceFail> for Flaw {
 /// Why a table is not tried to its end.
 #[derive(Clone, Copy, Drop)]
 pub enum Refusal {
-    /// The words are no names of files.
-    Words,
     /// A file could not be read.
     File,
     /// A file is longer than a mebibyte.
@@ -58,7 +56,6 @@ pub enum Refusal {
 impl fmt::Display for Refusal {
     fn fmt<W: fmt::Write>(&self, f: &mut fmt::Formatter<W>) -> fmt::Result {
         match self {
-            Refusal::Words => write!(f, "give the names of tables"),
             Refusal::File => write!(f, "a file could not be read"),
             Refusal::Long => write!(f, "a file is longer than a mebibyte"),
             Refusal::Text => write!(f, "a file is no text"),

@@ -1,14 +1,17 @@
-//! `trace_tables FILE..` follows the run of each row of tables, and prints the text of each that is told in other words, and how many
-//! rows there were. It ends with status 1 where there is such a row. The columns of a row, which have tabs between them, are the words
-//! behind the program's name, with a blank between; the status; the source, in the file `p.c`; the run file, `run`; and the text.
+//! `trace_tables FILE..` tries tables of runs that are told, and prints each row whose text is another one, and how many were tried. It ends
+//! with status 1 where there is such a row, and with 2 where a table is not tried to its end.
+//!
+//! The columns of a row, which have tabs between them, are the words behind the program's name, with a
+//! blank between; the status; the source, in the file `p.c`; the run file, `run`; and the text.
 #![tactic(auto)]
 
 use lv_base::{Memory, Text};
 use lv_outside::{NoFaultFolder, NoFaultSink, names_differ};
 use std::alloc::Global;
 use std::process::ExitCode;
-use std::str;
-use table_rows::{Fields, Flaw, Table, other_than, run_tables, text_of};
+use std::rt::{Env, Files};
+use std::{env, str};
+use table_rows::{Fields, Flaw, Table, other_than, text_of, try_table};
 use trace_answers::trace_words;
 
 // The most bytes of a text that is put.
@@ -62,6 +65,30 @@ impl Table for TraceRows {
     }
 }
 
+// Tries the tables whose names are the words behind the program's name; the greatest status of one.
+fn run<R>(rt: &R) -> u8
+where
+    R: AllocGlobal + Env + Files + Print + Eprint + Clone + Drop,
+{
+    let Ok(words) = env::args(rt) else {
+        let _ = eprintln!(rt; "give the names of tables");
+        return 2;
+    };
+    let mut greatest = 0u8;
+    for name in words.skip(1) {
+        let status = match try_table(rt, &TraceRows, name.as_str()) {
+            Ok(0) => 0,
+            Ok(_) => 1,
+            Err(refusal) => {
+                let _ = eprintln!(rt; "{refusal}");
+                2
+            }
+        };
+        greatest = greatest.max(status);
+    }
+    greatest
+}
+
 fn main(rt: HostRuntime) -> ExitCode {
-    run_tables(&rt, &TraceRows)
+    ExitCode::from(run(&rt))
 }
