@@ -1,9 +1,11 @@
 //! `answer_tables FILE..` answers the words of each row of tables, over the files and with the failing calls that it states, and
-//! prints each row whose answer is another one, and how many were tried. It ends with status 1 where there is such a row.
+//! prints each row whose answer is another one, and how many were tried. It ends with status 1 where there is such a row, and with 2 where
+//! a table is not tried to its end.
 //!
 //! A row has these columns, with tabs between them: the status; the text that is printed; what the report keeps (`-` for nothing,
 //! `cert` for a certificate, `values` with the values that were drawn, `bits` with a number for one value that has all bits of that
-//! number, or `limit` with its number and the count that passed it);
+//! number, `last` with a number and a value for so many values that end in that one, or `limit` with its number and the count that
+//! passed it);
 //! the words, with blanks between them; the outside; and each file, as its name, `=` and its bytes. The outside is `-`, or has
 //! words: `read=N` and `put=N` for a call that fails, counted from 0, `room=N` for the room of the sink, which else has a hundred
 //! bytes, and `never` for a folder and a sink that never fail. The gate hears of each unit of a verification, and of nothing else. Lines that begin with `#`, and empty ones, are left out.
@@ -15,16 +17,36 @@ mod rows;
 mod tables;
 mod trying;
 
-use crate::tables::try_files;
+use crate::tables::try_rows;
+use std::env;
 use std::process::ExitCode;
+use std::rt::{Env, Files};
+use std::thread::Threads;
+
+// Tries the tables whose names are the words behind the program's name; the greatest status of one.
+fn run<R>(rt: &R) -> u8
+where
+    R: AllocGlobal + Env + Files + Print + Eprint + Threads + Sync + Clone + Drop,
+{
+    let Ok(words) = env::args(rt) else {
+        let _ = eprintln!(rt; "give the names of tables");
+        return 2;
+    };
+    let mut greatest = 0u8;
+    for name in words.skip(1) {
+        let status = match try_rows(rt, name.as_str()) {
+            Ok(0) => 0,
+            Ok(_) => 1,
+            Err(refusal) => {
+                let _ = eprintln!(rt; "{refusal}");
+                2
+            }
+        };
+        greatest = greatest.max(status);
+    }
+    greatest
+}
 
 fn main(rt: HostRuntime) -> ExitCode {
-    match try_files(&rt) {
-        Ok(0) => ExitCode::from(0),
-        Ok(_) => ExitCode::from(1),
-        Err(refusal) => {
-            let _ = eprintln!(rt; "{refusal}");
-            ExitCode::from(2)
-        }
-    }
+    ExitCode::from(run(&rt))
 }

@@ -14,6 +14,8 @@ pub enum Wanted {
     Values(Vec<i128>),
     /// One value, which has all bits of a number.
     Bits(u64),
+    /// So many values, of which the last is this one.
+    Last(u64, i128),
     Limit(u64, u64),
 }
 
@@ -26,6 +28,9 @@ impl Wanted {
             (Wanted::Values(wanted), Kept::Unsafe(values)) => wanted.as_slice()
                 == values.as_slice(),
             (Wanted::Bits(number), Kept::Unsafe(values)) => has_bits(values.as_slice(), *number),
+            (Wanted::Last(count, last), Kept::Unsafe(values)) => {
+                ends_in(values.as_slice(), *count, *last)
+            }
             (Wanted::Limit(number, count), Kept::Limited(limit, passed)) => {
                 *number == *limit as u64 && *count == *passed
             }
@@ -39,6 +44,14 @@ fn has_bits(values: &[i128], number: u64) -> bool {
     match values {
         [value] => *value & number as i128 == number as i128,
         _ => false,
+    }
+}
+
+// Whether these are so many values, of which the last is this one.
+fn ends_in(values: &[i128], count: u64, last: i128) -> bool {
+    match values.last() {
+        Some(found) => values.len() as u64 == count && *found == last,
+        None => false,
     }
 }
 
@@ -81,6 +94,7 @@ fn kept_of(alloc: Global, column: &str) -> Result<Wanted, Flaw> {
         Some(("values", values)) => Ok(Wanted::Values(list_of(alloc, values.as_bytes())?)),
         Some(("limit", limit)) => limit_of(limit),
         Some(("bits", number)) => bits_of(number),
+        Some(("last", words)) => last_of(alloc, words),
         _ => Err(Flaw::Form),
     }
 }
@@ -97,6 +111,17 @@ fn bits_of(number: &str) -> Result<Wanted, Flaw> {
     match number.parse::<u64>() {
         Ok(number) => Ok(Wanted::Bits(number)),
         Err(_) => Err(Flaw::Form),
+    }
+}
+
+fn last_of(alloc: Global, words: &str) -> Result<Wanted, Flaw> {
+    let Some((count, last)) = words.split_once(" ") else {
+        return Err(Flaw::Form);
+    };
+    let values: Vec<i128> = list_of(alloc, last.as_bytes())?;
+    match (count.parse::<u64>(), values.as_slice()) {
+        (Ok(count), [last]) => Ok(Wanted::Last(count, *last)),
+        _ => Err(Flaw::Form),
     }
 }
 

@@ -1,13 +1,12 @@
-//! The tables whose names are the words behind the program's name. Rows need a handle for threads, which the loop that tables share has
-//! not, so this one is written out.
+//! The rows of a table. They need a handle for threads, which the loop that tables share has not, so this one is written out.
 
 use crate::rows::row_of;
 use crate::trying::tried;
 use lv_outside::{FileFail, Folder, Got, HostFolder};
 use std::alloc::{AllocError, Global};
-use std::rt::{Env, Files};
+use std::rt::Files;
+use std::str;
 use std::thread::Threads;
-use std::{env, io, str};
 use table_rows::{Flaw, Refusal};
 
 // The most bytes that a table may have.
@@ -82,26 +81,17 @@ fn try_all<R: Print + Threads + Sync>(
     Ok((others, rows))
 }
 
-/// How many rows are not so, in all tables.
-pub fn try_files<R>(rt: &R) -> Result<u64, Refusal>
+/// Tries the rows of the table in the file of this name. It prints what came of each row that is not so, and how many rows there
+/// are; how many are not so.
+pub fn try_rows<R>(rt: &R, name: &str) -> Result<u64, Refusal>
 where
-    R: AllocGlobal + Env + Files + Print + Threads + Sync + Clone + Drop,
+    R: AllocGlobal + Files + Print + Threads + Sync + Clone + Drop,
 {
     let alloc = rt.alloc();
-    let words = match env::args(rt) {
-        Ok(words) => words,
-        Err(fail) if fail.kind() == io::ErrorKind::OutOfMemory => return Err(Refusal::Memory),
-        Err(_) => return Err(Refusal::Words),
-    };
-    let mut found = 0u64;
-    for name in words.skip(1) {
-        let bytes = load(alloc, rt, name.as_str())?;
-        let (others, rows) = try_all(alloc, rt, &bytes)?;
-        found = found.saturating_add(others);
-        let name = name.as_str();
-        if println!(rt; "{name}: {rows} rows").is_err() {
-            return Err(Refusal::Output);
-        }
+    let bytes = load(alloc, rt, name)?;
+    let (others, rows) = try_all(alloc, rt, &bytes)?;
+    match println!(rt; "{name}: {rows} rows") {
+        Ok(()) => Ok(others),
+        Err(_) => Err(Refusal::Output),
     }
-    Ok(found)
 }
