@@ -60,6 +60,34 @@ SAFE = HEAD + """int main() {
 """
 # The same over cells of eight bits, since each byte of its certificate is tried.
 NARROW = SAFE.replace("  int ", "  unsigned char ")
+# As a producer of tasks writes it: a loop to 4, and an assertion behind it.
+COUNT = '''# 1 "count.c"
+extern void abort(void);
+extern void __assert_fail (const char *__assertion, const char *__file,
+      unsigned int __line, const char *__function)
+     __attribute__ ((__nothrow__ , __leaf__)) __attribute__ ((__noreturn__));
+void reach_error() { ((void) sizeof ((0) ? 1 : 0), __extension__ ({ if (0) ; else __assert_fail ("0", "count.c", 3, __extension__ __PRETTY_FUNCTION__); })); }
+void __VERIFIER_assert(int cond) {
+  if (!(cond)) {
+    ERROR: {reach_error();abort();}
+  }
+  return;
+}
+int main() {
+  unsigned int i = 0;
+  while (i < 4) {
+    i++;
+  }
+  __VERIFIER_assert(i == 4);
+  return 0;
+}
+'''
+# The same condition for all values, which needs no unit but those of one path.
+UNSIGNED = HEAD + """int main() {
+  unsigned int x = __VERIFIER_nondet_int();
+  x = x + 1;
+}
+"""
 # A run of this one meets the error: its certificates are those of the other one with its hash.
 INSECURE = NARROW.replace("opened = 0; }", "opened = 1; }")
 UNSAFE = HEAD + """int main() {
@@ -140,7 +168,49 @@ def by_hand(lines):
     yield lines[: begins[0]] + ["log 0"] + lines[begins[1] :], "REJECTED 7 NoEmpty 0"
 
 
+def without_pivots(lines):
+    """A certificate's lines with the first pivot changed in the first two logs that have one, the number of the first of these, and of its chain."""
+    changed, found, log, chain = list(lines), [], -1, 0
+    for k in range(next(k for k, line in enumerate(lines) if line.startswith("logs ")) + 1, len(lines)):
+        words = lines[k].split()
+        if words[:1] == ["log"]:
+            log, chain = log + 1, 0
+        elif words and words[0].isdigit():
+            if len(words) > 1 and len(found) < 2 and log not in [it[0] for it in found]:
+                found.append((log, chain))
+                changed[k] = " ".join([words[0], "4294967295", *words[2:]])
+            chain += 1
+    assert len(found) == 2, "too few logs with pivots"
+    return changed, *found[0]
+
+
+def count_by_hand(program, args):
+    """The certificate of a loop: accepted, cut off, of another source, and with two bad steps, by any number of workers."""
+    with tempfile.TemporaryDirectory() as room:
+        file, other, cert, bad = (f"{room}/{it}" for it in ("count.c", "b.c", "cert", "bad"))
+        pathlib.Path(file).write_text(COUNT)
+        pathlib.Path(other).write_text(UNSIGNED)
+        answered("damage by hand: verify", [program, "verify", file, "--cert", cert])
+        content = pathlib.Path(cert).read_bytes()
+        own, its = (hashlib.sha256(it.encode()).hexdigest() for it in (COUNT, UNSIGNED))
+        lines, log, chain = without_pivots(content.decode().split("\n"))
+        tries = [
+            (file, content, "ACCEPTED"),
+            (file, content[:-1], f"REJECTED 1 Format {len(content) - 1}"),
+            (other, content, f"REJECTED 2 OtherSource {own} {its}"),
+            (file, b"lac 3\n", "REJECTED 1 Format 4"),
+            (file, "\n".join(lines).encode(), f"REJECTED 6 BadStep {log} {chain}"),
+        ]
+        for checked, written, wanted in tries:
+            pathlib.Path(bad).write_bytes(written)
+            for workers in ("1", "2", "8", "64"):
+                answer = answered("damage by hand: count", [program, "check", checked, bad, "--workers", workers])
+                if answer and answer.line != wanted:
+                    complain("damage by hand", f"{answer.line!r}, not {wanted!r}, by {workers} workers")
+
+
 def damage_by_hand(program, args):
+    count_by_hand(program, args)
     with tempfile.TemporaryDirectory() as room:
         file, cert, bad = (f"{room}/{it}" for it in ("a.c", "cert", "bad"))
         pathlib.Path(file).write_text(SAFE)
