@@ -1,9 +1,9 @@
 //! All workers.
-ghost use Rattle.std.specs.Prelude.{◌≡◌, ◌⊎◌, Ok, Err, All, IfOk, IfSome, MatchResult};
+ghost use Rattle.std.specs.Prelude.{◌≡◌, ◌⊎◌, ◌≤◌, Ok, Err, All, IfOk, IfSome, MatchResult, length};
 ghost use Rattle.stored_text.specs.declared.StoredFail.{StoredFail};
 ghost use Rattle.cert_text.specs.Content.{content_of};
 ghost use Rattle.cert_text.specs.Reading.{read_cert_of};
-ghost use Rattle.cert_reading.specs.Portions.{IsReadFrom, IsReadTo};
+ghost use Rattle.cert_reading.specs.Portions.{IsPortion, IsReadTo};
 
 use crate::cutting::{Stretch, cut, next_log};
 use crate::portions::{Beginning, Portion, Task, put_together, read_stretch};
@@ -32,21 +32,37 @@ fn read_beside<R: Threads + Sync>(
     task: Task<'_>,
     stretches: Vec<Stretch>,
 ) -> Result<Vec<Portion>, AllocError>
-    ensures { IfOk result (λ v. All (λ p. IfSome p.reader (IsReadFrom task.entry.front task.entry.bytes.now p.stretch)) v.items) }
+    ensures { IfOk result (λ v. All (IsPortion task.entry.front task.entry.bytes.now) v.items) }
 {
     thread::map_vec(
         rt,
         stretches,
         &|stretch| -> Portion
-            ensures { IfSome result.reader (IsReadFrom task.entry.front task.entry.bytes.now result.stretch) }
+            ensures { IsPortion task.entry.front task.entry.bytes.now result }
         { read_stretch(alloc, task, stretch) },
     )
 }
 
+// The certificate that was read, where that is all.
+fn whole_of(bytes: &[u8], read: Beginning) -> Option<Cert>
+    requires few { length bytes.now ≤ 67108864 }
+    requires read { IsReadTo bytes.now read }
+    ensures { IfSome result (λ cert. read_cert_of bytes.now ≡ Ok (content_of cert)) }
+{
+    if read.end != bytes.len() || !read.reader.is_done() {
+        return None;
+    }
+    Some(read.reader.into_cert())
+}
+
 /// The certificate that these bytes spell, where at least two workers can read it beside each other: not where the bytes are few, spell none, or have
 /// their logs where none seems to begin. Memory is taken by the bytes that were read.
-#[tactic(auto, using(crate::proofs::Joining::read_whole))]
-pub fn read_shared<R: Threads + Sync>(rt: &R, alloc: Global, bytes: &[u8], workers: u32) -> Option<Cert>
+pub fn read_shared<R: Threads + Sync>(
+    rt: &R,
+    alloc: Global,
+    bytes: &[u8],
+    workers: u32,
+) -> Option<Cert>
     ensures { IfSome result (λ cert. read_cert_of bytes.now ≡ Ok (content_of cert)) }
 {
     if workers < 2 || bytes.len() < FEW_BYTES || bytes.len() > MOST_BYTES {
@@ -60,10 +76,7 @@ pub fn read_shared<R: Threads + Sync>(rt: &R, alloc: Global, bytes: &[u8], worke
     };
     let portions = read_beside(rt, alloc, task, stretches).ok()?;
     let whole = put_together(task, head, portions)?;
-    if whole.end != bytes.len() || !whole.reader.is_done() {
-        return None;
-    }
-    Some(whole.reader.into_cert())
+    whole_of(bytes, whole)
 }
 
 /// The certificate that these bytes spell, read by at most so many workers beside each other. The promise is that of

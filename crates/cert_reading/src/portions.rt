@@ -1,6 +1,6 @@
 //! What workers read of a certificate, and what that says together.
-ghost use Rattle.std.specs.Prelude.{◌≡◌, All, IfSome};
-ghost use Rattle.cert_reading.specs.Portions.{IsReadFrom, IsReadTo};
+ghost use Rattle.std.specs.Prelude.{All, IfSome};
+ghost use Rattle.cert_reading.specs.Portions.{IsPortion, IsReadFrom, IsReadTo};
 
 use crate::cutting::Stretch;
 use cert_text::{Front, Reader};
@@ -35,7 +35,7 @@ pub struct Beginning {
 
 // What a stretch says.
 fn read_bytes(alloc: Global, task: Task<'_>, stretch: Stretch) -> Option<Reader>
-    ensures { IfSome result (IsReadFrom task.front task.bytes.now stretch) }
+    ensures { IfSome result (IsReadFrom task.entry.front task.entry.bytes.now stretch) }
 {
     if stretch.from > stretch.to || stretch.to > task.bytes.len() {
         return None;
@@ -48,17 +48,16 @@ fn read_bytes(alloc: Global, task: Task<'_>, stretch: Stretch) -> Option<Reader>
 
 /// Reads a stretch.
 pub fn read_stretch(alloc: Global, task: Task<'_>, stretch: Stretch) -> Portion
-    ensures { IfSome result.reader (IsReadFrom task.front task.bytes.now result.stretch) }
+    ensures { IsPortion task.entry.front task.entry.bytes.now result }
 {
     let reader = read_bytes(alloc, task, stretch);
     Portion { stretch, reader }
 }
 
 // A beginning with a portion more, where that begins as the beginning ends.
-#[tactic(auto, using(crate::proofs::Joining::read_further))]
 fn further(task: Task<'_>, beginning: Beginning, portion: Portion) -> Option<Beginning>
     requires beginning { IsReadTo task.bytes.now beginning }
-    requires portion { IfSome portion.reader (IsReadFrom task.front task.bytes.now portion.stretch) }
+    requires portion { IsPortion task.front task.bytes.now portion }
     ensures { IfSome result (IsReadTo task.entry.bytes.now) }
 {
     let Portion { stretch, reader } = portion;
@@ -80,7 +79,7 @@ pub fn put_together(
     portions: Vec<Portion>,
 ) -> Option<Beginning>
     requires beginning { IsReadTo task.bytes.now beginning }
-    requires portions { All (λ p. IfSome p.reader (IsReadFrom task.front task.bytes.now p.stretch)) portions.items }
+    requires portions { All (IsPortion task.front task.bytes.now) portions.items }
     ensures { IfSome result (IsReadTo task.entry.bytes.now) }
 {
     let mut whole = beginning;
