@@ -17,7 +17,7 @@ HERE = pathlib.Path(__file__).resolve().parent
 ROOT = HERE.parent.parent
 RUSTC = ["rustc", "--edition", "2021", "-O", "-g"]
 # Crates of the kit that are written anew here, and crates of the repository that stand on others of the kit.
-KIT = ("clap", "sha2", "hex", "uuid", "jiff")
+KIT = ("clap", "sha2", "hex", "uuid", "jiff", "memchr")
 OWN = ("work_claims",)
 CLAUSE = re.compile(r"^[ \t]*(?:requires|ensures)\b[^{\n]*\{", re.M)
 MODEL = re.compile(r"^[ \t]*impl(?:<[^>]*>)? (?:std::marker::)?Model for [^{]*\{", re.M)

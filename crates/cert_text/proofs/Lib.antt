@@ -1,3 +1,4 @@
 pub mod Digits
 pub mod Numbers
 pub mod Pieces
+pub mod Walking

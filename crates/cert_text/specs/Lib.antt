@@ -7,6 +7,7 @@ pub mod Steps
 pub mod Quick
 pub mod Drafts
 pub mod Reading
+pub mod Walks
 pub mod Ranges
 pub mod Writing
 pub mod Laws

@@ -1,11 +1,13 @@
 //! A certificate as far as it was read.
 
-ghost use Rattle.std.specs.Prelude.{◌≡◌, [], MatchResult};
+ghost use Rattle.std.specs.Prelude.{◌≡◌, [], true, IfSome, MatchResult};
 ghost use Rattle.stored_text.specs.declared.StoredFail.{StoredFail};
 ghost use Rattle.cert_text.specs.Content.{content_of};
 ghost use Rattle.cert_text.specs.Drafts.{said_of, nothing, chain_of, acted, applied, chain_closed, log_closed, content_said};
+ghost use Rattle.cert_text.specs.Walks.{front_of, behind};
 
 use crate::Cert;
+use crate::readers::Front;
 use crate::steps::{Act, Move};
 use bv_term::Term;
 use lv_base::Model;
@@ -150,6 +152,43 @@ impl Draft {
         self.take(alloc, step.act)?;
         self.end_chain(alloc, step.chain_ends)?;
         self.end_log(alloc, step.log_ends)
+    }
+
+    /// Whether this stands before the terms.
+    pub fn has_front(&self, front: Front) -> bool
+        ensures { result ≡ true → front_of (said_of self.now) ≡ front }
+    {
+        self.hash == front.hash && self.model == front.model && self.layout == front.layout
+    }
+
+    /// Whether no log is begun.
+    pub fn is_between_logs(&self) -> bool
+        ensures { result ≡ true → (self.now.log ≡ []) × (self.now.chain ≡ chain_of 0 []) }
+    {
+        self.log.is_empty() && self.chain.first == 0 && self.chain.pairs.is_empty()
+    }
+
+    /// What was read, and behind it the logs of another draft. There is none where that one has terms or formulas, or memory runs out.
+    pub fn followed_by(self, next: Draft) -> Option<Draft>
+        ensures { IfSome result (λ d. said_of d ≡ behind (said_of self) (said_of next)) }
+    {
+        if !next.terms.is_empty() || !next.formulas.is_empty() {
+            return None;
+        }
+        let hash = next.hash;
+        let mut logs = self.logs;
+        let mut more = next.logs;
+        logs.append(&mut more).ok()?;
+        Some(Draft {
+            hash,
+            model: next.model,
+            layout: next.layout,
+            terms: self.terms,
+            formulas: self.formulas,
+            logs,
+            log: next.log,
+            chain: next.chain,
+        })
     }
 
     /// The certificate that was read.

@@ -10,12 +10,14 @@ mod field;
 mod letters;
 mod pairs;
 mod place;
+mod readers;
 mod reading;
 mod steps;
 mod writing;
 
 use bv_term::Term;
 use lv_base::Model;
+pub use readers::{Front, Reader};
 pub use reading::{MOST_BYTES, read_cert};
 use resolution_log::Log;
 pub use writing::write_cert;

@@ -8,62 +8,23 @@ ghost use Rattle.cert_text.specs.Drafts.{nothing};
 ghost use Rattle.cert_text.specs.Reading.{start, read_from, read_cert_of};
 
 use crate::Cert;
-use crate::draft::Draft;
-use crate::pairs::{Quick, quick_step};
-use crate::place::{Fixed, Part, Place, Slot};
-use crate::steps::{Next, step};
+use crate::readers::Reader;
 use std::alloc::Global;
 use stored_text::StoredFail;
 
 /// The most bytes that a certificate may have.
 pub const MOST_BYTES: usize = 67_108_864;
 
-// Before the first byte.
-fn first_place() -> Place
-    ensures { result ≡ start }
-{
-    Place {
-        slot: Slot::Text(Fixed::Head),
-        left: 0,
-        chains: 0,
-    }
-}
-
 // The certificate that these bytes spell.
+#[tactic(auto, using(crate::proofs::Walking::reads))]
 fn read_bytes(alloc: Global, bytes: &[u8]) -> Result<Cert, StoredFail>
     ensures { MatchResult result (λ cert. read_from nothing start Part.Fresh 0 bytes.now ≡ Ok (content_of cert)) (λ e. (e ≡ StoredFail.Memory) ⊎ (read_from nothing start Part.Fresh 0 bytes.now ≡ Err e)) }
 {
-    let mut draft = Draft::new(alloc);
-    let mut place = first_place();
-    let mut part = Part::Fresh;
-    for (at, byte) in bytes.iter().enumerate() {
-        match quick_step(place, part, *byte) {
-            Quick::Digits(value) => part = Part::Digits(value),
-            Quick::Pivot(pivot) => {
-                place.slot = Slot::Clause(pivot);
-                part = Part::Fresh;
-            }
-            Quick::Pair(pivot, clause) => {
-                draft.add_pair(pivot, clause)?;
-                place.slot = Slot::Pivot;
-                part = Part::Fresh;
-            }
-            Quick::Other => match step(place, part, *byte) {
-                Next::Refused => return Err(StoredFail::Format(at as u64)),
-                Next::Part(next) => part = next,
-                Next::Moves(next) => {
-                    draft.apply(alloc, next)?;
-                    place = next.to;
-                    part = Part::Fresh;
-                }
-            },
-        }
+    let reader = Reader::new(alloc).read_on(alloc, bytes)?;
+    if !reader.is_done() {
+        return Err(StoredFail::Format(bytes.len() as u64));
     }
-    if place.slot.is_done() {
-        Ok(draft.into_cert())
-    } else {
-        Err(StoredFail::Format(bytes.len() as u64))
-    }
+    Ok(reader.into_cert())
 }
 
 /// The certificate that these bytes spell. Where they spell none the failure names the first byte with which no

@@ -5,7 +5,8 @@ ghost use Rattle.cert_verdicts.specs.Judged.{IsCertJudged, IsJudged, misfit_for,
 use c_graph::Graph;
 use cert_check::{CheckFail, MapFault};
 use cert_check_laws::accepted_is_safe;
-use cert_text::{Cert, read_cert};
+use cert_reading::read_cert_by;
+use cert_text::Cert;
 use check_workers::check_beside;
 use lv_base::Model;
 use lv_outside::Gate;
@@ -31,7 +32,7 @@ pub fn judge<R: Threads + Sync, G: Gate>(
     requires workers { (1 ≤ workers) × (workers ≤ 64) }
     ensures { IsJudged graph.now source.now model bytes.now result }
 {
-    match read_cert(alloc, bytes) {
+    match read_cert_by(rt, alloc, bytes, workers) {
         Ok(cert) => judge_cert(rt, alloc, graph, source, model, &cert, workers, gate),
         Err(fail) => unread(fail),
     }

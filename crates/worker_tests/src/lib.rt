@@ -1,4 +1,5 @@
-//! Tests of the check and of the proof of certificates by workers: that they run beside each other, and that their answer is that of one.
+//! Tests of the check, the proof and the reading of certificates by workers: that they run beside each other, and that their answer is that of
+//! one.
 #![tactic(auto)]
 
 #[cfg(test)]
@@ -9,3 +10,5 @@ mod beside;
 mod certs;
 #[cfg(test)]
 mod holding;
+#[cfg(test)]
+mod reading;

@@ -1,0 +1,8 @@
+use Rattle.std.proofs.Common.{◌-◌, ◌≤◌, length}
+use Rattle.cert_reading.proofs.cutting.cut.Given as goal
+
+abbrev pub invariant-loop-log : goal.invariant-loop-log
+invariant-loop-log l = (l.open.from ≤ l.at) × (l.at ≤ length l.bytes)
+
+abbrev pub decreases-loop-log : goal.decreases-loop-log
+decreases-loop-log l = length l.bytes - l.at
