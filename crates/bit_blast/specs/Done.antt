@@ -1,5 +1,5 @@
 -- Terms that count as done, with their literals.
-use Rattle.std.specs.Prelude.{ℕ, ◌≡◌, Bool, false, ◌||◌, cond, nat_eq, List, [], ◌∷◌, suc, Some, slice_get}
+use Rattle.std.specs.Prelude.{ℕ, ◌≡◌, Bool, false, ◌||◌, cond, nat_eq, List, [], ◌∷◌, suc, Option, Some}
 use Rattle.prop.specs.declared.Lit.{Lit}
 
 -- a term that counts as done, and its literals
@@ -17,7 +17,7 @@ abbrev pub is_done : List Known → ℕ → Bool
 is_done [] k = false
 is_done (d ∷ ds) k = nat_eq d.term k || is_done ds k
 
--- each term that is done has its place, counted from i on
-abbrev pub Placed : List ℕ → ℕ → List Known → Type 0
-Placed ps i [] = Unit {0}
-Placed ps i (d ∷ ds) = (slice_get ps d.term ≡ Some i) × Placed ps (suc i) ds
+-- each term that is done is found at its place, counted from i on
+abbrev pub Placed : (ℕ → Option ℕ) → ℕ → List Known → Type 0
+Placed find i [] = Unit {0}
+Placed find i (d ∷ ds) = (find d.term ≡ Some i) × Placed find (suc i) ds

@@ -1,4 +1,5 @@
-ghost use Rattle.std.specs.Prelude.{◌≡◌, ◌<◌, ◌++◌, ◌∷◌, [], ℕ, length, map, vec_len, slice_get, slice_index_or, Some, IfOk, OnErr, IfSome, IfNone, false};
+ghost use Rattle.std.specs.Prelude.{◌≡◌, ◌<◌, ◌++◌, ◌∷◌, [], ℕ, length, map, nat_eq, slice_index_or, Some, IfOk, OnErr, IfSome, IfNone, false, if◌then◌else◌};
+ghost use Rattle.std.specs.HashMap.{get};
 ghost use Rattle.bit_blast.specs.declared.done.Done.{Done};
 ghost use Rattle.bit_blast.specs.Done.{lits_of, is_done, Placed};
 ghost use Rattle.bit_blast.specs.Places.{known};
@@ -6,6 +7,7 @@ ghost use Rattle.bit_blast.specs.Places.{known};
 use bit_gates::NoRoom;
 use prop::Lit;
 use std::alloc::Global;
+use std::collections::HashMap;
 use std::marker::Model;
 
 /// A term that is done, and its literals, lowest bit first.
@@ -15,16 +17,17 @@ pub struct Done {
     pub lits: Vec<Lit>,
 }
 
-/// Terms that count as done. They are found by a place for each term number; a place counts only where the term there
-/// points back to it, so that all terms are forgotten in the time of dropping their literals.
+/// Terms that count as done. A map has the place of each term that was named since there is this list; a place counts only
+/// where the term there points back to it, so that all terms are forgotten in the time of dropping their literals.
 #[derive(Drop)]
 pub struct DoneTerms {
-    places: Vec<usize>,
+    places: HashMap<u32, usize>,
     done: Vec<Done>,
 }
 
 impl Model for DoneTerms {
-    ghost use Rattle.std.specs.Prelude.{List, map};
+    ghost use Rattle.std.specs.Prelude.{List, map, nat_eq};
+    ghost use Rattle.std.specs.HashMap.{get};
     ghost use Rattle.bit_blast.specs.Done.{Known, Placed};
     ghost use Rattle.bit_blast.specs.Places.{known};
 
@@ -32,20 +35,18 @@ impl Model for DoneTerms {
 
     ghost view = { λ s. map known s.done.items };
 
-    ghost invariant = { λ s. Placed s.places.items 0 (map known s.done.items) };
+    ghost invariant = { λ s. Placed (get nat_eq s.places) 0 (map known s.done.items) };
 }
 
-// Makes the list longer than this, by zeros.
-fn cover(places: &mut Vec<usize>, at: usize) -> Result<(), NoRoom>
-    ensures kept { (k v : ℕ) → slice_get places.old.items k ≡ Some v → slice_get places.new.items k ≡ Some v }
-    ensures long { IfOk result (λ _. at < vec_len places.new) }
+// Notes the place of a term.
+fn put_place(places: &mut HashMap<u32, usize>, term: u32, at: usize) -> Result<(), NoRoom>
+    ensures found { IfOk result (λ _. (k : ℕ) → get nat_eq places.new k ≡ (if nat_eq term k then Some at else get nat_eq places.old k)) }
+    ensures same { OnErr result ((k : ℕ) → get nat_eq places.new k ≡ get nat_eq places.old k) }
 {
-    while places.len() <= at {
-        if places.push(0).is_err() {
-            return Err(NoRoom);
-        }
+    match places.insert(term, at) {
+        Ok(_) => Ok(()),
+        Err(_) => Err(NoRoom),
     }
-    Ok(())
 }
 
 // Appends a term.
@@ -61,36 +62,32 @@ fn push_done(done: &mut Vec<Done>, one: Done) -> Result<(), NoRoom>
 
 // Adds a term that is not done, with its place.
 fn enter(
-    places: &mut Vec<usize>,
+    places: &mut HashMap<u32, usize>,
     done: &mut Vec<Done>,
     term: u32,
     lits: Vec<Lit>,
 ) -> Result<(), NoRoom>
     requires fresh { is_done (map known done.old.items) term ≡ false }
-    requires placed { Placed places.old.items 0 (map known done.old.items) }
-    ensures placed { Placed places.new.items 0 (map known done.new.items) }
+    requires placed { Placed (get nat_eq places.old) 0 (map known done.old.items) }
+    ensures placed { Placed (get nat_eq places.new) 0 (map known done.new.items) }
     ensures done { IfOk result (λ _. map known done.new.items ≡ map known done.old.items ++ record { term = term; lits = lits.items } ∷ []) }
 {
-    let at = term as usize;
-    let place = done.len();
-    cover(places, at)?;
+    let at = done.len();
+    put_place(places, term, at)?;
     push_done(done, Done { term, lits })?;
-    places[at] = place;
     Ok(())
 }
 
 // Where a term stands among those that are done.
-fn place_of(places: &[usize], done: &[Done], term: u32) -> Option<usize>
-    ensures found { IfSome result (λ k. (k < length done.now) × (slice_get places.now term ≡ Some k)
+fn place_of(places: &HashMap<u32, usize>, done: &[Done], term: u32) -> Option<usize>
+    ensures found { IfSome result (λ k. (k < length done.now) × (get nat_eq places.now term ≡ Some k)
         × ((d : Done) → (slice_index_or done.now k d).term ≡ term)) }
-    ensures none { IfNone result ((k : ℕ) (d : Done) → slice_get places.now term ≡ Some k → k < length done.now
+    ensures none { IfNone result ((k : ℕ) (d : Done) → get nat_eq places.now term ≡ Some k → k < length done.now
         → (slice_index_or done.now k d).term ≡ term → ⊥) }
 {
-    let at = term as usize;
-    if at >= places.len() {
+    let Some(place) = places.get(&term).copied() else {
         return None;
-    }
-    let place = places[at];
+    };
     if place >= done.len() {
         return None;
     }
@@ -106,7 +103,7 @@ impl DoneTerms {
         ensures { result ≡ [] }
     {
         DoneTerms {
-            places: Vec::new(alloc),
+            places: HashMap::new(alloc),
             done: Vec::new(alloc),
         }
     }

@@ -8,8 +8,7 @@ use Rattle.c_graph.specs.declared.graph.EdgeId.{EdgeId}
 use Rattle.c_graph.specs.Shape.{Flow, HasWidth}
 use Rattle.interpolants.specs.Cuts.{AreFormulas}
 use Rattle.term_copy.specs.Copies.{AreCopies, number_in}
-use Rattle.cover_engine.specs.Unwindings.{is_bit, is_false_term}
-use Rattle.cover_engine.specs.Units.{EdgeImplies, begins_true}
+use Rattle.needed_cells.specs.Formulas.{EdgeImplies, begins_true, is_bit, is_false_term}
 use Rattle.chain_laws.proofs.Reading.{at-all}
 
 -- lists under a function

@@ -14,9 +14,10 @@ use Rattle.interpolants.proofs.Cutting.{first_is_true, last_is_false}
 use Rattle.term_copy.specs.Copies.{number_in}
 use Rattle.reach_tree.specs.declared.vertex.Vertex.{Vertex}
 use Rattle.reach_tree.specs.Trees.{vertex_at}
-use Rattle.cover_engine.specs.Unwindings.{Unwound, is_false_term, path_of, path_up}
+use Rattle.cover_engine.specs.Unwindings.{Unwound, path_of, path_up}
 use Rattle.needed_cells.specs.Reads.{OnlyNames, needed_along}
-use Rattle.cover_engine.specs.Units.{EdgeImplies, Links, NameNeeded, edge_in, edges_to}
+use Rattle.needed_cells.specs.Formulas.{EdgeImplies, is_false_term}
+use Rattle.cover_engine.specs.Units.{Links, NameNeeded, edge_in, edges_to}
 use Rattle.cover_engine.proofs.Subtrees.{path_none, path_some}
 use Rattle.unwinding_laws.specs.Laws.{IsChild, IsTree}
 use Rattle.unwinding_laws.proofs.Rooting.{legal_tree}

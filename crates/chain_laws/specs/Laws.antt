@@ -14,7 +14,8 @@ use Rattle.interpolants.specs.NamedCells.{AreNamed}
 use Rattle.term_copy.specs.Copies.{AreCopies, number_in}
 use Rattle.reach_tree.specs.declared.vertex.VertexId.{VertexId}
 use Rattle.cover_engine.specs.Unwindings.{Unwound, path_of}
-use Rattle.cover_engine.specs.Units.{EdgeImplies, Legal, Links, NameNeeded, begins_true, edges_to}
+use Rattle.needed_cells.specs.Formulas.{EdgeImplies, begins_true}
+use Rattle.cover_engine.specs.Units.{Legal, Links, NameNeeded, edges_to}
 
 -- of the formulas that a refutation of a path's clauses gives, each with the edge of its number implies the next
 abbrev pub FormulasAreLinked : Type 0

@@ -9,7 +9,8 @@ use Rattle.bv_term.specs.WellFormed.{Table}
 use Rattle.reach_tree.specs.declared.vertex.Vertex.{Vertex}
 use Rattle.reach_tree.specs.declared.vertex.NewLabel.{NewLabel}
 use Rattle.reach_tree.specs.Trees.{vertex_at, changed, relabelled, root_at, strengthened, with_conjunct}
-use Rattle.cover_engine.specs.Unwindings.{has, is_false_term, is_true_term, path_up, some_false}
+use Rattle.needed_cells.specs.Formulas.{is_false_term, is_true_term}
+use Rattle.cover_engine.specs.Unwindings.{has, path_up, some_false}
 use Rattle.cover_engine.specs.Units.{numbers_of, refined_along, strengthened_along, strengthens}
 use Rattle.cover_engine.specs.Caches.{IsFamily, SameShape}
 use Rattle.cover_engine.specs.Settlings.{version_at}

@@ -19,7 +19,8 @@ use Rattle.reach_tree.specs.declared.vertex.Vertex.{Vertex}
 use Rattle.reach_tree.specs.Trees.{Branches, vertex_at, expanded, root_at}
 use Rattle.cover_engine.specs.declared.unit.Apart.{Apart}
 use Rattle.cover_engine.specs.declared.unit.UnitDone.{UnitDone}
-use Rattle.cover_engine.specs.Unwindings.{Unwound, Pair, has, is_bit, is_complete, is_end, is_false_term, is_left, is_none, is_open_leaf, any_of, none_open, path_of, path_up, some_false}
+use Rattle.needed_cells.specs.Formulas.{is_bit, is_false_term}
+use Rattle.cover_engine.specs.Unwindings.{Unwound, Pair, has, is_complete, is_end, is_left, is_none, is_open_leaf, any_of, none_open, path_of, path_up, some_false}
 use Rattle.cover_engine.specs.Caches.{AreCovers, covers, times}
 use Rattle.cover_engine.specs.Openings.{AreWaiting, IsHighest, IsHighestLeaf, Widens, all_end, opens, waits}
 use Rattle.cover_engine.proofs.Counting.{covers_say}

@@ -1,22 +1,22 @@
 -- The four units: when each is legal, and what each makes.
-use Rattle.std.specs.Prelude.{ℕ, ℤ, ◌<◌, ◌≡◌, ◌&&◌, Bool, true, false, not, IsTrue, List, [], ◌∷◌, ◌++◌, length, reverse, All, Option, None, Some, slice_get, if◌then◌else◌}
+use Rattle.std.specs.Prelude.{ℕ, ◌<◌, ◌≡◌, ◌&&◌, Bool, true, false, not, IsTrue, List, [], ◌∷◌, ◌++◌, length, reverse, All, Option, None, Some, slice_get, if◌then◌else◌}
 use Rattle.bv_term.specs.declared.term.TermId.{TermId}
 use Rattle.bv_term.specs.WellFormed.{Table}
 use Rattle.bv_term.specs.Values.{Holds}
 use Rattle.lv_base.specs.declared.fault.ErrorKind.{ErrorKind}
 use Rattle.c_graph.specs.declared.graph.Node.TheVariants.{Plain, Error}
 use Rattle.c_graph.specs.declared.graph.EdgeId.{EdgeId}
-use Rattle.c_graph.specs.declared.graph.Edge.{Edge}
 use Rattle.c_graph.specs.Shape.{Flow, HasWidth, widths_of}
-use Rattle.c_graph.specs.Steps.{IsWhole, Leads}
+use Rattle.c_graph.specs.Steps.{IsWhole}
 use Rattle.reach_tree.specs.declared.vertex.VertexId.{VertexId}
 use Rattle.reach_tree.specs.declared.vertex.Vertex.{Vertex}
 use Rattle.reach_tree.specs.Trees.{vertex_at, expanded, strengthened, root_at}
 use Rattle.cover_engine.specs.declared.unit.Apart.{Apart}
 use Rattle.cover_engine.specs.declared.unit.UnitDone.{UnitDone}
 use Rattle.cover_engine.specs.declared.unit.UnitDone.TheVariants.{Expand, Refine, CoverYes, CoverNo}
+use Rattle.needed_cells.specs.Formulas.{EdgeImplies, begins_true, is_false_term, is_true_term}
 use Rattle.needed_cells.specs.Reads.{OnlyNames, needed_along}
-use Rattle.cover_engine.specs.Unwindings.{Unwound, Pair, has, path_of, is_open_leaf, is_true_term, is_false_term, may_pair, may_settle}
+use Rattle.cover_engine.specs.Unwindings.{Unwound, Pair, has, path_of, is_open_leaf, may_pair, may_settle}
 
 -- a store meets a label where each conjunct holds in it
 abbrev pub Meets : Table → List ℕ → List TermId → Type 0
@@ -25,13 +25,6 @@ Meets table store label = All (Holds table store) label
 -- one label implies another, in each store of the cells
 abbrev pub Implies : Flow → Table → List TermId → List TermId → Type 0
 Implies g table a b = (store : List ℕ) → IsWhole (widths_of g.cells) store → Meets table store a → Meets table store b
-
--- one formula with an edge implies another
-abbrev pub EdgeImplies : Flow → Table → EdgeId → TermId → TermId → Type 0
-EdgeImplies g table e f h =
-    (edge : Edge) (store : List ℕ) (draws : List ℤ) (after : List ℕ)
-    → slice_get g.edges e.0 ≡ Some edge → IsWhole (widths_of g.cells) store → Holds table store f
-    → Leads g.terms edge store draws after → Holds table after h
 
 -- the edge, where there is one
 abbrev pub edge_in : Option EdgeId → List EdgeId
@@ -59,10 +52,6 @@ NameNeeded g table vs [] fs = Unit {0}
 NameNeeded g table vs (x ∷ xs) [] = Unit {0}
 NameNeeded g table vs (x ∷ xs) (f ∷ fs) =
     OnlyNames table f (needed_along g (edges_to vs xs)) × NameNeeded g table vs xs fs
-
-abbrev pub begins_true : Table → List TermId → Bool
-begins_true table [] = false
-begins_true table (f ∷ fs) = is_true_term table f
 
 -- Expand of an open leaf at a plain node; an error is none, and an open leaf is at no end
 pub record CanExpand (g : Flow) (u : Unwound) (v : VertexId) : Type 0 where

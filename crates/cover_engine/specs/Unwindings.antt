@@ -1,12 +1,11 @@
 -- Unwindings as pure values: what is covered, closed, open and complete, and which pairs may be settled.
 use Rattle.std.specs.Prelude.{ℕ, ◌==◌, ◌&&◌, ◌||◌, Bool, true, false, not, List, [], ◌∷◌, zero, suc, length, Option, None, Some, slice_get}
 use Rattle.bv_term.specs.declared.term.TermId.{TermId}
-use Rattle.bv_term.specs.declared.term.Term.{Term}
-use Rattle.bv_term.specs.declared.term.Term.TheVariants.{Constant}
 use Rattle.bv_term.specs.WellFormed.{Table}
 use Rattle.c_graph.specs.declared.graph.Node.{Node}
 use Rattle.c_graph.specs.declared.graph.Node.TheVariants.{End}
 use Rattle.c_graph.specs.Shape.{Flow}
+use Rattle.needed_cells.specs.Formulas.{is_false_term}
 use Rattle.reach_tree.specs.declared.vertex.VertexId.{VertexId}
 use Rattle.reach_tree.specs.declared.vertex.Vertex.{Vertex}
 use Rattle.reach_tree.specs.Trees.{vertex_at}
@@ -65,18 +64,6 @@ is_left (p ∷ ps) v = p.0.0 == v || is_left ps v
 -- a vertex is covered where it or an ancestor is the left side of a pair
 abbrev pub is_covered : Unwound → VertexId → Bool
 is_covered u v = any_of (is_left u.pairs) (path_of u.vertices v)
-
--- a constant term of width 1
-abbrev pub is_bit : ℕ → Option Term → Bool
-is_bit b None = false
-is_bit b (Some (Constant w v)) = w == 1 && v == b
-is_bit b (Some _) = false
-
-abbrev pub is_true_term : Table → TermId → Bool
-is_true_term table t = is_bit 1 (slice_get table.terms t.0)
-
-abbrev pub is_false_term : Table → TermId → Bool
-is_false_term table t = is_bit 0 (slice_get table.terms t.0)
 
 abbrev pub some_false : Table → List TermId → Bool
 some_false table [] = false

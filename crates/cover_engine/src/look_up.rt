@@ -2,7 +2,8 @@
 ghost use Rattle.std.specs.Prelude.{◌≡◌, ◌<◌, ◌||◌, length, false, slice_get};
 ghost use Rattle.cover_engine.specs.Units.{apart_now};
 ghost use Rattle.reach_tree.specs.Trees.{vertex_at};
-ghost use Rattle.cover_engine.specs.Unwindings.{has, is_end, is_false_term, path_up, some_false};
+ghost use Rattle.needed_cells.specs.Formulas.{is_false_term};
+ghost use Rattle.cover_engine.specs.Unwindings.{has, is_end, path_up, some_false};
 ghost use Rattle.cover_engine.specs.Caches.{IsFamily};
 
 use crate::unit::Apart;

@@ -1,7 +1,8 @@
 //! The parts of a Refine unit.
 ghost use Rattle.std.specs.Prelude.{ℕ, ◌≡◌, ◌<◌, All, length, reverse, IfOk};
 ghost use Rattle.reach_tree.specs.Trees.{vertex_at};
-ghost use Rattle.cover_engine.specs.Unwindings.{has, is_true_term, path_of};
+ghost use Rattle.needed_cells.specs.Formulas.{is_true_term};
+ghost use Rattle.cover_engine.specs.Unwindings.{has, path_of};
 ghost use Rattle.cover_engine.specs.Units.{numbers_of, strengthens};
 ghost use Rattle.cover_engine.specs.Caches.{IsFamily};
 ghost use Rattle.cover_engine.specs.Settlings.{version_at};

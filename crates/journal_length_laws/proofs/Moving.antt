@@ -18,7 +18,8 @@ use Rattle.reach_tree.specs.declared.vertex.Vertex.{Vertex}
 use Rattle.reach_tree.specs.Trees.{numbers_from, strengthened, target_of, vertex_at, with_conjunct}
 use Rattle.cover_engine.specs.declared.unit.UnitDone.{UnitDone}
 use Rattle.cover_engine.specs.declared.unit.UnitDone.TheVariants.{Expand, Refine, CoverYes, CoverNo}
-use Rattle.cover_engine.specs.Unwindings.{Unwound, has, is_bit, is_covered, is_end, is_false_term, is_none, is_open_leaf, is_true_term, path_of, path_up, some_false}
+use Rattle.needed_cells.specs.Formulas.{is_bit, is_false_term, is_true_term}
+use Rattle.cover_engine.specs.Unwindings.{Unwound, has, is_covered, is_end, is_none, is_open_leaf, path_of, path_up, some_false}
 use Rattle.cover_engine.specs.Units.{Can, CanAll, Legal, Links, after, numbers_of, refined_along, start, strengthens}
 use Rattle.cover_engine.specs.Settlings.{refines_in}
 use Rattle.cover_engine.proofs.Growing.{Grown, grown}

@@ -275,6 +275,7 @@ fn unwindings() {
     unwinding_laws::growing_tables_keep_legality();
     unwinding_laws::legal_is_a_tree();
     unwinding_laws::legal_paths_are_of_edges();
+    unwinding_laws::chains_refine();
     unwinding_laws::one_more_is_steered();
     unwinding_laws::growing_tables_keep_steering();
     journal_length_laws::journals_are_short();

@@ -12,7 +12,7 @@ use Rattle.c_graph.specs.declared.graph.Operation.TheVariants.{Assume}
 use Rattle.c_graph.specs.Shape.{HasWidth, widths_of}
 use Rattle.c_graph.specs.Steps.{IsWhole, Leads, Moment, drawn, in_range_of, modulo, moment, operated_all}
 use Rattle.needed_cells.specs.Reads.{OnlyNames, needed_by_all, operations_of, without}
-use Rattle.cover_engine.specs.Units.{EdgeImplies}
+use Rattle.needed_cells.specs.Formulas.{EdgeImplies}
 use Rattle.loop_journey.specs.declared.formula.Formula.{Formula}
 use Rattle.loop_journey.specs.declared.formula.Formula.TheVariants.{Always, IsZero, Never}
 use Rattle.loop_journey.specs.Loop.{edge, is_followed, label_table, loop_edges, loop_flow, term, term_of}

@@ -14,7 +14,8 @@ use Rattle.cover_engine.specs.declared.unit.UnitDone.{UnitDone}
 use Rattle.reach_tree.specs.declared.vertex.VertexId.{VertexId}
 use Rattle.reach_tree.specs.Trees.{vertex_at}
 use Rattle.cover_engine.specs.Unwindings.{Unwound, is_open_leaf, path_of}
-use Rattle.cover_engine.specs.Units.{CanRefine, Legal, Links, NameNeeded, CanAll, Meets, after_all, begins_true, start}
+use Rattle.needed_cells.specs.Formulas.{begins_true}
+use Rattle.cover_engine.specs.Units.{CanRefine, Legal, Links, NameNeeded, CanAll, Meets, after_all, start}
 use Rattle.loop_journey.proofs.Following.{falsely}
 use Rattle.loop_journey.specs.Chains.{IsChain}
 use Rattle.loop_journey.specs.Loop.{IsErrorNode, Travels, label_table, label_terms, loop_flow, term}

@@ -7,7 +7,8 @@ use Rattle.reach_tree.specs.declared.vertex.VertexId.{VertexId}
 use Rattle.reach_tree.specs.declared.vertex.Vertex.{Vertex}
 use Rattle.needed_cells.specs.Reads.{needed_along}
 use Rattle.cover_engine.specs.Unwindings.{path_of, path_up}
-use Rattle.cover_engine.specs.Units.{Links, NameNeeded, begins_true, edges_to}
+use Rattle.needed_cells.specs.Formulas.{begins_true}
+use Rattle.cover_engine.specs.Units.{Links, NameNeeded, edges_to}
 use Rattle.loop_journey.specs.declared.formula.Formula.{Formula}
 use Rattle.loop_journey.specs.declared.formula.Formula.TheVariants.{IsZero}
 use Rattle.loop_journey.specs.Loop.{is_followed, label_table, loop_flow, term_of}

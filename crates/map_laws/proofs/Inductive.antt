@@ -19,7 +19,8 @@ use Rattle.c_graph.proofs.Keeping.{leads-whole, edge-fits}
 use Rattle.reach_tree.specs.declared.vertex.VertexId.{VertexId}
 use Rattle.reach_tree.specs.declared.vertex.Vertex.{Vertex}
 use Rattle.reach_tree.specs.Trees.{vertex_at, target_of}
-use Rattle.cover_engine.specs.Unwindings.{Unwound, Pair, any_of, has, path_of, is_above, is_left, is_covered, is_bit, is_false_term, some_false, is_end, is_closed, is_none, is_open_leaf, none_open, is_complete}
+use Rattle.needed_cells.specs.Formulas.{is_bit, is_false_term}
+use Rattle.cover_engine.specs.Unwindings.{Unwound, Pair, any_of, has, path_of, is_above, is_left, is_covered, some_false, is_end, is_closed, is_none, is_open_leaf, none_open, is_complete}
 use Rattle.cover_engine.specs.Units.{Meets, Legal}
 use Rattle.cover_engine.specs.WellLabelled.{ChildFollows, LedBy, PairHolds, WellLabelled}
 use Rattle.unwinding_laws.proofs.Paths.{Path, top, step, path_is, path_runs}

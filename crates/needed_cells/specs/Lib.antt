@@ -1,3 +1,4 @@
 pub mod Reads
+pub mod Formulas
 pub mod Readings
 pub mod Deciding

@@ -9,8 +9,8 @@ use Rattle.c_graph.specs.Shape.{Flow}
 use Rattle.reach_tree.specs.declared.vertex.VertexId.{VertexId}
 use Rattle.reach_tree.specs.declared.vertex.Vertex.{Vertex}
 use Rattle.reach_tree.specs.Trees.{vertex_at}
-use Rattle.cover_engine.specs.Unwindings.{is_true_term}
-use Rattle.cover_engine.specs.Units.{EdgeImplies, Links, begins_true}
+use Rattle.needed_cells.specs.Formulas.{EdgeImplies, begins_true, is_true_term}
+use Rattle.cover_engine.specs.Units.{Links}
 use Rattle.unwinding_laws.proofs.Paths.{Path, Path.top, Path.step, Falls, falls_wider, path_falls}
 
 -- the formula at a number of a list

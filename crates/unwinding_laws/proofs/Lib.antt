@@ -7,5 +7,6 @@ pub mod Refinement
 pub mod Expansion
 pub mod Journals
 pub mod Rooting
+pub mod Chains
 pub mod Tables
 pub mod Steering

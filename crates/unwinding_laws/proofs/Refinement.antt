@@ -11,7 +11,8 @@ use Rattle.c_graph.specs.Shape.{Flow, outs}
 use Rattle.reach_tree.specs.declared.vertex.VertexId.{VertexId}
 use Rattle.reach_tree.specs.declared.vertex.Vertex.{Vertex}
 use Rattle.reach_tree.specs.Trees.{vertex_at}
-use Rattle.cover_engine.specs.Unwindings.{Unwound, Pair, any_of, has, path_of, is_left, is_true_term}
+use Rattle.needed_cells.specs.Formulas.{is_true_term}
+use Rattle.cover_engine.specs.Unwindings.{Unwound, Pair, any_of, has, path_of, is_left}
 use Rattle.cover_engine.specs.Units.{Meets, CanRefine, after_refine, refined_along, strengthened_along, pairs_but_onto}
 use Rattle.cover_engine.specs.WellLabelled.{ChildFollows, LedBy, IsWholeFamily, PairHolds}
 use Rattle.unwinding_laws.proofs.Vertices.{meets_none}

@@ -5,7 +5,8 @@ use Rattle.bv_term.specs.declared.term.TermId.{TermId}
 use Rattle.bv_term.specs.WellFormed.{Table}
 use Rattle.reach_tree.specs.declared.vertex.Vertex.{Vertex}
 use Rattle.reach_tree.specs.Trees.{vertex_at, with_conjunct, strengthened}
-use Rattle.cover_engine.specs.Unwindings.{has, is_true_term}
+use Rattle.needed_cells.specs.Formulas.{is_true_term}
+use Rattle.cover_engine.specs.Unwindings.{has}
 use Rattle.cover_engine.specs.Units.{strengthens, refined_along, strengthened_along, numbers_of}
 use Rattle.unwinding_laws.proofs.Vertices.{changed_same, changed_other, changed_length}
 use Rattle.unwinding_laws.proofs.Paths.{Falls}

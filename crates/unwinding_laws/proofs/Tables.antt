@@ -22,8 +22,9 @@ use Rattle.reach_tree.specs.Trees.{vertex_at, with_conjunct, with_children, stre
 use Rattle.cover_engine.specs.declared.unit.UnitDone.{UnitDone}
 use Rattle.cover_engine.specs.declared.unit.UnitDone.TheVariants.{Expand, Refine, CoverYes, CoverNo}
 use Rattle.needed_cells.specs.Reads.{names, named_in, named_after, list_at, needed_along}
-use Rattle.cover_engine.specs.Unwindings.{Unwound, is_bit, is_true_term, is_false_term, some_false, is_open_leaf, path_of}
-use Rattle.cover_engine.specs.Units.{Meets, EdgeImplies, Links, NameNeeded, edges_to, Can, CanAll, after, after_all, start, Legal, refined_along, strengthened_along, strengthens, begins_true}
+use Rattle.cover_engine.specs.Unwindings.{Unwound, some_false, is_open_leaf, path_of}
+use Rattle.needed_cells.specs.Formulas.{EdgeImplies, begins_true, is_bit, is_false_term, is_true_term}
+use Rattle.cover_engine.specs.Units.{Meets, Links, NameNeeded, edges_to, Can, CanAll, after, after_all, start, Legal, refined_along, strengthened_along, strengthens}
 
 -- Terms of the first table keep their meaning.
 

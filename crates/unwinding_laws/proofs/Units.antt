@@ -12,7 +12,8 @@ use Rattle.c_graph.specs.Shape.{Flow}
 use Rattle.reach_tree.specs.declared.vertex.VertexId.{VertexId}
 use Rattle.reach_tree.specs.declared.vertex.Vertex.{Vertex}
 use Rattle.reach_tree.specs.Trees.{vertex_at, with_conjunct}
-use Rattle.cover_engine.specs.Unwindings.{Unwound, Pair, any_of, has, same, path_of, is_above, is_left, is_covered, is_true_term, may_pair}
+use Rattle.needed_cells.specs.Formulas.{is_true_term}
+use Rattle.cover_engine.specs.Unwindings.{Unwound, Pair, any_of, has, same, path_of, is_above, is_left, is_covered, may_pair}
 use Rattle.cover_engine.specs.Units.{Meets, CanCover, after_cover, after_part, pairs_but_onto, pairs_but_under, numbers_of}
 use Rattle.cover_engine.specs.WellLabelled.{LedBy, PairHolds, WellLabelled}
 use Rattle.unwinding_laws.proofs.Vertices.{meets_more, meets_front, meets_last, meets_has, true_holds}

@@ -11,7 +11,8 @@ use Rattle.bv_term.specs.Values.{Holds, value_in, values_after}
 use Rattle.bv_term.proofs.Staying.{values-keep}
 use Rattle.reach_tree.specs.declared.vertex.Vertex.{Vertex}
 use Rattle.reach_tree.specs.Trees.{vertex_at, changed, root_at}
-use Rattle.cover_engine.specs.Unwindings.{has, is_bit, is_true_term}
+use Rattle.needed_cells.specs.Formulas.{is_bit, is_true_term}
+use Rattle.cover_engine.specs.Unwindings.{has}
 use Rattle.cover_engine.specs.Units.{Meets, numbers_of}
 
 pub nobody : Vertex

@@ -1,14 +1,18 @@
 -- Laws of unwindings, each named by a public contract.
-use Rattle.std.specs.Prelude.{ℕ, ◌<◌, ◌≡◌, List, length, All, Contains, None, Some}
+use Rattle.std.specs.Prelude.{ℕ, ◌<◌, ◌≡◌, true, List, length, reverse, All, Contains, None, Some, slice_get}
+use Rattle.lv_base.specs.declared.fault.ErrorKind.{ErrorKind}
+use Rattle.bv_term.specs.declared.term.TermId.{TermId}
 use Rattle.bv_term.specs.WellFormed.{Table}
 use Rattle.bv_term.specs.Laws.{Extends}
 use Rattle.c_graph.specs.declared.graph.EdgeId.{EdgeId}
+use Rattle.c_graph.specs.declared.graph.Node.TheVariants.{Error}
 use Rattle.c_graph.specs.Shape.{Flow, outs}
+use Rattle.needed_cells.specs.Formulas.{AreChained}
 use Rattle.reach_tree.specs.declared.vertex.VertexId.{VertexId}
 use Rattle.reach_tree.specs.declared.vertex.Vertex.{Vertex}
 use Rattle.reach_tree.specs.Trees.{target_of, vertex_at}
-use Rattle.cover_engine.specs.Unwindings.{Unwound}
-use Rattle.cover_engine.specs.Units.{Legal, edges_to}
+use Rattle.cover_engine.specs.Unwindings.{Unwound, is_open_leaf, path_of}
+use Rattle.cover_engine.specs.Units.{CanRefine, Legal, edges_to}
 
 -- an unwinding stays legal where its table grows, since the terms that are there keep their meaning
 abbrev pub GrowingTablesKeepLegality : Type 0
@@ -43,3 +47,11 @@ LegalIsATree = (g : Flow) (u : Unwound) → Legal g u → IsTree g u
 -- the edges that lead to vertices of a legal unwinding are edges of the graph
 abbrev pub LegalPathsAreOfEdges : Type 0
 LegalPathsAreOfEdges = (g : Flow) (u : Unwound) (path : List ℕ) → Legal g u → All (λ e. e.0 < length g.edges) (edges_to u.vertices path)
+
+-- formulas that are a chain along the edges of the path to an open leaf at an error make a legal Refine of the leaf
+abbrev pub ChainsRefine : Type 0
+ChainsRefine =
+    (g : Flow) (u : Unwound) (v : VertexId) (fs : List TermId) (kind : ErrorKind) (at : ℕ)
+    → Legal g u → v.0 < length u.vertices → is_open_leaf g u v ≡ true
+    → slice_get g.nodes (vertex_at u.vertices v.0).node.0 ≡ Some (Error kind at)
+    → AreChained g u.terms (edges_to u.vertices (reverse (path_of u.vertices v))) fs → CanRefine g u v fs

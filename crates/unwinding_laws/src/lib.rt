@@ -5,7 +5,7 @@
 #![tactic(auto)]
 
 ghost use Rattle.cover_engine.specs.WellLabelled.{LegalIsWellLabelled};
-ghost use Rattle.unwinding_laws.specs.Laws.{GrowingTablesKeepLegality, LegalIsATree, LegalPathsAreOfEdges};
+ghost use Rattle.unwinding_laws.specs.Laws.{ChainsRefine, GrowingTablesKeepLegality, LegalIsATree, LegalPathsAreOfEdges};
 ghost use Rattle.unwinding_laws.specs.Steered.{GrowingTablesKeepSteering, OneMoreIsSteered};
 
 /// A legal unwinding is well labelled, whatever legal units made it: its root's label is true, each vertex's label with
@@ -30,6 +30,12 @@ pub fn legal_is_a_tree()
 /// The edges that lead to vertices of a legal unwinding, as `Unwinding::path_to` answers them, are edges of the graph.
 pub fn legal_paths_are_of_edges()
     ensures { LegalPathsAreOfEdges }
+{}
+
+/// Formulas that are a chain along the edges of the path to an open leaf at an error, as `Unwinding::path_to` answers them, from true
+/// before the first edge to false behind the last, make a legal Refine of that leaf, wherever the chain comes from.
+pub fn chains_refine()
+    ensures { ChainsRefine }
 {}
 
 /// A legal and steered unwinding with one unit that keeps its kind's rule is steered.

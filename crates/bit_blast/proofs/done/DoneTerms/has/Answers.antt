@@ -1,13 +1,14 @@
-use Rattle.std.proofs.Common.{sym}
+use Rattle.std.proofs.Common.{nat_eq, sym}
+use Rattle.std.specs.HashMap.{get}
 use Rattle.bit_blast.proofs.DoneLemmas.{has-found, look-none}
 use Rattle.bit_blast.proofs.done.DoneTerms.has.Goals as goal
 
 pub returns-in-Some : goal.returns-in-Some
 returns-in-Some c =
-    sym (has-found c.self.inside.places.items c.deref.result.now c.self.inside.done.items c.deref-2.result.now c.args.self.now c.args.term c.in-Some.field-0
-    c.self.invariant c.self.view_is c.deref.ensures.value c.deref-2.ensures.value c.in-Some.ensures.found)
+    sym (has-found (get nat_eq c.self.inside.places) c.self.inside.done.items c.deref.result.now c.args.self.now c.args.term c.in-Some.field-0
+    c.self.invariant c.self.view_is c.deref.ensures.value c.in-Some.ensures.found)
 
 pub returns-in-None : goal.returns-in-None
 returns-in-None c =
-    sym (look-none c.self.inside.places.items c.deref.result.now c.self.inside.done.items c.deref-2.result.now c.args.self.now c.args.term
-    c.self.invariant c.self.view_is c.deref.ensures.value c.deref-2.ensures.value c.in-None.ensures.none).0
+    sym (look-none (get nat_eq c.self.inside.places) c.self.inside.done.items c.deref.result.now c.args.self.now c.args.term
+    c.self.invariant c.self.view_is c.deref.ensures.value c.in-None.ensures.none).0

@@ -1,4 +1,5 @@
-use Rattle.std.proofs.Common.{ap, sym, ◌∙◌}
+use Rattle.std.proofs.Common.{ap, nat_eq, sym, ◌∙◌}
+use Rattle.std.specs.HashMap.{get}
 use Rattle.bit_blast.specs.declared.done.Done.{Done}
 use Rattle.bit_blast.proofs.DoneLemmas.{look-found, look-none}
 use Rattle.bit_blast.proofs.done.DoneTerms.lits.Goals as goal
@@ -6,10 +7,10 @@ use Rattle.bit_blast.proofs.done.DoneTerms.lits.Goals as goal
 pub returns-in-Some : goal.returns-in-Some
 returns-in-Some c =
     c.deref-in-Some.ensures.value ∙ (ap (λ (d : Done). d.lits.items) c.index.ensures
-    ∙ sym (look-found c.self.inside.places.items c.deref.result.now c.self.inside.done.items c.deref-2.result.now c.args.self.now c.args.term c.in-Some.place c.index.result.now
-    c.self.invariant c.self.view_is c.deref.ensures.value c.deref-2.ensures.value c.in-Some.ensures.found).1)
+    ∙ sym (look-found (get nat_eq c.self.inside.places) c.self.inside.done.items c.deref.result.now c.args.self.now c.args.term c.in-Some.place c.index.result.now
+    c.self.invariant c.self.view_is c.deref.ensures.value c.in-Some.ensures.found).1)
 
 pub returns-in-None : goal.returns-in-None
 returns-in-None c =
-    sym (look-none c.self.inside.places.items c.deref.result.now c.self.inside.done.items c.deref-2.result.now c.args.self.now c.args.term
-    c.self.invariant c.self.view_is c.deref.ensures.value c.deref-2.ensures.value c.in-None.ensures.none).1
+    sym (look-none (get nat_eq c.self.inside.places) c.self.inside.done.items c.deref.result.now c.args.self.now c.args.term
+    c.self.invariant c.self.view_is c.deref.ensures.value c.in-None.ensures.none).1
