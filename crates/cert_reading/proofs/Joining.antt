@@ -16,7 +16,7 @@ use Rattle.cert_text.specs.Content.{Content}
 use Rattle.cert_text.specs.Places.{is_done_at}
 use Rattle.cert_text.specs.Steps.{step_of}
 use Rattle.cert_text.specs.Drafts.{Said, said_of, nothing, acted, applied, chain_closed, log_closed, content_said}
-use Rattle.cert_text.specs.Reading.{Reading, start, read_from, read_cert_of}
+use Rattle.cert_text.specs.Reading.{start, read_from, read_cert_of}
 use Rattle.cert_text.specs.Walks.{State, Walk, state, state_of, onward, walk, before_log, behind, joined}
 use Rattle.cert_text.proofs.Walking.{ended, reads}
 use Rattle.cert_reading.specs.declared.cutting.Stretch.{Stretch}

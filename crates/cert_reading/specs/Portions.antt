@@ -10,6 +10,10 @@ use Rattle.cert_reading.specs.declared.cutting.Stretch.{Stretch}
 use Rattle.cert_reading.specs.declared.portions.Beginning.{Beginning}
 use Rattle.cert_reading.specs.declared.portions.Portion.{Portion}
 
+-- a stretch lies within some bytes
+abbrev pub IsWithin : List ℕ → Stretch → Type 0
+IsWithin bytes s = (s.from ≤ s.to) × (s.to ≤ length bytes)
+
 -- a reader that began before a log, with a front and so many logs left, has read the bytes of the stretch
 pub record IsReadFrom (front : Front) (bytes : List ℕ) (s : Stretch) (r : Reader) : Type 0 where
   pub rising : s.from ≤ s.to

@@ -1,5 +1,6 @@
 //! Where the logs of a certificate are cut.
-ghost use Rattle.std.specs.Prelude.{◌<◌, ◌≤◌, IfSome, length};
+ghost use Rattle.std.specs.Prelude.{◌<◌, ◌≤◌, All, IfOk, IfSome, length};
+ghost use Rattle.cert_reading.specs.Portions.{IsWithin};
 
 use memchr::memchr;
 use std::alloc::{AllocError, Global};
@@ -30,7 +31,7 @@ pub fn next_log(bytes: &[u8], from: usize) -> Option<usize>
     None
 }
 
-/// The bytes from the first log on, where so many are left, cut into at most so many stretches.
+/// The bytes from the first log on, where so many are left, cut into at most so many stretches, one behind the other.
 pub fn cut(
     alloc: Global,
     bytes: &[u8],
@@ -39,6 +40,7 @@ pub fn cut(
     parts: u32,
 ) -> Result<Vec<Stretch>, AllocError>
     requires { first ≤ length bytes.now }
+    ensures { IfOk result (λ v. All (IsWithin bytes.now) v.items) }
 {
     let size = (bytes.len() - first) / parts.max(1) as usize;
     let mut stretches = Vec::new(alloc);

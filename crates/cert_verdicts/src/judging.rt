@@ -18,7 +18,8 @@ use verdicts::{Rejection, Verdict};
 
 /// The answer to a certificate's bytes, for a source, a data model, and the graph that was made of the source. The form comes first, then
 /// the hash of the source, then the model, then the map, the number of logs, and the obligations, the lowest first. So many workers share
-/// the obligations, beside each other, and each enters the gate before its first one; how many there are changes no answer.
+/// the reading and then the obligations, beside each other, and each enters the gate before its first obligation; how many there are
+/// changes no answer.
 pub fn judge<R: Threads + Sync, G: Gate>(
     rt: &R,
     alloc: Global,

@@ -4,6 +4,7 @@ use cert_reading::{read_cert_by, read_shared};
 use cert_text::{read_cert, write_cert};
 use std::alloc::{AllocError, Global};
 use std::test::*;
+use std::thread::Threads;
 
 const LOGS: usize = 60;
 
@@ -45,27 +46,29 @@ fn workers_read_what_one_reads(rt: HostRuntime) -> Result<(), Fail> {
 fn workers_refuse_what_one_refuses(rt: HostRuntime) -> Result<(), Fail> {
     let alloc = rt.alloc();
     let whole = certificate(alloc, LOGS, b"end\n")?;
-    for at in [0, 30, 140, 20_000, 50_000, whole.len() - 1] {
+    for at in [1, 30, 140, 20_000, 50_000, whole.len() - 1] {
         let mut text = certificate(alloc, LOGS, b"end\n")?;
         text[at] = b'l';
-        refuses_alike(&rt, &text)?;
+        refuses_alike(&rt, alloc, &text)?;
     }
-    refuses_alike(&rt, &certificate(alloc, LOGS - 1, b"end\n")?)?;
-    refuses_alike(&rt, &certificate(alloc, LOGS + 1, b"end\n")?)?;
-    refuses_alike(&rt, &certificate(alloc, LOGS, b"log 0\nend\n")?)?;
-    refuses_alike(&rt, &certificate(alloc, LOGS, b"")?)
+    refuses_alike(&rt, alloc, &certificate(alloc, LOGS - 1, b"end\n")?)?;
+    refuses_alike(&rt, alloc, &certificate(alloc, LOGS + 1, b"end\n")?)?;
+    refuses_alike(&rt, alloc, &certificate(alloc, LOGS, b"log 0\nend\n")?)?;
+    refuses_alike(&rt, alloc, &certificate(alloc, LOGS, b"")?)
 }
 
 // Any number of workers answers as one reader does, which refuses the text.
-fn refuses_alike(rt: &HostRuntime, text: &[u8]) -> Result<(), Fail> {
-    let Err(one) = read_cert(rt.alloc(), text) else {
+fn refuses_alike<R: Threads + Sync>(rt: &R, alloc: Global, text: &[u8]) -> Result<(), Fail> {
+    let Err(one) = read_cert(alloc, text) else {
         return Err("read".into());
     };
     for workers in [1, 2, 3, 8, 64] {
-        let Err(fail) = read_cert_by(rt, rt.alloc(), text, workers) else {
+        let Err(fail) = read_cert_by(rt, alloc, text, workers) else {
             return Err("read by workers".into());
         };
-        assert_eq!(rt; fail, one);
+        if fail != one {
+            return Err("another refusal".into());
+        }
     }
     Ok(())
 }
