@@ -1,6 +1,6 @@
 use Rattle.std.proofs.Common.{◌≡◌, ◌+◌, All, IfOk, vec_len}
 use Rattle.work_claims.specs.Seats.{IsOf}
-use Rattle.claim_tests.proofs.beside.gathered.Given as goal
+use Rattle.host_tests.proofs.claiming.gathered.Given as goal
 
 abbrev pub invariant-loop-one : goal.invariant-loop-one
 invariant-loop-one l =
