@@ -18,35 +18,18 @@ mod tables;
 mod trying;
 
 use crate::tables::try_rows;
-use std::env;
 use std::process::ExitCode;
-use std::rt::{Env, Files};
+use std::rt::Files;
 use std::thread::Threads;
+use table_rows::{status_for, try_named};
 
-// Tries the tables whose names are the words behind the program's name; the greatest status of one.
-fn run<R>(rt: &R) -> u8
+fn try_file<R>(rt: &R, name: &str) -> u8
 where
-    R: AllocGlobal + Env + Files + Print + Eprint + Threads + Sync + Clone + Drop,
+    R: AllocGlobal + Files + Print + Eprint + Threads + Sync + Clone + Drop,
 {
-    let Ok(words) = env::args(rt) else {
-        let _ = eprintln!(rt; "give the names of tables");
-        return 2;
-    };
-    let mut greatest = 0u8;
-    for name in words.skip(1) {
-        let status = match try_rows(rt, name.as_str()) {
-            Ok(0) => 0,
-            Ok(_) => 1,
-            Err(refusal) => {
-                let _ = eprintln!(rt; "{refusal}");
-                2
-            }
-        };
-        greatest = greatest.max(status);
-    }
-    greatest
+    status_for(rt, name, try_rows(rt, name))
 }
 
 fn main(rt: HostRuntime) -> ExitCode {
-    ExitCode::from(run(&rt))
+    ExitCode::from(try_named(&rt, |name| try_file(&rt, name)))
 }

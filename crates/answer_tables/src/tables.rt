@@ -2,29 +2,11 @@
 
 use crate::rows::row_of;
 use crate::trying::tried;
-use lv_outside::{FileFail, Folder, Got, HostFolder};
-use std::alloc::{AllocError, Global};
+use std::alloc::Global;
 use std::rt::Files;
 use std::str;
 use std::thread::Threads;
-use table_rows::{Flaw, Refusal};
-
-// The most bytes that a table may have.
-const MOST_BYTES: usize = 1 << 20;
-
-// What the file of this name holds.
-fn load<R: Files + Clone + Drop>(alloc: Global, rt: &R, name: &str) -> Result<Vec<u8>, Refusal> {
-    let files: Result<R, AllocError> = rt.clone();
-    let Ok(files) = files else {
-        return Err(Refusal::Memory);
-    };
-    match HostFolder::new(files).read(alloc, name, MOST_BYTES) {
-        Ok(Got::Bytes(bytes)) => Ok(bytes),
-        Ok(Got::Longer) => Err(Refusal::Long),
-        Err(FileFail::Memory) => Err(Refusal::Memory),
-        Err(FileFail::Failed) => Err(Refusal::File),
-    }
-}
+use table_rows::{Flaw, Refusal, load};
 
 // The status and the text of a row's answer, where it is not as the row says.
 fn other<R: Threads + Sync>(rt: &R, alloc: Global, row: &str) -> Result<Option<String>, Flaw> {

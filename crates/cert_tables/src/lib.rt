@@ -26,7 +26,7 @@ use table_rows::{Fields, Flaw, Refusal, Table, try_table};
 struct CertRows;
 
 impl Table for CertRows {
-    fn other(&self, alloc: Global, row: &str) -> Result<Option<String>, Flaw> {
+    fn other(&mut self, alloc: Global, row: &str) -> Result<Option<String>, Flaw> {
         let mut columns = Fields::columns(row);
         match columns.next()? {
             "says" => files::says_other(alloc, columns),
@@ -49,5 +49,5 @@ pub fn try_rows<R>(rt: &R, name: &str) -> Result<u64, Refusal>
 where
     R: AllocGlobal + Files + Print + Clone + Drop,
 {
-    try_table(rt, &CertRows, name)
+    try_table(rt, &mut CertRows, name)
 }

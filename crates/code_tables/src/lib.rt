@@ -23,7 +23,7 @@ use table_rows::{Fields, Flaw, Refusal, Table, try_table};
 struct CodeRows;
 
 impl Table for CodeRows {
-    fn other(&self, alloc: Global, row: &str) -> Result<Option<String>, Flaw> {
+    fn other(&mut self, alloc: Global, row: &str) -> Result<Option<String>, Flaw> {
         let mut columns = Fields::columns(row);
         match columns.next()? {
             "code" => code_other(alloc, columns),
@@ -39,5 +39,5 @@ pub fn try_rows<R>(rt: &R, name: &str) -> Result<u64, Refusal>
 where
     R: AllocGlobal + Files + Print + Clone + Drop,
 {
-    try_table(rt, &CodeRows, name)
+    try_table(rt, &mut CodeRows, name)
 }

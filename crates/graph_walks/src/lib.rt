@@ -26,24 +26,14 @@ use crate::rows::other_of;
 use crate::sizes::{are_small, is_bare};
 use block_join::join_blocks;
 use lv_base::{Model, SourceFail};
-use source_graphs::{LoadFail, examined, load, whole_graph};
+use source_graphs::{examined, whole_graph};
 use std::alloc::Global;
 use std::rt::Files;
 use std::str;
-use table_rows::{Flaw, Refusal};
+use table_rows::{Flaw, Refusal, load};
 
 // How often each graph is walked.
 const ROUNDS: u32 = 20;
-
-// What the file of this name holds.
-fn loaded<R: Files + Clone + Drop>(alloc: Global, rt: &R, name: &str) -> Result<Vec<u8>, Refusal> {
-    match load(alloc, rt, name) {
-        Ok(bytes) => Ok(bytes),
-        Err(LoadFail::Memory) => Err(Refusal::Memory),
-        Err(LoadFail::File) => Err(Refusal::File),
-        Err(LoadFail::Long) => Err(Refusal::Long),
-    }
-}
 
 fn sum(first: Tally, second: Tally) -> Tally {
     Tally {
@@ -151,7 +141,7 @@ where
     R: AllocGlobal + Files + Print + Clone + Drop,
 {
     let alloc = rt.alloc();
-    let source = loaded(alloc, rt, name)?;
+    let source = load(alloc, rt, name)?;
     if name.ends_with(".txt") {
         return try_table(alloc, rt, name, &source);
     }

@@ -11,6 +11,8 @@ mod certs;
 #[cfg(test)]
 mod claiming;
 #[cfg(test)]
+mod counting;
+#[cfg(test)]
 mod gates;
 #[cfg(test)]
 mod holding;

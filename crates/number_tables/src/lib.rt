@@ -27,7 +27,7 @@ use table_rows::{Fields, Flaw, Refusal, Table, try_table};
 struct NumberRows;
 
 impl Table for NumberRows {
-    fn other(&self, alloc: Global, row: &str) -> Result<Option<String>, Flaw> {
+    fn other(&mut self, alloc: Global, row: &str) -> Result<Option<String>, Flaw> {
         let mut columns = Fields::columns(row);
         match columns.next()? {
             "arith" => arith_other(alloc, columns),
@@ -48,5 +48,5 @@ pub fn try_rows<R>(rt: &R, name: &str) -> Result<u64, Refusal>
 where
     R: AllocGlobal + Files + Print + Clone + Drop,
 {
-    try_table(rt, &NumberRows, name)
+    try_table(rt, &mut NumberRows, name)
 }

@@ -1,4 +1,4 @@
-//! What stands in the rows of tables: words and numbers, literals and clauses, terms; and the walk over the rows of files.
+//! What stands in the rows of tables: words and numbers, literals and clauses, terms; and tables whose rows state something.
 #![tactic(auto)]
 
 mod clauses;
@@ -8,7 +8,8 @@ mod terms;
 mod words;
 
 pub use clauses::{clauses_in, lit_in, literal_rows, lits_in};
-pub use fails::{Refusal, RowFail};
+pub use fails::RowFail;
+pub use table_rows::Refusal;
 pub use tables::{Table, try_table};
 pub use terms::{one_term, terms_in};
 pub use words::{fields, half, halves, number, numbers, wide, wides};

@@ -1,13 +1,9 @@
-//! Tables are files of rows, one a line. Lines that begin with `#`, and empty ones, are left out.
+//! Tables whose rows state something.
 
-use crate::fails::{Refusal, RowFail};
-use lv_outside::{FileFail, Folder, Got, HostFolder};
-use std::alloc::{AllocError, Global};
+use crate::fails::RowFail;
+use std::alloc::Global;
 use std::rt::Files;
-use std::str;
-
-// The most bytes that a table may have.
-const MOST_BYTES: usize = 1 << 20;
+use table_rows::{Flaw, Refusal};
 
 /// What tries a row.
 pub trait Table {
@@ -17,70 +13,21 @@ pub trait Table {
     fn is_so(&mut self, alloc: Global, row: &str) -> Result<bool, RowFail>;
 }
 
-// How many rows there were, and how many of them are not so.
-#[derive(Clone, Copy, Debug, Drop)]
-struct Tried {
-    rows: u64,
-    others: u64,
+// A table of statements as one of which is told what came: the row itself, where it is not so.
+#[derive(Drop)]
+struct Stated<'a, T> {
+    table: &'a mut T,
 }
 
-// What the file of this name holds.
-fn load<R: Files + Clone + Drop>(alloc: Global, rt: &R, name: &str) -> Result<Vec<u8>, Refusal> {
-    let files: Result<R, AllocError> = rt.clone();
-    let Ok(files) = files else {
-        return Err(Refusal::Memory);
-    };
-    match HostFolder::new(files).read(alloc, name, MOST_BYTES) {
-        Ok(Got::Bytes(bytes)) => Ok(bytes),
-        Ok(Got::Longer) => Err(Refusal::Long),
-        Err(FileFail::Memory) => Err(Refusal::Memory),
-        Err(FileFail::Failed) => Err(Refusal::File),
-    }
-}
-
-// Tries a row, and prints it where it is not so.
-fn try_one<R: Print, T: Table>(
-    alloc: Global,
-    rt: &R,
-    table: &mut T,
-    line: u32,
-    row: &str,
-) -> Result<bool, Refusal> {
-    let said = match table.is_so(alloc, row) {
-        Ok(true) => return Ok(true),
-        Ok(false) => println!(rt; "line {line} is not so: {row}"),
-        Err(RowFail::Bad) => println!(rt; "line {line} is no row: {row}"),
-        Err(RowFail::Memory) => return Err(Refusal::Memory),
-    };
-    match said {
-        Ok(()) => Ok(false),
-        Err(_) => Err(Refusal::Output),
-    }
-}
-
-// Tries the rows of a table.
-fn try_all<R: Print, T: Table>(
-    alloc: Global,
-    rt: &R,
-    table: &mut T,
-    bytes: &[u8],
-) -> Result<Tried, Refusal> {
-    let Ok(text) = str::from_utf8(bytes) else {
-        return Err(Refusal::Text);
-    };
-    let mut tried = Tried { rows: 0, others: 0 };
-    let mut line = 0u32;
-    for row in text.lines() {
-        line = line.saturating_add(1);
-        if row.is_empty() || row.starts_with('#') {
-            continue;
-        }
-        tried.rows = tried.rows.saturating_add(1);
-        if !try_one(alloc, rt, table, line, row)? {
-            tried.others = tried.others.saturating_add(1);
+impl<T: Table> table_rows::Table for Stated<'_, T> {
+    fn other(&mut self, alloc: Global, row: &str) -> Result<Option<String>, Flaw> {
+        match self.table.is_so(alloc, row) {
+            Ok(true) => Ok(None),
+            Ok(false) => Ok(Some(format!(in alloc; "not so: {row}")?)),
+            Err(RowFail::Bad) => Err(Flaw::Form),
+            Err(RowFail::Memory) => Err(Flaw::Memory),
         }
     }
-    Ok(tried)
 }
 
 /// Tries the rows of the table in the file of this name. It prints each row that is not so, and how many rows there are; how many are
@@ -90,11 +37,5 @@ where
     R: AllocGlobal + Files + Print + Clone + Drop,
     T: Table,
 {
-    let alloc = rt.alloc();
-    let bytes = load(alloc, rt, name)?;
-    let Tried { rows, others } = try_all(alloc, rt, table, &bytes)?;
-    match println!(rt; "{name}: {rows} rows") {
-        Ok(()) => Ok(others),
-        Err(_) => Err(Refusal::Output),
-    }
+    table_rows::try_table(rt, &mut Stated { table }, name)
 }

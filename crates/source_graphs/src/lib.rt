@@ -1,4 +1,4 @@
-//! From a file to the graph of its blocks, for programs that measure or try what is done with such graphs.
+//! From a source to the graph of its blocks, for programs that measure or try what is done with such graphs.
 #![tactic(auto)]
 
 ghost use Rattle.std.specs.Prelude.{◌≡◌, IfErr, IfOk};
@@ -23,45 +23,11 @@ use edge_count_laws::built_is_sparse;
 use elaboration_laws::sources_read;
 use function_graph_laws::following_makes_flows;
 use lv_base::{Memory, Model, SourceFail};
-use lv_outside::{FileFail, Folder, Got, HostFolder};
 use run_replay::orders_agree;
 use source_graph_laws::joined_graphs_stand;
 use source_visit_laws::inlined_visits_follow;
-use std::alloc::{AllocError, Global};
-use std::rt::Files;
+use std::alloc::Global;
 use witness_visit_laws::inlined_cells_stand;
-
-// The most bytes that a source may have.
-const MOST_BYTES: usize = 1 << 20;
-
-/// Why a file is not read.
-#[derive(Clone, Copy, Debug, PartialEq)]
-pub enum LoadFail {
-    /// Memory ran out.
-    Memory,
-    /// The host refused.
-    File,
-    /// It has more bytes than a source may have.
-    Long,
-}
-
-/// What the file of this name holds.
-pub fn load<R: Files + Clone + Drop>(
-    alloc: Global,
-    rt: &R,
-    name: &str,
-) -> Result<Vec<u8>, LoadFail> {
-    let files: Result<R, AllocError> = rt.clone();
-    let Ok(files) = files else {
-        return Err(LoadFail::Memory);
-    };
-    match HostFolder::new(files).read(alloc, name, MOST_BYTES) {
-        Ok(Got::Bytes(bytes)) => Ok(bytes),
-        Ok(Got::Longer) => Err(LoadFail::Long),
-        Err(FileFail::Memory) => Err(LoadFail::Memory),
-        Err(FileFail::Failed) => Err(LoadFail::File),
-    }
-}
 
 /// The typed tree of a source that breaks no rule.
 pub fn examined(alloc: Global, source: &[u8], model: Model) -> Result<Examined, SourceFail> {

@@ -26,37 +26,19 @@ mod values;
 mod words;
 
 use crate::answers::answer;
-pub use crate::rows::Refusal;
 use crate::rows::{Row, row_of};
 use crate::spelling::source_of;
 use lv_base::Model;
-use lv_outside::{FileFail, Folder, Got, HostFolder};
-use std::alloc::{AllocError, Global};
+use std::alloc::Global;
 use std::rt::Files;
 use std::str;
-
-// The most bytes that a table may have.
-const MOST_BYTES: usize = 1 << 20;
+use table_rows::{Refusal, load};
 
 // How many answers there were, and how many of them were others.
 #[derive(Clone, Copy, Debug, PartialEq)]
 struct Tried {
     runs: u64,
     others: u64,
-}
-
-// What the file of this name holds.
-fn load<R: Files + Clone + Drop>(alloc: Global, rt: &R, name: &str) -> Result<Vec<u8>, Refusal> {
-    let files: Result<R, AllocError> = rt.clone();
-    let Ok(files) = files else {
-        return Err(Refusal::Memory);
-    };
-    match HostFolder::new(files).read(alloc, name, MOST_BYTES) {
-        Ok(Got::Bytes(bytes)) => Ok(bytes),
-        Ok(Got::Longer) => Err(Refusal::Long),
-        Err(FileFail::Memory) => Err(Refusal::Memory),
-        Err(FileFail::Failed) => Err(Refusal::File),
-    }
 }
 
 // Asks what a row asks under one data model, and prints an answer that is another one.
@@ -69,7 +51,9 @@ fn try_one<R: Print>(
     source: &[u8],
     tried: &mut Tried,
 ) -> Result<(), Refusal> {
-    let page = answer(alloc, row.question, model, source)?;
+    let Ok(page) = answer(alloc, row.question, model, source) else {
+        return Err(Refusal::Memory);
+    };
     tried.runs = tried.runs.saturating_add(1);
     if page.text() == row.answer {
         return Ok(());
@@ -129,7 +113,7 @@ where
     let alloc = rt.alloc();
     let table = load(alloc, rt, name)?;
     let Ok(text) = str::from_utf8(&table) else {
-        return Err(Refusal::Row(1));
+        return Err(Refusal::Text);
     };
     let tried = try_all(alloc, rt, text)?;
     let runs = tried.runs;

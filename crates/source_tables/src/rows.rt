@@ -1,53 +1,7 @@
 //! The rows of a table: what is asked, what is to be answered, and a source.
 
-use lv_base::{Model, SourceFail};
-use std::alloc::{AllocError, AllocFailed};
-use std::fmt;
-
-/// Why a table is not tried to its end.
-#[derive(Debug, Drop, PartialEq)]
-pub enum Refusal {
-    /// A file could not be read.
-    File,
-    /// A file is longer than a mebibyte.
-    Long,
-    /// A line, counted from 1, is no row.
-    Row(u32),
-    /// Memory ran out.
-    Memory,
-    /// A line could not be printed.
-    Output,
-}
-
-impl fmt::Display for Refusal {
-    fn fmt<W: fmt::Write>(&self, f: &mut fmt::Formatter<W>) -> fmt::Result {
-        match self {
-            Refusal::File => write!(f, "a file could not be read"),
-            Refusal::Long => write!(f, "a file is longer than a mebibyte"),
-            Refusal::Row(line) => write!(f, "line {line} is no row"),
-            Refusal::Memory => write!(f, "out of memory"),
-            Refusal::Output => write!(f, "a line could not be printed"),
-        }
-    }
-}
-
-impl From<AllocError> for Refusal {
-    fn from(_: AllocError) -> Refusal {
-        Refusal::Memory
-    }
-}
-
-impl From<AllocFailed<u8>> for Refusal {
-    fn from(_: AllocFailed<u8>) -> Refusal {
-        Refusal::Memory
-    }
-}
-
-impl From<SourceFail> for Refusal {
-    fn from(_: SourceFail) -> Refusal {
-        Refusal::Memory
-    }
-}
+use lv_base::Model;
+use table_rows::Refusal;
 
 /// With which data models a row is tried.
 #[derive(Clone, Copy, Debug, PartialEq)]

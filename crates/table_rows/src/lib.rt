@@ -5,11 +5,15 @@
 #![tactic(auto)]
 
 mod fields;
+mod files;
+mod naming;
 mod refusal;
 mod table;
 mod text;
 
 pub use fields::{Fields, list_of, number_of};
+pub use files::load;
+pub use naming::{status_for, try_named};
 pub use refusal::{Flaw, Refusal};
 pub use table::{Table, other_than, try_table};
 pub use text::text_of;

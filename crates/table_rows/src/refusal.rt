@@ -39,7 +39,7 @@ impl From<SourceFail> for Flaw {
 }
 
 /// Why a table is not tried to its end.
-#[derive(Clone, Copy, Drop)]
+#[derive(Clone, Copy, Debug, Drop, PartialEq)]
 pub enum Refusal {
     /// A file could not be read.
     File,
@@ -47,10 +47,18 @@ pub enum Refusal {
     Long,
     /// A file is no text.
     Text,
+    /// The line of this number, counted from 1, is no row.
+    Row(u32),
     /// Memory ran out.
     Memory,
     /// A line could not be printed.
     Output,
+}
+
+impl From<AllocError> for Refusal {
+    fn from(_: AllocError) -> Refusal {
+        Refusal::Memory
+    }
 }
 
 impl fmt::Display for Refusal {
@@ -59,6 +67,7 @@ impl fmt::Display for Refusal {
             Refusal::File => write!(f, "a file could not be read"),
             Refusal::Long => write!(f, "a file is longer than a mebibyte"),
             Refusal::Text => write!(f, "a file is no text"),
+            Refusal::Row(line) => write!(f, "line {line} is no row"),
             Refusal::Memory => write!(f, "out of memory"),
             Refusal::Output => write!(f, "a line could not be printed"),
         }

@@ -1,20 +1,16 @@
 //! Tables are files of rows, one a line. Lines that begin with `#`, and empty ones, are left out.
 
-use crate::{Flaw, Refusal};
-use lv_outside::{FileFail, Folder, Got, HostFolder};
-use std::alloc::{AllocError, Global};
+use crate::{Flaw, Refusal, load};
+use std::alloc::Global;
 use std::rt::Files;
 use std::str;
-
-// The most bytes that a table may have.
-const MOST_BYTES: usize = 1 << 20;
 
 /// What tries a row.
 pub trait Table {
     /// What came where it is not as the row says; none where it is.
     ///
     /// Fails with `Form` where it is no row, and with `Memory`.
-    fn other(&self, alloc: Global, row: &str) -> Result<Option<String>, Flaw>;
+    fn other(&mut self, alloc: Global, row: &str) -> Result<Option<String>, Flaw>;
 }
 
 /// What came, where it is another text than is wanted.
@@ -33,25 +29,11 @@ struct Tried {
     others: u64,
 }
 
-// What the file of this name holds.
-fn load<R: Files + Clone + Drop>(alloc: Global, rt: &R, name: &str) -> Result<Vec<u8>, Refusal> {
-    let files: Result<R, AllocError> = rt.clone();
-    let Ok(files) = files else {
-        return Err(Refusal::Memory);
-    };
-    match HostFolder::new(files).read(alloc, name, MOST_BYTES) {
-        Ok(Got::Bytes(bytes)) => Ok(bytes),
-        Ok(Got::Longer) => Err(Refusal::Long),
-        Err(FileFail::Memory) => Err(Refusal::Memory),
-        Err(FileFail::Failed) => Err(Refusal::File),
-    }
-}
-
 // Tries a row, and prints what came where it is not so.
 fn is_so<R: Print, T: Table>(
     alloc: Global,
     rt: &R,
-    table: &T,
+    table: &mut T,
     line: u32,
     row: &str,
 ) -> Result<bool, Refusal> {
@@ -71,7 +53,7 @@ fn is_so<R: Print, T: Table>(
 fn try_all<R: Print, T: Table>(
     alloc: Global,
     rt: &R,
-    table: &T,
+    table: &mut T,
     bytes: &[u8],
 ) -> Result<Tried, Refusal> {
     let Ok(text) = str::from_utf8(bytes) else {
@@ -94,7 +76,7 @@ fn try_all<R: Print, T: Table>(
 
 /// Tries the rows of the table in the file of this name. It prints what came of each row that is not so, and how many rows there
 /// are; how many are not so.
-pub fn try_table<R, T>(rt: &R, table: &T, name: &str) -> Result<u64, Refusal>
+pub fn try_table<R, T>(rt: &R, table: &mut T, name: &str) -> Result<u64, Refusal>
 where
     R: AllocGlobal + Files + Print + Clone + Drop,
     T: Table,

@@ -9,9 +9,9 @@ use lv_base::{Memory, Text};
 use lv_outside::{NoFaultFolder, NoFaultSink, names_differ};
 use std::alloc::Global;
 use std::process::ExitCode;
-use std::rt::{Env, Files};
-use std::{env, str};
-use table_rows::{Fields, Flaw, Table, other_than, text_of, try_table};
+use std::rt::Files;
+use std::str;
+use table_rows::{Fields, Flaw, Table, other_than, status_for, text_of, try_named, try_table};
 use trace_answers::trace_words;
 
 // The most bytes of a text that is put.
@@ -48,7 +48,7 @@ fn told(alloc: Global, words: &str, files: Vec<(Text, Vec<u8>)>) -> Result<Strin
 }
 
 impl Table for TraceRows {
-    fn other(&self, alloc: Global, row: &str) -> Result<Option<String>, Flaw> {
+    fn other(&mut self, alloc: Global, row: &str) -> Result<Option<String>, Flaw> {
         let mut columns = Fields::columns(row);
         let words = columns.next()?;
         let status = columns.count()?;
@@ -65,30 +65,13 @@ impl Table for TraceRows {
     }
 }
 
-// Tries the tables whose names are the words behind the program's name; the greatest status of one.
-fn run<R>(rt: &R) -> u8
+fn try_file<R>(rt: &R, name: &str) -> u8
 where
-    R: AllocGlobal + Env + Files + Print + Eprint + Clone + Drop,
+    R: AllocGlobal + Files + Print + Eprint + Clone + Drop,
 {
-    let Ok(words) = env::args(rt) else {
-        let _ = eprintln!(rt; "give the names of tables");
-        return 2;
-    };
-    let mut greatest = 0u8;
-    for name in words.skip(1) {
-        let status = match try_table(rt, &TraceRows, name.as_str()) {
-            Ok(0) => 0,
-            Ok(_) => 1,
-            Err(refusal) => {
-                let _ = eprintln!(rt; "{refusal}");
-                2
-            }
-        };
-        greatest = greatest.max(status);
-    }
-    greatest
+    status_for(rt, name, try_table(rt, &mut TraceRows, name))
 }
 
 fn main(rt: HostRuntime) -> ExitCode {
-    ExitCode::from(run(&rt))
+    ExitCode::from(try_named(&rt, |name| try_file(&rt, name)))
 }

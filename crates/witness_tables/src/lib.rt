@@ -24,7 +24,7 @@ use table_rows::{Fields, Flaw, Refusal, Table, try_table};
 struct WitnessRows;
 
 impl Table for WitnessRows {
-    fn other(&self, alloc: Global, row: &str) -> Result<Option<String>, Flaw> {
+    fn other(&mut self, alloc: Global, row: &str) -> Result<Option<String>, Flaw> {
         let mut columns = Fields::columns(row);
         match columns.next()? {
             "time" => time_other(alloc, columns),
@@ -42,5 +42,5 @@ pub fn try_rows<R>(rt: &R, name: &str) -> Result<u64, Refusal>
 where
     R: AllocGlobal + Files + Print + Clone + Drop,
 {
-    try_table(rt, &WitnessRows, name)
+    try_table(rt, &mut WitnessRows, name)
 }
