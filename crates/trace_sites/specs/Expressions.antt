@@ -1,12 +1,12 @@
 -- The sites in expressions, in the order in which their instructions stand in flat code, behind those that were found before.
-use Rattle.std.specs.Prelude.{ℕ, List, [], ◌∷◌, ◌++◌, Option, Some, None, take, length, if◌then◌else◌, codes}
-use Rattle.std.specs.Str.{bytes_eq}
+use Rattle.std.specs.Prelude.{ℕ, Bool, true, false, List, [], ◌∷◌, ◌++◌, Option, Some, None, if◌then◌else◌}
 use Rattle.c_tree.specs.declared.symbol.BinaryOp.{BinaryOp}
 use Rattle.c_tree.specs.declared.symbol.BinaryOp.TheVariants as op
 use Rattle.c_tree.specs.declared.symbol.AssignOp.{AssignOp}
 use Rattle.c_tree.specs.declared.symbol.AssignOp.TheVariants as assign
 use Rattle.c_tree.specs.declared.tree.PrefixOp.TheVariants as prefix
 use Rattle.c_tree.specs.Tree.{Ex, eName, eNumber, eLetter, eParen, eCall, eIndex, ePostfix, ePrefix, eSizeof, eCast, eBinary, eCond, eAssign, eComma, Parts, no_parts, parts_and}
+use Rattle.c_meaning.specs.Known.{Known, draws, known_of}
 use Rattle.c_meaning.specs.Tokens.{first_of}
 use Rattle.trace_sites.specs.declared.site.Site.{Site}
 use Rattle.trace_sites.specs.declared.site.Part.{Part}
@@ -16,13 +16,17 @@ use Rattle.trace_sites.specs.declared.site.Part.TheVariants.{Draw, Decision, Ass
 abbrev pub with_site : List Site → Part → ℕ → ℕ → List Site
 with_site found part start end = found ++ (record { part = part; from = start; to = end } ∷ [])
 
--- the name of a function that draws a value begins so
-abbrev pub draws : List ℕ
-draws = codes "__VERIFIER_nondet_"
+-- a function without a body that draws a value
+abbrev pub is_draw : Option Known → Bool
+is_draw (Some (draws kind)) = true
+is_draw _ = false
+
+abbrev pub drawn_behind : List Site → Bool → ℕ → List Site
+drawn_behind found is at = if is then with_site found Draw at at else found
 
 -- a called function that draws a value: its name
 abbrev pub draw_behind : List Site → Ex → List Site
-draw_behind found (eName name at) = if bytes_eq (take (length draws) name) draws then with_site found Draw at at else found
+draw_behind found (eName name at) = drawn_behind found (is_draw (known_of name)) at
 draw_behind found _ = found
 
 -- a left operand that decides whether the right one is evaluated: its bytes, in front of its operator

@@ -1,4 +1,5 @@
 ghost use Rattle.std.specs.Prelude.{◌≡◌, OnOk};
+ghost use Rattle.c_meaning.specs.Known as known;
 ghost use Rattle.c_tree.specs.View as v;
 ghost use Rattle.trace_sites.specs.Expressions as sites;
 
@@ -6,17 +7,37 @@ use crate::site::{Part, Site, add};
 use c_tree::{AssignOp, BinaryOp, Expr, Listed, PrefixOp};
 use lv_base::Memory;
 use tree_places::first_of;
+use typed_values::{Known, known_of};
 
-const DRAWS: &[u8; 18] = b"__VERIFIER_nondet_";
+// Whether a function of this name draws a value.
+fn is_draw(name: &[u8]) -> bool
+    ensures { result ≡ sites.is_draw (known.known_of name.now) }
+{
+    match known_of(name) {
+        Some(Known::Draws(_)) => true,
+        Some(Known::Reaches) => false,
+        Some(Known::Aborts) => false,
+        None => false,
+    }
+}
+
+// A called name, where it draws a value.
+fn add_drawn(name: &[u8], at: u32, found: &mut Vec<Site>) -> Result<(), Memory>
+    ensures { OnOk result (found.new.items ≡ sites.drawn_behind found.old.items (sites.is_draw (known.known_of name.now)) at) }
+{
+    if is_draw(name) {
+        add(found, Part::Draw, at, at)
+    } else {
+        Ok(())
+    }
+}
 
 // A called function that draws a value.
 fn add_draw(called: &Expr, found: &mut Vec<Site>) -> Result<(), Memory>
     ensures { OnOk result (found.new.items ≡ sites.draw_behind found.old.items (v.expr called.now)) }
 {
     match called {
-        Expr::Name(name, at) if name.as_bytes().starts_with(DRAWS) => {
-            add(found, Part::Draw, *at, *at)
-        }
+        Expr::Name(name, at) => add_drawn(name.as_bytes(), *at, found),
         _ => Ok(()),
     }
 }
