@@ -1,12 +1,12 @@
 //! The answer is that of one worker, for any number of them.
 
-use crate::certs::{cert_of, proved, row_graph, row_map, without_logs};
 use cert_build::Proved;
 use cert_check::CheckFail;
 use check_workers::check_beside;
 use lv_outside::FreeGate;
 use prove_workers::prove_beside;
 use std::test::*;
+use worker_trials::{cert_of, proved, row_graph, row_map, without_logs};
 
 #[test]
 fn the_answer_is_that_of_one(rt: HostRuntime) -> Result<(), Fail> {

@@ -1,11 +1,10 @@
 //! Workers run beside each other.
 
-use crate::certs::{proved, row_graph, row_map};
-use crate::holding::HoldGate;
 use cert_build::Proved;
 use check_workers::check_beside;
 use prove_workers::prove_beside;
 use std::test::*;
+use worker_trials::{HoldGate, proved, row_graph, row_map};
 
 #[test]
 fn workers_run_beside_each_other(rt: HostRuntime) -> Result<(), Fail> {

@@ -7,15 +7,9 @@ mod answers;
 #[cfg(test)]
 mod beside;
 #[cfg(test)]
-mod certs;
-#[cfg(test)]
 mod claiming;
 #[cfg(test)]
-mod counting;
-#[cfg(test)]
 mod gates;
-#[cfg(test)]
-mod holding;
 #[cfg(test)]
 mod host;
 #[cfg(test)]

@@ -14,7 +14,7 @@ use std::alloc::{AllocError, Global};
 
 /// Why there is no certificate.
 #[derive(Clone, Copy, Debug, PartialEq)]
-pub(crate) enum NoCert {
+pub enum NoCert {
     /// Memory ran out.
     Memory,
     /// The map was refused, or has no proof.
@@ -43,7 +43,7 @@ fn step(alloc: Global, from: u32, to: u32) -> Edge {
 }
 
 /// The graph.
-pub(crate) fn row_graph(alloc: Global) -> Result<Graph, NoCert> {
+pub fn row_graph(alloc: Global) -> Result<Graph, NoCert> {
     let nodes = [
         Node::Plain,
         Node::Plain,
@@ -79,7 +79,7 @@ fn unproved(alloc: Global, formulas: &[u32]) -> Result<Cert, NoCert> {
 }
 
 /// The map with one of the terms true and false, by number, at each node of the graph.
-pub(crate) fn row_map(alloc: Global, graph: &Graph, formulas: &[u32]) -> Result<Map, NoCert>
+pub fn row_map(alloc: Global, graph: &Graph, formulas: &[u32]) -> Result<Map, NoCert>
     ensures { IfOk result (λ m. IsMapOf graph.now m) }
 {
     let Ok(map) = map_of(alloc, graph, &unproved(alloc, formulas)?) else {
@@ -89,7 +89,7 @@ pub(crate) fn row_map(alloc: Global, graph: &Graph, formulas: &[u32]) -> Result<
 }
 
 /// The certificate of a map and its proof.
-pub(crate) fn cert_of(alloc: Global, map: &Map, proof: Proved) -> Result<Cert, NoCert> {
+pub fn cert_of(alloc: Global, map: &Map, proof: Proved) -> Result<Cert, NoCert> {
     match proof {
         Proved::Logs(logs) => Ok(certificate(alloc, [0; 32], Model::Ilp32, map, logs)?),
         _ => Err(NoCert::Refused),
@@ -97,7 +97,7 @@ pub(crate) fn cert_of(alloc: Global, map: &Map, proof: Proved) -> Result<Cert, N
 }
 
 /// The certificate of the graph.
-pub(crate) fn proved(alloc: Global, graph: &Graph) -> Result<Cert, NoCert> {
+pub fn proved(alloc: Global, graph: &Graph) -> Result<Cert, NoCert> {
     let map = row_map(alloc, graph, &[0, 0, 0, 1])?;
     match prove(alloc, graph, &map, 1_000) {
         Ok(proof) => cert_of(alloc, &map, proof),
@@ -106,7 +106,7 @@ pub(crate) fn proved(alloc: Global, graph: &Graph) -> Result<Cert, NoCert> {
 }
 
 /// The certificate with empty logs from this obligation on.
-pub(crate) fn without_logs(alloc: Global, cert: Cert, from: usize) -> Result<Cert, NoCert> {
+pub fn without_logs(alloc: Global, cert: Cert, from: usize) -> Result<Cert, NoCert> {
     let count = cert.logs.len();
     let mut logs = cert.logs;
     logs.truncate(from);

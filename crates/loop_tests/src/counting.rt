@@ -4,8 +4,6 @@
 ghost use Rattle.std.specs.Prelude.{◌≤◌, IfOk};
 ghost use Rattle.c_graph.specs.Runs.{IsMapOf};
 
-use crate::certs::{NoCert, cert_of, without_logs};
-use crate::holding::HoldGate;
 use c_graph::{Graph, Map};
 use cert_check::CheckFail;
 use cert_text::{Cert, write_cert};
@@ -19,6 +17,7 @@ use source_graphs::source_blocks;
 use std::alloc::Global;
 use std::test::*;
 use std::thread::Threads;
+use worker_trials::{HoldGate, NoCert, cert_of, without_logs};
 
 // The source as producers of tasks write it, with an assertion behind the loop.
 const COUNT: &str = "# 1 \"count.c\"

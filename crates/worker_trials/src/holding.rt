@@ -8,7 +8,7 @@ const TURNS: u32 = 500_000_000;
 
 /// Holds worker 0 until worker 1 has entered, and notes whether it has.
 #[derive(Drop)]
-pub(crate) struct HoldGate {
+pub struct HoldGate {
     entered: AtomicU64,
     seen: AtomicU64,
 }
@@ -30,7 +30,7 @@ impl Gate for HoldGate {
 
 impl HoldGate {
     /// Nobody has entered.
-    pub(crate) fn new() -> HoldGate {
+    pub fn new() -> HoldGate {
         HoldGate {
             entered: AtomicU64::new(0),
             seen: AtomicU64::new(0),
@@ -38,7 +38,7 @@ impl HoldGate {
     }
 
     /// Whether worker 1 entered while worker 0 was held.
-    pub(crate) fn has_seen(&self) -> bool {
+    pub fn has_seen(&self) -> bool {
         self.seen.load(Ordering::SeqCst) == 1
     }
 }
