@@ -1,3 +1,4 @@
+mod Drawn
 mod Endings
 mod Faults
 pub mod Induction

@@ -120,7 +120,7 @@ in_functions P env (items_and is (tSkipped x at r b)) h = in_functions P env is 
 in_functions P env (items_and is (tDeclaration d)) h = in_functions P env is h
 in_functions P env (items_and is (tEmpty at)) h = in_functions P env is h
 
-all_functions : (fs : List Function) → InFunctions (λ at. Unit {0}) fs
+pub all_functions : (fs : List Function) → InFunctions (λ at. Unit {0}) fs
 all_functions [] = tt
 all_functions (f ∷ fs) = (in_statements (λ at. Unit {0}) (λ at. tt) f.body, all_functions fs)
 
@@ -145,7 +145,7 @@ module _ (R : (A : Type 0) → Run A → Run A → Type 0) (P : ℕ → Type 0) 
   calls_kept (suc n) (suc n') le f at vs =
       then_next R P k (Option ℤ) _ _ _ _ (k.turns at) (body_kept _ _ n n' (omega arith) (calls_kept n n' (omega arith)) (slice_get functions f) (in_found P functions f placed) vs)
 
-  main_kept : (n n' : ℕ) → n ≤ n' → (main : Option ℕ) → R (Option ℤ) (run_main env model compute inputs functions n main) (run_main env model compute inputs' functions n' main)
+  pub main_kept : (n n' : ℕ) → n ≤ n' → (main : Option ℕ) → R (Option ℤ) (run_main env model compute inputs functions n main) (run_main env model compute inputs' functions n' main)
   main_kept n n' le None = k.gives (Option ℤ) None
   main_kept n n' le (Some main) = body_kept _ _ n n' le (calls_kept n n' le) (slice_get functions main) (in_found P functions main placed) []
 
@@ -191,7 +191,7 @@ not_beyond t (Stop NoInput) g' kind at x h = cc
 not_beyond t (Stop (BadInput n)) g' kind at x h = cc
 not_beyond t (Stop (Spent b s)) g' kind at x h = cc
 
-reflexive : (n : ℕ) → n ≤ n
+pub reflexive : (n : ℕ) → n ≤ n
 reflexive n = omega arith
 
 pub drawn_inputs : DrawnInputs

@@ -1,5 +1,5 @@
 -- What holds of all runs of all sources, under any arithmetic.
-use Rattle.std.specs.Prelude.{◌≡◌, ◌⊎◌, ℕ, ◌<◌, ◌≤◌, Bool, true, List, slice_get, ℤ}
+use Rattle.std.specs.Prelude.{◌≡◌, ◌⊎◌, ℕ, ◌<◌, ◌≤◌, Bool, true, List, length, slice_get, ℤ}
 use Rattle.lv_base.specs.declared.kind.Model.{Model}
 use Rattle.lv_base.specs.declared.fault.ErrorKind.{ErrorKind}
 use Rattle.c_tree.specs.Tree.{Items}
@@ -23,6 +23,11 @@ DrawnInputs = (compute : Compute) → (items : Items) → (model : Model) → (t
     run_with compute turns items model inputs ≡ Error kind at taken →
     ((i : ℕ) → i < taken → slice_get others i ≡ slice_get inputs i) →
     run_with compute turns items model others ≡ Error kind at taken
+
+-- A run draws no more inputs than there are.
+abbrev pub DrawnAreThere : Type 0
+DrawnAreThere = (compute : Compute) → (items : Items) → (model : Model) → (turns : ℕ) → (inputs : List ℤ) → (kind : ErrorKind) → (at taken : ℕ) →
+    run_with compute turns items model inputs ≡ Error kind at taken → taken ≤ length inputs
 
 -- An error stands at a token of the source that calls, indexes or computes: a test that each of these passes
 -- is passed there.

@@ -4,4 +4,4 @@
 
 mod laws;
 
-pub use laws::{drawn_inputs, error_places, more_turns};
+pub use laws::{drawn_are_there, drawn_inputs, error_places, more_turns};
