@@ -1,2 +1,3 @@
 pub mod Keywords
 pub mod Marks
+pub mod Standard

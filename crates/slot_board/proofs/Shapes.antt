@@ -43,7 +43,7 @@ pub fill_over_goes : (model : Model) (compute : Compute) (inputs : List ℤ) (ki
     seen (draw_all inputs model kind count st) ≡ Ends e → Over e ≡ goes (suc place) slots (filled model compute inputs object kind count st)
 fill_over_goes model compute inputs kind place object count slots st e h = over_goes (suc place) slots (draw_all inputs model kind count st) (λ vs. store_all object vs) e h
 
-pub one_value : (row : List ℤ) (v : ℤ) → length row ≡ 1 → set row 0 v ≡ v ∷ []
+pub one_value : (cells : List ℤ) (v : ℤ) → length cells ≡ 1 → set cells 0 v ≡ v ∷ []
 one_value [] v h = absurd (omega arith)
 one_value (x ∷ []) v h = refl
 one_value (x ∷ y ∷ ys) v h = absurd (omega arith)

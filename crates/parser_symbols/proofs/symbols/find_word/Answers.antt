@@ -1,4 +1,4 @@
-use Rattle.std.proofs.Common.{◌≡◌, ◌∙◌}
+use Rattle.std.proofs.Common.{◌∙◌}
 use Rattle.parser_symbols.proofs.WordLemmas.{find_pairs}
 use Rattle.parser_symbols.proofs.symbols.find_word.Goals as goal
 

@@ -1,4 +1,4 @@
-use Rattle.std.proofs.Common.{◌≡◌, ◌∙◌, sym}
+use Rattle.std.proofs.Common.{◌∙◌, sym}
 use Rattle.c_tree.specs.Symbols.{keyword_of}
 use Rattle.c_tree.specs.declared.words.TheConstants.{KEYWORDS}
 use Rattle.parser_symbols.proofs.WordLemmas.{find_pairs}
