@@ -40,9 +40,11 @@ pub fn cut(
     parts: u32,
 ) -> Result<Vec<Stretch>, AllocError>
     requires { first ≤ length bytes.now }
-    ensures { IfOk result (λ v. All (IsWithin bytes.now) v.items) }
+    ensures within { IfOk result (λ v. All (IsWithin bytes.now) v.items) }
+    ensures few { 1 ≤ parts → IfOk result (λ v. length v.items ≤ parts) }
 {
     let size = (bytes.len() - first) / parts.max(1) as usize;
+    let before_last = parts.saturating_sub(1) as usize;
     let mut stretches = Vec::new(alloc);
     let mut open = Stretch {
         from: first,
@@ -52,7 +54,7 @@ pub fn cut(
     let mut left = all;
     let mut at = first;
     while let Some(log) = next_log(bytes, at) {
-        if log - open.from > size {
+        if log - open.from > size && stretches.len() < before_last {
             stretches.push(Stretch { to: log, ..open })?;
             open = Stretch {
                 from: log,
