@@ -1,4 +1,4 @@
-ghost use Rattle.std.specs.Prelude.{◌≡◌, ◌++◌, ◌<◌, length, map, IfOk, IfErr, List};
+ghost use Rattle.std.specs.Prelude.{◌≡◌, ◌++◌, ◌<◌, ◌≤◌, length, map, IfOk, IfErr, OnErr, List};
 ghost use Rattle.c_typed.specs.Parts.{tree_of};
 ghost use Rattle.c_typed.specs.Rules as r;
 ghost use Rattle.c_typed.specs.View as v;
@@ -48,7 +48,8 @@ fn nothing(alloc: Global) -> Gathered
 
 // A number of a function. No memory holds as many as make it too great.
 fn number_of(number: usize) -> Result<u32, Memory>
-    ensures { IfOk result (λ n. n ≡ number) }
+    ensures same { IfOk result (λ n. n ≡ number) }
+    ensures cause { OnErr result (4294967296 ≤ number) }
 {
     if number > u32::MAX as usize {
         return Err(Memory);

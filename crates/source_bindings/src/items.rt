@@ -1,4 +1,4 @@
-ghost use Rattle.std.specs.Prelude.{◌≡◌, ◌<◌, ◌≤◌, ◌^◌, IfOk, None, Some, true};
+ghost use Rattle.std.specs.Prelude.{◌≡◌, ◌<◌, ◌≤◌, ◌^◌, IfOk, OnErr, None, Some, true};
 ghost use Rattle.c_tree.specs.Tree as t;
 ghost use Rattle.c_tree.specs.View as v;
 ghost use Rattle.c_meaning.specs.Program as program;
@@ -95,7 +95,8 @@ fn bind_body<'a>(
 
 // A number that a function can have. No memory holds as many functions as make it too great.
 fn function_number(number: usize) -> Result<u32, Memory>
-    ensures { IfOk result (λ n. n ≡ number) }
+    ensures same { IfOk result (λ n. n ≡ number) }
+    ensures cause { OnErr result (4294967296 ≤ number) }
 {
     if number > u32::MAX as usize {
         return Err(Memory);

@@ -1,4 +1,4 @@
-ghost use Rattle.std.specs.Prelude.{◌≡◌, map, IfOk, Some};
+ghost use Rattle.std.specs.Prelude.{◌≡◌, ◌≤◌, map, IfOk, OnErr, Some};
 ghost use Rattle.std.specs.Option.{option_copied, option_map};
 ghost use Rattle.c_tree.specs.View as v;
 ghost use Rattle.c_meaning.specs.Bindings as b;
@@ -18,7 +18,8 @@ use typed_values::number_of;
 
 // A length that an object can have. No memory holds as many elements as make it too great.
 fn stored_length(length: u64) -> Result<u32, Memory>
-    ensures { IfOk result (λ n. n ≡ length) }
+    ensures same { IfOk result (λ n. n ≡ length) }
+    ensures cause { OnErr result (4294967296 ≤ length) }
 {
     if length > u32::MAX as u64 {
         return Err(Memory);

@@ -1,4 +1,4 @@
-ghost use Rattle.std.specs.Prelude.{◌≡◌, IfOk, None, Some, pos};
+ghost use Rattle.std.specs.Prelude.{◌≡◌, ◌≤◌, IfOk, OnErr, None, Some, pos};
 ghost use Rattle.c_meaning.specs.Kinds as k;
 ghost use Rattle.c_typed.specs.Tree as t;
 ghost use Rattle.c_typed.specs.View as tv;
@@ -13,7 +13,8 @@ use type_kinds::{ExprType, size_kind, size_of};
 
 /// A number of an object or of a function. No memory holds as many as make it too great.
 pub fn number_of(number: usize) -> Result<u32, Memory>
-    ensures { IfOk result (λ n. n ≡ number) }
+    ensures same { IfOk result (λ n. n ≡ number) }
+    ensures cause { OnErr result (4294967296 ≤ number) }
 {
     if number > u32::MAX as usize {
         return Err(Memory);
