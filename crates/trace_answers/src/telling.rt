@@ -1,4 +1,4 @@
-use crate::answer::{Answer, refused, told};
+use crate::answer::{Answer, told};
 use c_parser::parse;
 use c_rules::Examined;
 use c_tokens::tokens_of;
@@ -12,18 +12,25 @@ use stored_text::{StoredFail, read_run};
 use trace_lines::{Scene, ending_lines, event_lines, paired};
 use verdicts::Verdict;
 
-/// A data model, most turns, and how many events are told.
+/// Most turns, and how many events are told.
 #[derive(Clone, Copy)]
 pub struct Terms {
-    pub model: Model,
     pub turns: u64,
     pub events: usize,
+}
+
+/// A source with its tree and its typed tree.
+#[derive(Clone, Copy)]
+pub struct Program<'a> {
+    pub source: &'a [u8],
+    pub unit: &'a Unit,
+    pub examined: &'a Examined,
 }
 
 /// The source's tree, and its typed tree where it breaks no rule and passes no limit.
 ///
 /// Fails with the first rule that is broken or limit that is passed, or with `Memory`.
-fn read(alloc: Global, source: &[u8], model: Model) -> Result<(Unit, Examined), SourceFail> {
+pub fn read(alloc: Global, source: &[u8], model: Model) -> Result<(Unit, Examined), SourceFail> {
     sources_read();
     let tokens = tokens_of(alloc, source)?;
     let unit = parse(alloc, &tokens)?;
@@ -34,18 +41,16 @@ fn read(alloc: Global, source: &[u8], model: Model) -> Result<(Unit, Examined), 
 // Puts the lines of a run behind a text.
 fn tell(
     alloc: Global,
-    source: &[u8],
-    unit: &Unit,
-    examined: &Examined,
+    program: Program<'_>,
     trace: &Trace,
     values: &[i128],
     text: &mut String,
 ) -> Result<(), Memory> {
-    let typed = examined.typed();
-    let sites = paired(alloc, unit, typed.functions(), &trace.code)?;
+    let typed = program.examined.typed();
+    let sites = paired(alloc, program.unit, typed.functions(), &trace.code)?;
     let scene = Scene {
         alloc,
-        source,
+        source: program.source,
         objects: typed.objects(),
         functions: typed.functions(),
         code: &trace.code,
@@ -58,34 +63,28 @@ fn tell(
 // The answer to a run on these values, behind the lines of the run.
 fn run_told(
     alloc: Global,
-    source: &[u8],
-    unit: &Unit,
-    examined: &Examined,
+    program: Program<'_>,
     values: Vec<i128>,
     terms: Terms,
     text: &mut String,
 ) -> Result<Answer, Memory> {
-    let trace = traced(alloc, examined, &values, terms.turns, terms.events)?;
-    tell(alloc, source, unit, examined, &trace, &values, text)?;
-    Ok(told(alloc, source, terms.turns, values, trace.ending))
+    let trace = traced(alloc, program.examined, &values, terms.turns, terms.events)?;
+    tell(alloc, program, &trace, &values, text)?;
+    Ok(told(alloc, program.source, terms.turns, values, trace.ending))
 }
 
-/// The answer to a source and a run file, behind the lines of the run.
+/// The answer to a run file, behind the lines of the run.
 ///
 /// Fails with `Memory`.
 pub fn traced_text(
     alloc: Global,
-    source: &[u8],
+    program: Program<'_>,
     run: &[u8],
     terms: Terms,
     text: &mut String,
 ) -> Result<Answer, Memory> {
-    let (unit, examined) = match read(alloc, source, terms.model) {
-        Ok(trees) => trees,
-        Err(fail) => return Ok(refused(source, fail)),
-    };
     match read_run(alloc, run) {
-        Ok(values) => run_told(alloc, source, &unit, &examined, values, terms, text),
+        Ok(values) => run_told(alloc, program, values, terms, text),
         Err(StoredFail::Format(at)) => Ok(Answer::BadRun(at)),
         Err(StoredFail::Over(number, count)) => Ok(Answer::Told(Verdict::Over(number, count))),
         Err(StoredFail::Memory) => Err(Memory),

@@ -1,5 +1,5 @@
-use crate::answer::{Answer, line, status};
-use crate::telling::{Terms, traced_text};
+use crate::answer::{Answer, line, refused, status};
+use crate::telling::{Program, Terms, read, traced_text};
 use crate::words::{Wanted, request};
 use lv_base::Memory;
 use lv_outside::{FileFail, Folder, Got, Sink};
@@ -25,13 +25,13 @@ fn loaded<F: Folder>(
 ) -> Result<Vec<u8>, Answer> {
     match folder.read(alloc, name, most) {
         Ok(Got::Bytes(bytes)) => Ok(bytes),
-        Ok(Got::Longer) => Err(Answer::Told(Verdict::Over(limit, most as u64))),
+        Ok(Got::Longer) => Err(Answer::Told(Verdict::Over(limit, most as u64 + 1))),
         Err(FileFail::Failed) => Err(Answer::Told(Verdict::ReadFault)),
         Err(FileFail::Memory) => Err(Answer::Told(Verdict::NoMemory)),
     }
 }
 
-// The answer to what the words want, behind the lines of the run.
+// The answer to what the words want, behind the lines of the run. The run file is read only where nothing refuses the source.
 fn decide<F: Folder>(
     alloc: Global,
     wanted: Wanted<'_>,
@@ -42,16 +42,24 @@ fn decide<F: Folder>(
         Ok(source) => source,
         Err(answer) => return Ok(answer),
     };
+    let (unit, examined) = match read(alloc, &source, wanted.model) {
+        Ok(trees) => trees,
+        Err(fail) => return Ok(refused(&source, fail)),
+    };
     let run = match loaded(alloc, folder, wanted.run, MOST_BYTES, 9) {
         Ok(run) => run,
         Err(answer) => return Ok(answer),
     };
+    let program = Program {
+        source: &source,
+        unit: &unit,
+        examined: &examined,
+    };
     let terms = Terms {
-        model: wanted.model,
         turns: wanted.turns,
         events: usize::try_from(wanted.events).unwrap_or(1),
     };
-    traced_text(alloc, &source, &run, terms, text)
+    traced_text(alloc, program, &run, terms, text)
 }
 
 // The text to the words, with the status that goes with it.

@@ -2,11 +2,11 @@
 //! with status 1 where there is such a row, and with 2 where a table is not tried to its end.
 //!
 //! The columns of a row, which have tabs between them, are the words behind the program's name, with a
-//! blank between; the status; the source, in the file `p.c`; the run file, `run`; and the text.
+//! blank between; the status; the source, in the file `p.c`; the run file, `run`; and the text. No other file can be read.
 #![tactic(auto)]
 
 use lv_base::{Memory, Text};
-use lv_outside::{NoFaultFolder, NoFaultSink, names_differ};
+use lv_outside::{MemFolder, NoFaultSink, names_differ};
 use std::alloc::Global;
 use std::process::ExitCode;
 use std::rt::Files;
@@ -34,7 +34,7 @@ fn told(alloc: Global, words: &str, files: Vec<(Text, Vec<u8>)>) -> Result<Strin
     if !names_differ(&files) {
         return Err(Flaw::Form);
     }
-    let mut folder = NoFaultFolder::new(files);
+    let mut folder = MemFolder::new(files, Vec::new(alloc));
     let mut sink = NoFaultSink::new(alloc, ROOM)?;
     let mut listed = Vec::new(alloc);
     for word in words.split(" ") {
