@@ -13,5 +13,5 @@ returns c =
     (jumps c.deref-2.result.now) (jumps c.deref-3.result.now) (jumps c.deref-4.result.now) (found_of c.in_ok-jumps.jumps) (found_of c.both.result) (found_of c.both-own.result) (found_of c.in_ok-checked.checked.found) (found_of c.both-gathered.result)
     (calls c.in_ok-checked.checked.calls.items) (gathering_of c.args.gathered.now) c.add_labels.new.all.items (all_calls c.push.new.self.items)
     (ap steps_of c.deref.ensures.value) c.in_ok-walk.ensures (ap jumps c.deref-2.ensures.value) (ap jumps c.deref-3.ensures.value) (ap jumps c.deref-4.ensures.value)
-    c.in_ok-jumps.ensures c.both.ensures c.in_ok-checked.ensures c.both-own.ensures c.in_ok-function.ensures c.in_ok-add_labels.ensures
+    c.in_ok-jumps.ensures c.both.ensures c.in_ok-checked.ensures c.both-own.ensures c.in_ok-function.ensures.same c.in_ok-add_labels.ensures
     (ap all_calls c.in_ok-push.ensures.items ∙ all_calls_behind c.args.gathered.now.calls.items c.in_ok-checked.checked.calls) c.both-gathered.ensures
