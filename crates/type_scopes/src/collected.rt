@@ -103,6 +103,13 @@ fn is_hidden(span: Span, at: u32, best: Option<&Entry<'_>>) -> bool
     (at as u64) < span.from || (span.to < at as u64 || no_deeper(span.high, best))
 }
 
+// Whether none of those in the span is in the scope: each ends or begins before it does.
+fn is_apart(span: Span, scope: Scope) -> bool
+    ensures { result ≡ asked.is_apart span (seen.scope_of scope) }
+{
+    span.to < last_of(scope) as u64 || span.high < begin_of(scope)
+}
+
 fn is_elsewhere(span: Span, at: u32) -> bool
     ensures { result ≡ asked.is_elsewhere span at }
 {
@@ -321,11 +328,10 @@ impl<'a> Declarations<'a> {
             return 0;
         }
         let this = &self.rows[place];
-        let last = last_of(this.entry.scope) as u64;
         let mut left = this.name.older;
         'bucket: while left > 0 {
             let row = &self.rows[left - 1];
-            if row.name.span.to < last {
+            if is_apart(row.name.span, this.entry.scope) {
                 left = row.name.jump;
                 continue;
             }
