@@ -5,11 +5,11 @@ use Rattle.lv_base.specs.declared.kind.Kind.{Kind}
 use Rattle.c_meaning.specs.Rules.{is_same_kind}
 use Rattle.declaration_rules.specs.Twice.{same_kinds}
 
-and_assoc : (a b c : Bool) → (a && (b && c)) ≡ ((a && b) && c)
+pub and_assoc : (a b c : Bool) → (a && (b && c)) ≡ ((a && b) && c)
 and_assoc true b c = refl
 and_assoc false b c = refl
 
-and_true : (a : Bool) → (a && true) ≡ a
+pub and_true : (a : Bool) → (a && true) ≡ a
 and_true true = refl
 and_true false = refl
 

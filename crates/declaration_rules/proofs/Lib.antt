@@ -1,5 +1,6 @@
 mod KindRows
 mod Rows
 mod Twins
+mod Pasts
 mod Agreeing
 mod Telling

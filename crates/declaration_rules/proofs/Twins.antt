@@ -1,18 +1,19 @@
--- What clashes with a declaration has its name and its scope.
-use Rattle.std.proofs.Common.{◌≡◌, ℕ, zero, suc, ◌+◌, ◌<◌, ◌≤◌, Bool, true, false, ◌||◌, ◌&&◌, not, cond, if◌then◌else◌, nat_eq, nat_lt, List, [], ◌∷◌, ◌++◌, length, take, map, slice_get, bytes_eq, Option, None, Some, refl, ap, ◌∙◌, sym, subst, arith, inl, inr, ◌⊎◌, append-nil}
+-- What a declaration meets has its name and its scope.
+use Rattle.std.proofs.Common.{◌≡◌, ℕ, zero, suc, ◌+◌, ◌<◌, ◌≤◌, Bool, true, false, ◌||◌, ◌&&◌, not, cond, nat_eq, nat_lt, List, [], ◌∷◌, ◌++◌, length, take, map, slice_get, bytes_eq, Option, None, Some, refl, ap, ◌∙◌, sym, arith, inl, inr, ◌⊎◌}
 use Rattle.std.specs.List.{list_any}
 use Rattle.std.specs.Option.{option_map}
 use Rattle.std.proofs.lemmas.Bool.{and_parts, and_cases, and_left, and_right, eqb-true, both_ways}
 use Rattle.std.proofs.lemmas.List.{length-map}
-use Rattle.std.proofs.lemmas.Option.{slice_get_within, slice_get-map, slice_get_past}
+use Rattle.std.proofs.lemmas.Option.{slice_get_within, slice_get-map}
 use Rattle.std.proofs.lemmas.Slice.Eq.{bytes_eq-Decides}
 use Rattle.lv_base.specs.declared.kind.Model.{Model}
-use Rattle.c_meaning.specs.Scope.{Scope, file, block, Declared, is_same, is_file}
+use Rattle.c_meaning.specs.Scope.{Scope, file, block, Declared, is_same}
 use Rattle.c_meaning.specs.Bindings as b
 use Rattle.type_scopes.specs.declared.entries.Entry.{Entry}
 use Rattle.type_scopes.specs.Seen.{entry_of, declared_of}
 use Rattle.type_scopes.specs.Walking.{is_twin, holds_at, last_where}
 use Rattle.declaration_rules.specs.Twice as d
+use Rattle.declaration_rules.specs.Earlier.{is_met}
 use Rattle.declaration_rules.proofs.Rows.{any_push, twice_push}
 
 -- ---- Lists
@@ -29,7 +30,7 @@ taken [] e k h = absurd (none_before k (slice_get_within [] k e h))
 taken (x ∷ es) e zero h = ap first_entry h
 taken (x ∷ es) e (suc k) h = ap (λ ys. x ∷ ys) (taken es e k h)
 
-some_at : (es : List b.Entry) (k : ℕ) → k < length es → (e : b.Entry) × (slice_get es k ≡ Some e)
+pub some_at : (es : List b.Entry) (k : ℕ) → k < length es → (e : b.Entry) × (slice_get es k ≡ Some e)
 some_at [] k h = absurd (none_before k h)
 some_at (e ∷ es) zero h = (e, refl)
 some_at (e ∷ es) (suc k) h = some_at es k (omega (arith, h))
@@ -46,7 +47,7 @@ listed (x ∷ xs) (suc k) e h = listed xs k e h
 
 -- ---- Scopes and names
 
-same_scope : (x y : Scope) → is_same x y ≡ true → x ≡ y
+pub same_scope : (x y : Scope) → is_same x y ≡ true → x ≡ y
 same_scope file file h = refl
 same_scope (block a m) (block c n) h =
     let p = and_parts (nat_eq a c) (nat_eq m n) h in
@@ -64,117 +65,147 @@ module _ (x : Declared) (e : b.Entry) (h : is_twin x e ≡ true) where
       ap (λ s. last_where (λ y. is_same s y.declared.scope && bytes_eq e.declared.name y.declared.name) es k) (sym (same_scope x.scope e.declared.scope parts.0))
       ∙ ap (λ n. last_where (λ y. is_same x.scope y.declared.scope && bytes_eq n y.declared.name) es k) (sym ((bytes_eq-Decides x.name e.declared.name).0 parts.1))
 
-module _ (env : b.Env) (model : Model) where
-  module _ (x : Declared) where
-    -- what is no twin does not clash
-    no_clash : (e : b.Entry) → is_twin x e ≡ false → d.clashes env model x e ≡ false
-    no_clash e h = and_left (d.meets x e.declared) (not (is_file x.scope && d.agrees env model e.declared.what x.what)) (and_right (d.same_space x.what e.declared.what) _ (by (and_cases (is_same x.scope e.declared.scope) (bytes_eq x.name e.declared.name) h)))
+-- what is no twin is not met
+no_meeting : (x : Declared) (e : b.Entry) → is_twin x e ≡ false → is_met x e ≡ false
+no_meeting x e h = and_right (d.same_space x.what e.declared.what) _ (by (and_cases (is_same x.scope e.declared.scope) (bytes_eq x.name e.declared.name) h))
+  where
+    by : (is_same x.scope e.declared.scope ≡ false) ⊎ (bytes_eq x.name e.declared.name ≡ false) → (is_same x.scope e.declared.scope && (bytes_eq x.name e.declared.name && nat_lt 0 (length x.name))) ≡ false
+    by (inl s) = and_left (is_same x.scope e.declared.scope) _ s
+    by (inr n) = and_right (is_same x.scope e.declared.scope) _ (and_left (bytes_eq x.name e.declared.name) (nat_lt 0 (length x.name)) n)
+
+-- a declaration without a name meets none
+pub nameless : (x : Declared) (es : List b.Entry) (k : ℕ) → length x.name ≡ 0 → 0 ≡ last_where (is_met x) es k
+nameless x es zero h = refl
+nameless x es (suc k) h = nameless x es k h ∙ sym (ap (λ u. cond u (suc k) (last_where (is_met x) es k)) (at (slice_get es k)))
+  where
+    short : nat_lt 0 (length x.name) ≡ false
+    short = ap (λ n. nat_lt 0 n) h
+
+    at : (o : Option b.Entry) → holds_at (is_met x) o ≡ false
+    at None = refl
+    at (Some e) = and_right (d.same_space x.what e.declared.what) _ (and_right (is_same x.scope e.declared.scope) _ (and_right (bytes_eq x.name e.declared.name) (nat_lt 0 (length x.name)) short))
+
+-- ---- The last that passes a test
+
+pub any_taken : (q : b.Entry → Bool) (es : List b.Entry) (k : ℕ) (e : b.Entry) → slice_get es k ≡ Some e → list_any q (take (suc k) es) ≡ (q e || list_any q (take k es))
+any_taken q es k e h = ap (list_any q) (taken es e k h) ∙ any_push q (take k es) e
+
+last_here : (p : b.Entry → Bool) (es : List b.Entry) (k : ℕ) (e : b.Entry) → slice_get es k ≡ Some e → last_where p es (suc k) ≡ cond (p e) (suc k) (last_where p es k)
+last_here p es k e h = ap (λ o. cond (holds_at p o) (suc k) (last_where p es k)) h
+
+module _ (p : b.Entry → Bool) (es : List b.Entry) where
+  pub last_is : (count j : ℕ) → count ≤ length es → last_where p es count ≡ suc j → (j < count) × (e : b.Entry) × (slice_get es j ≡ Some e) × (p e ≡ true)
+  last_is zero j l h = absurd (never h)
+    where
+      never : 0 ≡ suc j → ⊥
+      never e = omega (arith, e)
+  last_is (suc k) j l h =
+      let r : (e : b.Entry) × (slice_get es k ≡ Some e) = some_at es k (omega (arith, l)) in
+      by r.0 r.1 (p r.0) refl (sym (last_here p es k r.0 r.1) ∙ h) (last_is k j (omega (arith, l)))
+    where
+      by : (e : b.Entry) → slice_get es k ≡ Some e → (t : Bool) → p e ≡ t → cond t (suc k) (last_where p es k) ≡ suc j →
+          (last_where p es k ≡ suc j → (j < k) × (e : b.Entry) × (slice_get es j ≡ Some e) × (p e ≡ true)) →
+          (j < suc k) × (e : b.Entry) × (slice_get es j ≡ Some e) × (p e ≡ true)
+      by e at true is same less = let q : k ≡ j = omega (arith, same) in (omega (arith, q), e, ap (slice_get es) (sym q) ∙ at, is)
+      by e at false is same less = let r = less same in let q = r.0 in (omega (arith, q), r.1, r.2, r.3)
+
+  last_few : (count : ℕ) → count ≤ length es → last_where p es count ≤ count
+  last_few count l = by (last_where p es count) refl
+    where
+      by : (n : ℕ) → last_where p es count ≡ n → n ≤ count
+      by zero e = omega arith
+      by (suc j) e = let r = last_is count j l e in let q = r.0 in omega (arith, q)
+
+  -- what passes another test passes this one
+  module _ (q : b.Entry → Bool) (only : (e : b.Entry) → p e ≡ false → q e ≡ false) where
+    pub last_any : (count : ℕ) → count ≤ length es → list_any q (take (last_where p es count) es) ≡ list_any q (take count es)
+    last_any zero l = refl
+    last_any (suc k) l =
+        let r : (e : b.Entry) × (slice_get es k ≡ Some e) = some_at es k (omega (arith, l)) in
+        ap (λ m. list_any q (take m es)) (last_here p es k r.0 r.1) ∙ by r.0 r.1 (p r.0) refl (last_any k (omega (arith, l)))
       where
-        by : (is_same x.scope e.declared.scope ≡ false) ⊎ (bytes_eq x.name e.declared.name ≡ false) → (is_same x.scope e.declared.scope && (bytes_eq x.name e.declared.name && nat_lt 0 (length x.name))) ≡ false
-        by (inl s) = and_left (is_same x.scope e.declared.scope) _ s
-        by (inr n) = and_right (is_same x.scope e.declared.scope) _ (and_left (bytes_eq x.name e.declared.name) (nat_lt 0 (length x.name)) n)
+        by : (e : b.Entry) → slice_get es k ≡ Some e → (t : Bool) → p e ≡ t → list_any q (take (last_where p es k) es) ≡ list_any q (take k es) →
+            list_any q (take (cond t (suc k) (last_where p es k)) es) ≡ list_any q (take (suc k) es)
+        by e h true is less = refl
+        by e h false is less = less ∙ sym (any_taken q es k e h ∙ ap (λ (u : Bool). u || list_any q (take k es)) (only e is))
 
-    module _ (es : List b.Entry) where
-      any_taken : (k : ℕ) (e : b.Entry) → slice_get es k ≡ Some e → list_any (d.clashes env model x) (take (suc k) es) ≡ (d.clashes env model x e || list_any (d.clashes env model x) (take k es))
-      any_taken k e h = ap (list_any (d.clashes env model x)) (taken es e k h) ∙ any_push (d.clashes env model x) (take k es) e
+    last_last : (count : ℕ) → count ≤ length es → last_where q es (last_where p es count) ≡ last_where q es count
+    last_last zero l = refl
+    last_last (suc k) l =
+        let r : (e : b.Entry) × (slice_get es k ≡ Some e) = some_at es k (omega (arith, l)) in
+        ap (last_where q es) (last_here p es k r.0 r.1) ∙ by r.0 r.1 (p r.0) refl (last_last k (omega (arith, l)))
+      where
+        by : (e : b.Entry) → slice_get es k ≡ Some e → (t : Bool) → p e ≡ t → last_where q es (last_where p es k) ≡ last_where q es k →
+            last_where q es (cond t (suc k) (last_where p es k)) ≡ last_where q es (suc k)
+        by e h true is less = refl
+        by e h false is less = less ∙ sym (last_here q es k e h ∙ ap (λ (u : Bool). cond u (suc k) (last_where q es k)) (only e is))
 
-      last_here : (k : ℕ) (e : b.Entry) → slice_get es k ≡ Some e → last_where (is_twin x) es (suc k) ≡ cond (is_twin x e) (suc k) (last_where (is_twin x) es k)
-      last_here k e h = ap (λ o. cond (holds_at (is_twin x) o) (suc k) (last_where (is_twin x) es k)) h
+-- ---- The way back over the twins
 
-      -- what clashes is among the twins
-      last_clash : (count : ℕ) → count ≤ length es → list_any (d.clashes env model x) (take (last_where (is_twin x) es count) es) ≡ list_any (d.clashes env model x) (take count es)
-      last_clash zero l = refl
-      last_clash (suc k) l =
-          let r : (e : b.Entry) × (slice_get es k ≡ Some e) = some_at es k (omega (arith, l)) in
-          ap (λ m. list_any (d.clashes env model x) (take m es)) (last_here k r.0 r.1) ∙ by r.0 r.1 (is_twin x r.0) refl (last_clash k (omega (arith, l)))
-        where
-          by : (e : b.Entry) → slice_get es k ≡ Some e → (t : Bool) → is_twin x e ≡ t → list_any (d.clashes env model x) (take (last_where (is_twin x) es k) es) ≡ list_any (d.clashes env model x) (take k es) →
-              list_any (d.clashes env model x) (take (cond t (suc k) (last_where (is_twin x) es k)) es) ≡ list_any (d.clashes env model x) (take (suc k) es)
-          by e h true is less = refl
-          by e h false is less = less ∙ sym (any_taken k e h ∙ ap (λ (u : Bool). u || list_any (d.clashes env model x) (take k es)) (no_clash e is))
+module _ (x : Declared) where
+  module _ (es : List b.Entry) where
+    pub record IsPassing (place left : ℕ) : Type 0 where
+      pub few : left ≤ place
+      pub within : place ≤ length es
+      pub twin : (j : ℕ) → left ≡ suc j → (e : b.Entry) × (slice_get es j ≡ Some e) × (is_twin x e ≡ true)
+      pub rest : last_where (is_met x) es left ≡ last_where (is_met x) es place
 
-      last_is : (count j : ℕ) → count ≤ length es → last_where (is_twin x) es count ≡ suc j → (j < count) × (e : b.Entry) × (slice_get es j ≡ Some e) × (is_twin x e ≡ true)
-      last_is zero j l h = absurd (never h)
-        where
-          never : 0 ≡ suc j → ⊥
-          never e = omega (arith, e)
-      last_is (suc k) j l h =
-          let r : (e : b.Entry) × (slice_get es k ≡ Some e) = some_at es k (omega (arith, l)) in
-          by r.0 r.1 (is_twin x r.0) refl (sym (last_here k r.0 r.1) ∙ h) (last_is k j (omega (arith, l)))
-        where
-          by : (e : b.Entry) → slice_get es k ≡ Some e → (t : Bool) → is_twin x e ≡ t → cond t (suc k) (last_where (is_twin x) es k) ≡ suc j →
-              (last_where (is_twin x) es k ≡ suc j → (j < k) × (e : b.Entry) × (slice_get es j ≡ Some e) × (is_twin x e ≡ true)) →
-              (j < suc k) × (e : b.Entry) × (slice_get es j ≡ Some e) × (is_twin x e ≡ true)
-          by e at true is same less = let q : k ≡ j = omega (arith, same) in (omega (arith, q), e, ap (slice_get es) (sym q) ∙ at, is)
-          by e at false is same less = let r = less same in let q = r.0 in (omega (arith, q), r.1, r.2, r.3)
+    twin_of : (count left : ℕ) → count ≤ length es → left ≡ last_where (is_twin x) es count → (j : ℕ) → left ≡ suc j → (e : b.Entry) × (slice_get es j ≡ Some e) × (is_twin x e ≡ true)
+    twin_of count left l h j e = let r = last_is (is_twin x) es count j l (sym h ∙ e) in (r.1, r.2, r.3)
 
-      -- on the way back over the twins
-      pub record IsPassing (place left : ℕ) : Type 0 where
-        pub few : left ≤ place
-        pub within : place ≤ length es
-        pub twin : (j : ℕ) → left ≡ suc j → (e : b.Entry) × (slice_get es j ≡ Some e) × (is_twin x e ≡ true)
-        pub rest : list_any (d.clashes env model x) (take place es) ≡ list_any (d.clashes env model x) (take left es)
+    pub passing_starts : (place left : ℕ) → place ≤ length es → left ≡ last_where (is_twin x) es place → IsPassing place left
+    passing_starts place left l h = let few = last_few (is_twin x) es place l in record {
+      few = omega (arith, few, h);
+      within = l;
+      twin = twin_of place left l h;
+      rest = ap (last_where (is_met x) es) h ∙ last_last (is_twin x) es (is_met x) (no_meeting x) place l;
+    }
 
-      last_few : (count : ℕ) → count ≤ length es → last_where (is_twin x) es count ≤ count
-      last_few count l = by (last_where (is_twin x) es count) refl
-        where
-          by : (n : ℕ) → last_where (is_twin x) es count ≡ n → n ≤ count
-          by zero e = omega arith
-          by (suc j) e = let r = last_is count j l e in let q = r.0 in omega (arith, q)
+    -- not met here, and on to the next
+    passes_on : (place left k next : ℕ) (e : b.Entry) → left ≡ suc k → slice_get es k ≡ Some e → is_twin x e ≡ true → is_met x e ≡ false → next ≡ last_where (is_twin e.declared) es k → IsPassing place left → IsPassing place next
+    passes_on place left k next e h at is fails new way =
+        let there : next ≡ last_where (is_twin x) es k = new ∙ twins_same x e is es k in
+        let few = way.few in
+        let within = way.within in
+        let l : k ≤ length es = omega (arith, few, within, h) in
+        let less = last_few (is_twin x) es k l in record {
+          few = omega (arith, few, h, less, there);
+          within = within;
+          twin = twin_of k next l there;
+          rest =
+              ap (last_where (is_met x) es) there ∙ last_last (is_twin x) es (is_met x) (no_meeting x) k l
+              ∙ sym (last_here (is_met x) es k e at ∙ ap (λ (u : Bool). cond u (suc k) (last_where (is_met x) es k)) fails)
+              ∙ ap (last_where (is_met x) es) (sym h) ∙ way.rest;
+        }
 
-      twin_of : (count left : ℕ) → count ≤ length es → left ≡ last_where (is_twin x) es count → (j : ℕ) → left ≡ suc j → (e : b.Entry) × (slice_get es j ≡ Some e) × (is_twin x e ≡ true)
-      twin_of count left l h j e = let r = last_is count j l (sym h ∙ e) in (r.1, r.2, r.3)
-
-      pub passing_starts : (place left : ℕ) → place ≤ length es → left ≡ last_where (is_twin x) es place → IsPassing place left
-      passing_starts place left l h = let few = last_few place l in record {
-        few = omega (arith, few, h);
-        within = l;
-        twin = twin_of place left l h;
-        rest = sym (last_clash place l) ∙ ap (λ m. list_any (d.clashes env model x) (take m es)) (sym h);
-      }
-
-      -- no clash here, and on to the next
-      passes_on : (place left k next : ℕ) (e : b.Entry) → left ≡ suc k → slice_get es k ≡ Some e → is_twin x e ≡ true → d.clashes env model x e ≡ false → next ≡ last_where (is_twin e.declared) es k → IsPassing place left → IsPassing place next
-      passes_on place left k next e h at is fails new way =
-          let there : next ≡ last_where (is_twin x) es k = new ∙ twins_same x e is es k in
-          let few = way.few in
-          let within = way.within in
-          let l : k ≤ length es = omega (arith, few, within, h) in
-          let less = last_few k l in record {
-            few = omega (arith, few, h, less, there);
-            within = within;
-            twin = twin_of k next l there;
-            rest = way.rest ∙ ap (λ m. list_any (d.clashes env model x) (take m es)) h ∙ any_taken k e at ∙ ap (λ (u : Bool). u || list_any (d.clashes env model x) (take k es)) fails ∙ sym (last_clash k l)
-                ∙ ap (λ m. list_any (d.clashes env model x) (take m es)) (sym there);
-          }
-
-      pub clash_found : (place left k : ℕ) → left ≡ suc k → d.clashes_at env model x (slice_get es k) ≡ true → IsPassing place left → true ≡ list_any (d.clashes env model x) (take place es)
-      clash_found place left k h test way =
-          let r = way.twin k h in
-          let here : d.clashes env model x r.0 ≡ true = sym (ap (d.clashes_at env model x) r.1) ∙ test in
-          sym (way.rest ∙ ap (λ m. list_any (d.clashes env model x) (take m es)) h ∙ any_taken k r.0 r.1 ∙ ap (λ (u : Bool). u || list_any (d.clashes env model x) (take k es)) here)
-
-      pub none_found : (place left : ℕ) → left ≡ 0 → IsPassing place left → false ≡ list_any (d.clashes env model x) (take place es)
-      none_found place left h way = sym (way.rest ∙ ap (λ m. list_any (d.clashes env model x) (take m es)) h)
-
-    pub passing_goes : (xs : List Entry) (place left k next : ℕ) → left ≡ suc k → d.clashes_at env model x (slice_get (map entry_of xs) k) ≡ false →
-        ((y : Entry) → slice_get xs k ≡ Some y → next ≡ last_where (is_twin (declared_of y)) (map entry_of xs) k) → IsPassing (map entry_of xs) place left → IsPassing (map entry_of xs) place next
-    passing_goes xs place left k next h test new way =
+    pub met_found : (place left k : ℕ) → left ≡ suc k → holds_at (is_met x) (slice_get es k) ≡ true → IsPassing place left → left ≡ last_where (is_met x) es place
+    met_found place left k h test way =
         let r = way.twin k h in
-        let y : (z : Entry) × (slice_get xs k ≡ Some z) × (entry_of z ≡ r.0) = listed xs k r.0 r.1 in
-        let fails : d.clashes env model x r.0 ≡ false = sym (ap (d.clashes_at env model x) r.1) ∙ test in
-        passes_on (map entry_of xs) place left k next r.0 h r.1 r.2 fails (new y.0 y.1 ∙ ap (λ (z : b.Entry). last_where (is_twin z.declared) (map entry_of xs) k) y.2) way
+        let here : is_met x r.0 ≡ true = sym (ap (holds_at (is_met x)) r.1) ∙ test in
+        h ∙ sym (last_here (is_met x) es k r.0 r.1 ∙ ap (λ (u : Bool). cond u (suc k) (last_where (is_met x) es k)) here) ∙ ap (last_where (is_met x) es) (sym h) ∙ way.rest
 
-  pub next_less : (x : Declared) (xs : List Entry) (place left k next : ℕ) → left ≡ suc k → ((y : Entry) → slice_get xs k ≡ Some y → next ≡ last_where (is_twin (declared_of y)) (map entry_of xs) k) → IsPassing x (map entry_of xs) place left → next < left
-  next_less x xs place left k next h new way =
+    pub none_met : (place left : ℕ) → left ≡ 0 → IsPassing place left → 0 ≡ last_where (is_met x) es place
+    none_met place left h way = ap (last_where (is_met x) es) (sym h) ∙ way.rest
+
+  pub passing_goes : (xs : List Entry) (place left k next : ℕ) → left ≡ suc k → holds_at (is_met x) (slice_get (map entry_of xs) k) ≡ false →
+      ((y : Entry) → slice_get xs k ≡ Some y → next ≡ last_where (is_twin (declared_of y)) (map entry_of xs) k) → IsPassing (map entry_of xs) place left → IsPassing (map entry_of xs) place next
+  passing_goes xs place left k next h test new way =
+      let r = way.twin k h in
+      let y : (z : Entry) × (slice_get xs k ≡ Some z) × (entry_of z ≡ r.0) = listed xs k r.0 r.1 in
+      let fails : is_met x r.0 ≡ false = sym (ap (holds_at (is_met x)) r.1) ∙ test in
+      passes_on (map entry_of xs) place left k next r.0 h r.1 r.2 fails (new y.0 y.1 ∙ ap (λ (z : b.Entry). last_where (is_twin z.declared) (map entry_of xs) k) y.2) way
+
+  pub next_less : (xs : List Entry) (place left k next : ℕ) → left ≡ suc k → ((y : Entry) → slice_get xs k ≡ Some y → next ≡ last_where (is_twin (declared_of y)) (map entry_of xs) k) → IsPassing (map entry_of xs) place left → next < left
+  next_less xs place left k next h new way =
       let r = way.twin k h in
       let y : (z : Entry) × (slice_get xs k ≡ Some z) × (entry_of z ≡ r.0) = listed xs k r.0 r.1 in
       let is = new y.0 y.1 in
       let few = way.few in
       let within = way.within in
-      let less = last_few (declared_of y.0) (map entry_of xs) k (omega (arith, few, within, h)) in
+      let less = last_few (is_twin (declared_of y.0)) (map entry_of xs) k (omega (arith, few, within, h)) in
       omega (arith, is, less, h)
 
+module _ (env : b.Env) (model : Model) where
   -- ---- All of them
 
   pub no_lines : (xs : List Entry) (k : ℕ) → None ≡ slice_get xs k → d.lines_at env model (take k (map entry_of xs)) (slice_get (map entry_of xs) k) ≡ []

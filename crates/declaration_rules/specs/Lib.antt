@@ -1,3 +1,4 @@
 pub mod Twice
+pub mod Earlier
 pub mod Mains
 pub mod Laws

@@ -100,10 +100,6 @@ module _ (env : Env) (model : Model) where
   abbrev pub clashes : Declared → Entry → Bool
   clashes d e = meets d e.declared && not (is_file d.scope && agrees env model e.declared.what d.what)
 
-  abbrev pub clashes_at : Declared → Option Entry → Bool
-  clashes_at d None = false
-  clashes_at d (Some e) = clashes d e
-
   -- a declaration behind those before it
   abbrev pub lines_of : List Entry → Entry → List Broken
   lines_of before e = again (list_any (clashes e.declared) before) e.declared.at ++ again (is_named_wrong env e.declared.name e.declared.what) e.declared.at

@@ -32,7 +32,7 @@ fn all_same(xs: &[Kind], ys: &[Kind]) -> bool
 }
 
 #[tactic(auto, using(crate::proofs::KindRows::differ))]
-fn same_kinds(xs: &[Kind], ys: &[Kind]) -> bool
+pub(crate) fn same_kinds(xs: &[Kind], ys: &[Kind]) -> bool
     ensures { result ≡ t.same_kinds xs.now ys.now }
 {
     if xs.len() == ys.len() {
@@ -67,13 +67,13 @@ fn same_length(x: Option<u64>, y: Option<u64>) -> bool
     }
 }
 
-fn same_const(x: bool, y: bool) -> bool
+pub(crate) fn same_const(x: bool, y: bool) -> bool
     ensures { result ≡ t.same_const x y }
 {
     if x { y } else { !y }
 }
 
-fn begins(initial: &Initial) -> bool
+pub(crate) fn begins(initial: &Initial) -> bool
     ensures { result ≡ t.begins (v.initial_of initial.now) }
 {
     match initial {
@@ -119,8 +119,13 @@ fn array_length(env: &Env<'_>, model: Model, e: &Option<Box<Expr>>, initial: &In
     }
 }
 
-// The length of a declared array.
-fn whole_length(env: &Env<'_>, model: Model, form: &Form, initial: &Initial) -> Option<u64>
+/// The length of a declared array.
+pub(crate) fn whole_length(
+    env: &Env<'_>,
+    model: Model,
+    form: &Form,
+    initial: &Initial,
+) -> Option<u64>
     ensures { result ≡ c.object_length (seen.env_of env.now) model (v.form_of form.now) (v.initial_of initial.now) }
 {
     match form {

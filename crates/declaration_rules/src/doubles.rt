@@ -1,5 +1,4 @@
-ghost use Rattle.std.specs.Prelude.{◌≡◌, ◌++◌, [], Some, map, slice_get, take, IfOk};
-ghost use Rattle.std.specs.List.{list_any};
+ghost use Rattle.std.specs.Prelude.{◌≡◌, ◌++◌, [], Some, length, map, slice_get, take, IfOk};
 ghost use Rattle.c_run.specs.Breaking as br;
 ghost use Rattle.c_meaning.specs.Bindings as b;
 ghost use Rattle.c_meaning.specs.Scope as s;
@@ -7,89 +6,16 @@ ghost use Rattle.first_broken.specs.Found.{summary};
 ghost use Rattle.first_broken.specs.Seen as told;
 ghost use Rattle.type_scopes.specs.Seen as seen;
 ghost use Rattle.typed_values.specs.Made as made;
+ghost use Rattle.declaration_rules.specs.Earlier as p;
 ghost use Rattle.declaration_rules.specs.Twice as t;
 
-use crate::agreement::agree;
+use crate::earlier::{Past, clashes_before, pasts_of};
 use first_broken::{Broken, Found, both, line, none};
 use lv_base::{Kind, Memory, Model, SourceFault};
 use std::alloc::Global;
 use type_kinds::kind_in;
-use type_scopes::{Entry, Env, What, is_file, is_same, is_tag, parameter_kinds, words_type};
+use type_scopes::{Entry, Env, What, parameter_kinds, words_type};
 use typed_values::{Known, known_of};
-
-fn same_space(x: &What<'_>, y: &What<'_>) -> bool
-    ensures { result ≡ t.same_space (seen.what_of x.now) (seen.what_of y.now) }
-{
-    if is_tag(x) { is_tag(y) } else { !is_tag(y) }
-}
-
-// Whether two declarations are in one name space and one scope, and have one name. A parameter without a name has none.
-fn meets(x: &Entry<'_>, y: &Entry<'_>) -> bool
-    ensures { result ≡ t.meets (seen.declared_of x.now) (seen.declared_of y.now) }
-{
-    same_space(&x.what, &y.what)
-        && is_same(x.scope, y.scope)
-        && x.name == y.name
-        && 0 < x.name.len()
-}
-
-// Whether an earlier declaration leaves no room for this one.
-fn clashes(
-    alloc: Global,
-    env: &Env<'_>,
-    model: Model,
-    entry: &Entry<'_>,
-    earlier: &Entry<'_>,
-) -> Result<bool, Memory>
-    ensures { IfOk result (λ r. r ≡ t.clashes (seen.env_of env.now) model (seen.declared_of entry.now) (seen.entry_of earlier.now)) }
-{
-    if !meets(entry, earlier) {
-        return Ok(false);
-    }
-    if !is_file(entry.scope) {
-        return Ok(true);
-    }
-    let same = agree(alloc, env, model, &earlier.what, &entry.what)?;
-    Ok(!same)
-}
-
-// Whether the declaration at a place leaves no room for this one.
-fn clashes_at(
-    alloc: Global,
-    env: &Env<'_>,
-    model: Model,
-    place: usize,
-    entry: &Entry<'_>,
-) -> Result<bool, Memory>
-    ensures { IfOk result (λ r. r ≡ t.clashes_at (seen.env_of env.now) model (seen.declared_of entry.now) (slice_get (seen.env_of env.now).entries place)) }
-{
-    match env.entries.get(place) {
-        None => Ok(false),
-        Some(earlier) => clashes(alloc, env, model, entry, earlier),
-    }
-}
-
-// Whether a declaration before this one, at its place, leaves no room for it: one of its name and scope.
-fn clashes_before(
-    alloc: Global,
-    env: &Env<'_>,
-    model: Model,
-    place: usize,
-    entry: &Entry<'_>,
-) -> Result<bool, Memory>
-    requires { slice_get env.now.entries place ≡ Some entry.now }
-    ensures { IfOk result (λ r. r ≡ list_any (t.clashes (seen.env_of env.now) model (seen.declared_of entry.now)) (take place (seen.env_of env.now).entries)) }
-{
-    let mut left = env.entries.twin_before(place);
-    'twins: while left > 0 {
-        let test = clashes_at(alloc, env, model, left - 1, entry)?;
-        if test {
-            return Ok(true);
-        }
-        left = env.entries.twin_before(left - 1);
-    }
-    Ok(false)
-}
 
 fn is_known_right(known: Known, of: Option<Kind>) -> bool
     ensures { result ≡ t.is_known_right (made.means known) of }
@@ -165,12 +91,14 @@ fn add_lines(
     model: Model,
     place: usize,
     entry: &Entry<'_>,
+    pasts: &[Past],
     lines: &mut Vec<Broken>,
 ) -> Result<(), Memory>
-    requires { slice_get env.now.entries place ≡ Some entry.now }
+    requires at { slice_get env.now.entries place ≡ Some entry.now }
+    requires known { p.ArePasts (seen.env_of env.now) model (length env.now.entries) pasts.now }
     ensures { IfOk result (λ _. map told.broken_of lines.new.items ≡ map told.broken_of lines.old.items ++ t.lines_of (seen.env_of env.now) model (take place (seen.env_of env.now).entries) (seen.entry_of entry.now)) }
 {
-    let test = clashes_before(alloc, env, model, place, entry)?;
+    let test = clashes_before(env, model, place, entry, pasts);
     add_line(lines, test, entry.at)?;
     let wrong = is_declared_wrong(alloc, env, entry.name, &entry.what)?;
     add_line(lines, wrong, entry.at)
@@ -181,13 +109,15 @@ fn add_lines_at(
     env: &Env<'_>,
     model: Model,
     place: usize,
+    pasts: &[Past],
     lines: &mut Vec<Broken>,
 ) -> Result<(), Memory>
+    requires { p.ArePasts (seen.env_of env.now) model (length env.now.entries) pasts.now }
     ensures { IfOk result (λ _. map told.broken_of lines.new.items ≡ map told.broken_of lines.old.items ++ t.lines_at (seen.env_of env.now) model (take place (seen.env_of env.now).entries) (slice_get (seen.env_of env.now).entries place)) }
 {
     match env.entries.get(place) {
         None => Ok(()),
-        Some(entry) => add_lines(alloc, env, model, place, entry, lines),
+        Some(entry) => add_lines(alloc, env, model, place, entry, pasts, lines),
     }
 }
 
@@ -199,9 +129,10 @@ fn add_lines_at(
 pub fn redeclared(alloc: Global, env: &Env<'_>, model: Model) -> Result<Vec<Broken>, Memory>
     ensures { IfOk result (λ r. map told.broken_of r.items ≡ t.twice (seen.env_of env.now) model [] (seen.env_of env.now).entries) }
 {
+    let pasts = pasts_of(alloc, env, model)?;
     let mut found = Vec::new(alloc);
     for place in 0..env.entries.len() {
-        add_lines_at(alloc, env, model, place, &mut found)?;
+        add_lines_at(alloc, env, model, place, &pasts, &mut found)?;
     }
     Ok(found)
 }

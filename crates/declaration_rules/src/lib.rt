@@ -4,6 +4,7 @@
 
 mod agreement;
 mod doubles;
+mod earlier;
 mod laws;
 mod mains;
 

@@ -8,7 +8,8 @@ use Rattle.type_scopes.specs.declared.links.Span.{Span}
 use Rattle.type_scopes.specs.declared.links.Link.{Link}
 use Rattle.type_scopes.specs.declared.linked.Row.{Row}
 use Rattle.type_scopes.specs.Reaching.{Within, Reaches, alone, past_both}
-use Rattle.type_scopes.specs.Chains.{Chain, by_name, by_order, name_span, order_span, Leads, Free, Covered, IsLink, IsLinked, IsKept, link_before, link_behind, LinksTo}
+use Rattle.type_scopes.specs.Chains.{Chain, by_name, by_order, name_span, order_span, Leads, Free, Covered, IsLink, IsLinked, IsKept, link_before, link_behind, LinksTo, IsFirst, entries_of}
+use Rattle.type_scopes.proofs.Firsts.{first_more, first_last}
 
 -- ---- The answers of the code
 
@@ -194,6 +195,7 @@ pub none_kept : IsKept [] []
 none_kept = record {
   names = λ k x h. absurd (nothing k x h);
   orders = λ k x h. absurd (nothing k x h);
+  firsts = λ k x h. absurd (nothing k x h);
   heads = λ b l. (λ j e. absurd (never j e), λ j x lo hi at of. nothing j x at);
   sized = inl refl;
 }
@@ -212,6 +214,7 @@ pub opened : (xs : List Row) (before table : List ℕ) → IsKept xs before → 
 opened xs before table kept size same = record {
   names = kept.names;
   orders = kept.orders;
+  firsts = kept.firsts;
   heads = λ b l. subst (λ n. Leads by_name b xs n × Free by_name b xs n (length xs)) (sym (same b)) (kept.heads b l);
   sized = inr size;
 }
@@ -256,11 +259,18 @@ module _ (xs : List Row) (table : List ℕ) (y : Row) (b count : ℕ) (kept : Is
     | inr other ↦ subst (λ n. Leads by_name a (xs ++ y ∷ []) n × Free by_name a (xs ++ y ∷ []) n (length (xs ++ y ∷ []))) (sym (get_or-set_other table b a count 0 other)) (there a other (get_or table a 0) (kept.heads a l))
   ]
 
-  pub added : LinksTo by_name xs (get_or table b 0) (name_span y.entry) y.name → LinksTo by_order xs (length xs) (order_span y.entry) y.order → IsKept (xs ++ y ∷ []) (set table b count)
-  added name order =
+  new_firsts : y.first ≤ length (entries_of xs) → IsFirst xs y → (k : ℕ) (x : Row) → slice_get (xs ++ y ∷ []) k ≡ Some x → IsFirst (xs ++ y ∷ []) x
+  new_firsts few first k x at = elim (either xs y k x at) [
+    | inl h ↦ first_more xs y k x h.1 (kept.firsts k x h.1)
+    | inr h ↦ subst (λ z. IsFirst (xs ++ y ∷ []) z) h.1 (first_last xs y few first)
+  ]
+
+  pub added : LinksTo by_name xs (get_or table b 0) (name_span y.entry) y.name → LinksTo by_order xs (length xs) (order_span y.entry) y.order → y.first ≤ length (entries_of xs) → IsFirst xs y → IsKept (xs ++ y ∷ []) (set table b count)
+  added name order few first =
       let h = kept.heads b below in record {
         names = new_linked by_name xs y (get_or table b 0) kept.names (subst (λ z. Leads by_name z xs (get_or table b 0)) is h.0) (subst (λ z. Free by_name z xs (get_or table b 0) (length xs)) is h.1) name;
         orders = new_linked by_order xs y (length xs) kept.orders (order_leads xs) (order_free xs) order;
+        firsts = new_firsts few first;
         heads = new_heads;
         sized = inr (length-set table b count ∙ size);
       }

@@ -1,5 +1,6 @@
 mod Views
 mod Rows
+mod Firsts
 mod Chaining
 mod Joining
 mod Walks

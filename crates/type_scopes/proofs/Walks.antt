@@ -1,5 +1,5 @@
 -- The walk to the declaration that a token names, and what the walks pass over.
-use Rattle.std.proofs.Common.{◌≡◌, ℕ, zero, suc, ◌-◌, ◌<◌, ◌≤◌, Bool, true, false, not, ◌&&◌, ◌||◌, if◌then◌else◌, nat_eq, nat_le, nat_lt, List, [], ◌∷◌, ◌++◌, Option, None, Some, length, take, refl, sym, ◌∙◌, ap, subst, arith, slice_get, get_or, bytes_eq, inl, inr}
+use Rattle.std.proofs.Common.{◌≡◌, ℕ, zero, suc, ◌-◌, ◌<◌, ◌≤◌, Bool, true, false, not, ◌&&◌, ◌||◌, if◌then◌else◌, nat_eq, nat_le, nat_lt, List, [], ◌∷◌, ◌++◌, Option, None, Some, length, take, refl, sym, ◌∙◌, ap, subst, arith, slice_get, get_or, bytes_eq, inl, inr, ◌⊎◌}
 use Rattle.std.specs.Option.{option_map}
 use Rattle.std.proofs.lemmas.Bool.{both_ways, cases_Bool, leb-true, le-leb, lt-leb, ltb-true, eqb-true, ne_eqb, or_cases, and_left, and_right, and_parts}
 use Rattle.std.proofs.lemmas.List.{take_all}
@@ -18,7 +18,7 @@ use Rattle.type_scopes.specs.declared.entries.Entry.{Entry}
 use Rattle.type_scopes.specs.Seen.{entry_of, entity_of, scope_of}
 use Rattle.type_scopes.specs.Buckets.{bucket}
 use Rattle.type_scopes.specs.Reaching.{Within}
-use Rattle.type_scopes.specs.Asked.{is_hidden, no_deeper, is_elsewhere, has_no_number}
+use Rattle.type_scopes.specs.Asked.{is_hidden, no_deeper, is_apart, is_elsewhere, has_no_number}
 use Rattle.type_scopes.specs.Walking.{joined, seen_one, last_of, is_placed, is_in_file, is_twin, own_initial}
 use Rattle.type_scopes.specs.Chains.{entries_of, Chain, by_name, by_order, name_span, order_span, lowest, highest, Leads, Free, IsLink, IsLinked, IsKept}
 use Rattle.type_scopes.proofs.Joining.{some_at, es_of, at_es, es_long, taken, or_row, joined_twice, past_free, past_jump}
@@ -198,11 +198,30 @@ same_last (block first last) (block f l) h = eqb-true last l (and_parts (nat_eq 
 same_last file (block f l) h = absurd (both_ways false refl h)
 same_last (block first last) file h = absurd (both_ways false refl h)
 
-pub no_twin : (d : Declared) (s : Span) (z : Row) → s.to < last_of d.scope → Within (name_span z.entry) s → is_twin d (entry_of z.entry) ≡ false
+-- and begin at one token
+same_begin : (x y : Scope) → is_same x y ≡ true → begin_of x ≡ begin_of y
+same_begin file file h = refl
+same_begin (block first last) (block f l) h = ap suc (eqb-true first f (and_parts (nat_eq first f) (nat_eq last l) h).0)
+same_begin file (block f l) h = absurd (both_ways false refl h)
+same_begin (block first last) file h = absurd (both_ways false refl h)
+
+pub no_twin : (d : Declared) (s : Span) (z : Row) → is_apart s d.scope ≡ true → Within (name_span z.entry) s → is_twin d (entry_of z.entry) ≡ false
 no_twin d s z h within = and_left (is_same d.scope (scope_of z.entry.scope)) _ (elim (cases_Bool (is_same d.scope (scope_of z.entry.scope))) [
-  | inl is ↦ absurd (let e = same_last d.scope (scope_of z.entry.scope) is in let f = within.to in omega (arith, e, f, h))
+  | inl is ↦ absurd (never is (or_cases (nat_lt s.to (last_of d.scope)) (nat_lt s.high (begin_of d.scope)) h))
   | inr is ↦ is
 ])
+  where
+    never : is_same d.scope (scope_of z.entry.scope) ≡ true → (nat_lt s.to (last_of d.scope) ≡ true) ⊎ (nat_lt s.high (begin_of d.scope) ≡ true) → ⊥
+    never is (inl p) =
+        let e = same_last d.scope (scope_of z.entry.scope) is in
+        let l = ltb-true s.to (last_of d.scope) p in
+        let f = within.to in
+        omega (arith, e, l, f)
+    never is (inr p) =
+        let e = same_begin d.scope (scope_of z.entry.scope) is in
+        let l = ltb-true s.high (begin_of d.scope) p in
+        let f = within.high in
+        omega (arith, e, l, f)
 
 pub other_twin : (d : Declared) (z : Row) → (by_name.bucket z ≡ bucket d.name → ⊥) → is_twin d (entry_of z.entry) ≡ false
 other_twin d z other = and_right (is_same d.scope (scope_of z.entry.scope)) _ (other_name d.name z.entry.name.now (λ h. other (sym h)))

@@ -1,5 +1,5 @@
 -- Declarations that lead back along their bucket, and along all before them.
-use Rattle.std.specs.Prelude.{◌≡◌, ℕ, zero, suc, ◌+◌, ◌<◌, ◌≤◌, List, [], Option, None, Some, length, map, slice_get, get_or, ◌⊎◌}
+use Rattle.std.specs.Prelude.{◌≡◌, ℕ, zero, suc, ◌+◌, ◌<◌, ◌≤◌, true, List, [], Option, None, Some, length, map, find, slice_get, get_or, ◌⊎◌}
 use Rattle.std.specs.Option.{option_map}
 use Rattle.c_meaning.specs.Scope.{begin_of}
 use Rattle.type_scopes.specs.declared.entries.Entity.{Entity}
@@ -10,8 +10,9 @@ use Rattle.type_scopes.specs.declared.links.Link.{Link}
 use Rattle.type_scopes.specs.declared.linked.Row.{Row}
 use Rattle.type_scopes.specs.Buckets.{bucket}
 use Rattle.type_scopes.specs.Reaching.{Within, Reaches}
-use Rattle.type_scopes.specs.Seen.{scope_of}
-use Rattle.type_scopes.specs.Walking.{last_of}
+use Rattle.type_scopes.specs.Seen.{scope_of, entry_of}
+use Rattle.type_scopes.specs.Found.{some_entry}
+use Rattle.type_scopes.specs.Walking.{last_of, is_in_file}
 
 abbrev pub entries_of : List Row → List Entry
 entries_of rows = map (λ r. r.entry) rows
@@ -69,10 +70,16 @@ pub record IsLink (c : Chain) (xs : List Row) (k : ℕ) (x : Row) : Type 0 where
 abbrev pub IsLinked : Chain → List Row → Type 0
 IsLinked c xs = (k : ℕ) → (x : Row) → slice_get xs k ≡ Some x → IsLink c xs k x
 
+-- one that is declared in the file, but for tags, knows the first of its name there
+abbrev pub IsFirst : List Row → Row → Type 0
+IsFirst xs x =
+    is_in_file x.entry.name.now (entry_of x.entry) ≡ true → some_entry (slice_get (entries_of xs) x.first) ≡ find (is_in_file x.entry.name.now) (map entry_of (entries_of xs))
+
 pub record IsKept (xs : List Row) (newest : List ℕ) : Type 0 where
   pub names : IsLinked by_name xs
   pub orders : IsLinked by_order xs
   pub heads : (b : ℕ) → b < 65521 → Leads by_name b xs (get_or newest b 0) × Free by_name b xs (get_or newest b 0) (length xs)
+  pub firsts : (k : ℕ) → (x : Row) → slice_get xs k ≡ Some x → IsFirst xs x
   pub sized : (newest ≡ []) ⊎ (length newest ≡ 65521)
 
 -- ---- A declaration more

@@ -1,4 +1,4 @@
-ghost use Rattle.std.specs.Prelude.{◌≡◌, ◌≤◌, ◌⊎◌, ◌++◌, ◌∷◌, [], ℕ, length, map, find, get_or, slice_get, Some, IfOk, OnOk, OnErr};
+ghost use Rattle.std.specs.Prelude.{◌≡◌, ◌≤◌, ◌⊎◌, ◌++◌, ◌∷◌, [], ℕ, length, map, find, get_or, slice_get, true, Some, IfOk, OnOk, OnErr};
 ghost use Rattle.std.specs.Option.{option_copied};
 ghost use Rattle.c_meaning.specs.Bindings as b;
 ghost use Rattle.c_meaning.specs.Program as program;
@@ -101,6 +101,13 @@ fn is_hidden(span: Span, at: u32, best: Option<&Entry<'_>>) -> bool
     ensures { result ≡ asked.is_hidden span at (found.some_entry (option_copied best.entry)) }
 {
     (at as u64) < span.from || (span.to < at as u64 || no_deeper(span.high, best))
+}
+
+// Whether none of those in the span is in the scope: each ends or begins before it does.
+fn is_apart(span: Span, scope: Scope) -> bool
+    ensures { result ≡ asked.is_apart span (seen.scope_of scope) }
+{
+    span.to < last_of(scope) as u64 || span.high < begin_of(scope)
 }
 
 fn is_elsewhere(span: Span, at: u32) -> bool
@@ -226,9 +233,10 @@ impl<'a> Declarations<'a> {
     pub fn push(&mut self, entry: Entry<'a>) -> Result<(), Memory>
         ensures { IfOk result (λ _. self.new ≡ self.old ++ entry.entry ∷ []) }
     {
+        let first = self.first_with(&entry);
         open(&mut self.newest)?;
         let bucket = bucket_of(entry.name);
-        let row = row_behind(&self.rows, self.newest[bucket], entry);
+        let row = row_behind(&self.rows, self.newest[bucket], entry, first);
         self.rows.push(row)?;
         self.newest[bucket] = self.rows.len();
         Ok(())
@@ -275,7 +283,15 @@ impl<'a> Declarations<'a> {
     pub fn first_in_file(&self, name: &[u8]) -> Option<&Entry<'a>>
         ensures { found.some_entry (option_copied result) ≡ find (walk.is_in_file name.now) (map seen.entry_of self.now) }
     {
-        let mut first: Option<&Entry<'a>> = None;
+        self.get(self.first_place(name))
+    }
+
+    // The place of the first declaration of the name in the file, but for tags; where there is none, how many there are. The
+    // last one of the name knows it.
+    fn first_place(&self, name: &[u8]) -> usize
+        ensures few { result ≤ length self.now }
+        ensures found { found.some_entry (slice_get self.now result) ≡ find (walk.is_in_file name.now) (map seen.entry_of self.now) }
+    {
         let mut left = newest_in(&self.newest, bucket_of(name));
         'bucket: while left > 0 {
             let row = &self.rows[left - 1];
@@ -283,10 +299,24 @@ impl<'a> Declarations<'a> {
                 left = row.name.jump;
                 continue;
             }
-            first = or_found(is_in_file(name, &row.entry), &row.entry, first);
+            if is_in_file(name, &row.entry) {
+                return row.first;
+            }
             left = row.name.older;
         }
-        first
+        self.rows.len()
+    }
+
+    // The place of the first declaration in the file of the name of this one, where it is one itself, behind all others.
+    fn first_with(&self, entry: &Entry<'a>) -> usize
+        ensures few { result ≤ length self.now }
+        ensures found { walk.is_in_file entry.now.name.now (seen.entry_of entry.now) ≡ true → found.some_entry (slice_get self.now result) ≡ find (walk.is_in_file entry.now.name.now) (map seen.entry_of self.now) }
+    {
+        if is_in_file(entry.name, entry) {
+            self.first_place(entry.name)
+        } else {
+            0
+        }
     }
 
     /// Of the declaration at a place: one more than the place of the last one before it that has its name and its scope, and 0
@@ -298,11 +328,10 @@ impl<'a> Declarations<'a> {
             return 0;
         }
         let this = &self.rows[place];
-        let last = last_of(this.entry.scope) as u64;
         let mut left = this.name.older;
         'bucket: while left > 0 {
             let row = &self.rows[left - 1];
-            if row.name.span.to < last {
+            if is_apart(row.name.span, this.entry.scope) {
                 left = row.name.jump;
                 continue;
             }

@@ -9,12 +9,14 @@ use crate::links::{Link, Span, link_to};
 
 /// A declaration with its links: to those of its bucket, and to all before it. The spans of the first tell from which token to
 /// which one the declarations are seen, and where their scopes begin; those of the second, where their names stand, and the
-/// numbers of their objects.
+/// numbers of their objects. `first` is the place of the first declaration of its name in the file, but for tags, where it is
+/// one itself.
 #[derive(Drop)]
 pub(crate) struct Row<'a> {
     pub(crate) entry: Entry<'a>,
     pub(crate) name: Link,
     pub(crate) order: Link,
+    pub(crate) first: usize,
 }
 
 /// The last token of a scope, by its offset.
@@ -133,12 +135,23 @@ fn order_link(rows: &[Row<'_>], older: usize, span: Span) -> Link
 }
 
 /// The row of a declaration behind these, where the last of its bucket is at `older`.
-pub(crate) fn row_behind<'a>(rows: &[Row<'a>], older: usize, entry: Entry<'a>) -> Row<'a>
+pub(crate) fn row_behind<'a>(
+    rows: &[Row<'a>],
+    older: usize,
+    entry: Entry<'a>,
+    first: usize,
+) -> Row<'a>
     ensures entry { result.entry ≡ entry.entry }
     ensures name { chain.LinksTo chain.by_name rows.now older (chain.name_span entry.entry) result.name }
     ensures order { chain.LinksTo chain.by_order rows.now (length rows.now) (chain.order_span entry.entry) result.order }
+    ensures first { result.first ≡ first }
 {
     let name = name_link(rows, older, name_span(&entry));
     let order = order_link(rows, rows.len(), order_span(&entry));
-    Row { entry, name, order }
+    Row {
+        entry,
+        name,
+        order,
+        first,
+    }
 }

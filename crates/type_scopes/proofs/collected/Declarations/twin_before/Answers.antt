@@ -24,14 +24,14 @@ index-row-requires c =
     let few = name_few (bucket c.index-this.result.now.entry.name.now) c.self.inside.rows.items c.bucket.left c.bucket.invariant.leads in
     omega (arith, few, c.bucket-test.true)
 
-pub bucket-smaller-then-row-last : goal.bucket-smaller-then-row-last
-bucket-smaller-then-row-last c =
+pub bucket-smaller-then-is_apart : goal.bucket-smaller-then-is_apart
+bucket-smaller-then-is_apart c =
     let few = name_few (bucket c.index-this.result.now.entry.name.now) c.self.inside.rows.items c.bucket.left c.bucket.invariant.leads in
     let at = read c.self.inside.rows.items c.bucket.left c.index-row.result.now c.bucket-test.true few c.index-row.ensures in
     jump_less by_name c.self.inside.rows.items c.bucket.left c.index-row.result.now c.self.invariant.names c.bucket-test.true at
 
-pub bucket-preserved-then-row-last : goal.bucket-preserved-then-row-last
-bucket-preserved-then-row-last c =
+pub bucket-preserved-then-is_apart : goal.bucket-preserved-then-is_apart
+bucket-preserved-then-is_apart c =
     let xs = c.self.inside.rows.items in
     let x = c.index-row.result.now in
     let d = declared_of c.index-this.result.now.entry in
@@ -40,7 +40,7 @@ bucket-preserved-then-row-last c =
     let few = name_few n xs c.bucket.left c.bucket.invariant.leads in
     let at = read xs c.bucket.left x c.bucket-test.true few c.index-row.ensures in
     seeking_jumps by_name n (is_twin d) xs (other_twin d) c.args.place c.bucket.left k x (omega (arith, c.bucket-test.true)) at (c.self.invariant.names k x at) c.bucket.invariant
-    (λ z w. no_twin d x.name.span z (omega (arith, c.if-row-last.true, c.last_of-last.ensures)) w)
+    (λ z w. no_twin d x.name.span z (sym c.is_apart.ensures ∙ c.if-is_apart.true) w)
 
 pub returns-then-is_twin : goal.returns-then-is_twin
 returns-then-is_twin c e h =

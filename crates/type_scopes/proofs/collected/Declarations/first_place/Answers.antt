@@ -1,14 +1,16 @@
-use Rattle.std.proofs.Common.{◌≡◌, ◌∙◌, ◌-◌, get_or, arith, ap, find}
+use Rattle.std.proofs.Common.{◌≡◌, ◌∙◌, ◌-◌, None, length, get_or, slice_get, arith, ap, sym, find}
 use Rattle.std.specs.Prelude.{map}
-use Rattle.std.specs.Option.{option_copied}
+use Rattle.std.proofs.lemmas.List.{length-map}
 use Rattle.type_scopes.specs.Buckets.{bucket}
 use Rattle.type_scopes.specs.Found.{some_entry}
 use Rattle.type_scopes.specs.Seen.{entry_of}
-use Rattle.type_scopes.specs.Chains.{by_name}
+use Rattle.type_scopes.specs.declared.linked.Row.{Row}
+use Rattle.type_scopes.specs.Chains.{by_name, entries_of}
 use Rattle.type_scopes.specs.Walking.{is_in_file, or_found}
+use Rattle.type_scopes.proofs.Firsts.{knows_first, none_there}
 use Rattle.type_scopes.proofs.Joining.{finding_starts, finding_jumps, finding_goes, finding_ends}
 use Rattle.type_scopes.proofs.Walks.{not_in_file, other_in_file, name_few, head_leads, head_free, read, older_less, jump_less}
-use Rattle.type_scopes.proofs.collected.Declarations.first_in_file.Goals as goal
+use Rattle.type_scopes.proofs.collected.Declarations.first_place.Goals as goal
 
 pub bucket-init : goal.bucket-init
 bucket-init c =
@@ -41,7 +43,7 @@ bucket-preserved-then-row c =
     let k = c.bucket.left - 1 in
     let few = name_few (bucket name) xs c.bucket.left c.bucket.invariant.leads in
     let at = read xs c.bucket.left x c.bucket-test.true few c.index-row.ensures in
-    finding_jumps by_name (bucket name) (is_in_file name) xs (other_in_file name) (some_entry (option_copied c.bucket.first)) c.bucket.left k x (omega (arith, c.bucket-test.true)) at (c.self.invariant.names k x at) c.bucket.invariant
+    finding_jumps by_name (bucket name) (is_in_file name) xs (other_in_file name) None c.bucket.left k x (omega (arith, c.bucket-test.true)) at (c.self.invariant.names k x at) c.bucket.invariant
     (λ z w. not_in_file name x.name.span z (omega (arith, c.if-row.true)) w)
 
 pub bucket-smaller : goal.bucket-smaller
@@ -58,11 +60,41 @@ bucket-preserved c =
     let k = c.bucket.left - 1 in
     let few = name_few (bucket name) xs c.bucket.left c.bucket.invariant.leads in
     let at = read xs c.bucket.left x c.bucket-test.true few c.index-row.ensures in
-    let later = some_entry (option_copied c.bucket.first) in
-    finding_goes by_name (bucket name) (is_in_file name) xs (other_in_file name) later (some_entry (option_copied c.or_found-first.result)) c.bucket.left k x (omega (arith, c.bucket-test.true)) at (c.self.invariant.names k x at) c.bucket.invariant
-    (c.or_found-first.ensures ∙ ap (λ t. or_found t (entry_of x.entry) later) c.is_in_file.ensures)
+    finding_goes by_name (bucket name) (is_in_file name) xs (other_in_file name) None None c.bucket.left k x (omega (arith, c.bucket-test.true)) at (c.self.invariant.names k x at) c.bucket.invariant
+    (ap (λ t. or_found t (entry_of x.entry) None) (sym c.if-is_in_file.false ∙ c.is_in_file.ensures))
 
-pub returns : goal.returns
-returns c =
-    finding_ends by_name (bucket c.args.name.now) (is_in_file c.args.name.now) c.self.inside.rows.items (other_in_file c.args.name.now) (some_entry (option_copied c.bucket.first)) c.bucket.left (omega (arith, c.bucket-test.false)) c.bucket.invariant
-    ∙ ap (λ es. find (is_in_file c.args.name.now) (map entry_of es)) c.self.view_is
+pub returns-then-is_in_file-clause-few : goal.returns-then-is_in_file-clause-few
+returns-then-is_in_file-clause-few c =
+    let xs = c.self.inside.rows.items in
+    let x = c.index-row.result.now in
+    let name = c.args.name.now in
+    let k = c.bucket.left - 1 in
+    let few = name_few (bucket name) xs c.bucket.left c.bucket.invariant.leads in
+    let at = read xs c.bucket.left x c.bucket-test.true few c.index-row.ensures in
+    let within = (knows_first xs k x name at (c.self.invariant.firsts k x at) (sym c.is_in_file.ensures ∙ c.if-is_in_file.true)).0 in
+    let long = ap length c.self.view_is in
+    omega (arith, within, long)
+
+pub returns-then-is_in_file-clause-found : goal.returns-then-is_in_file-clause-found
+returns-then-is_in_file-clause-found c =
+    let xs = c.self.inside.rows.items in
+    let x = c.index-row.result.now in
+    let name = c.args.name.now in
+    let k = c.bucket.left - 1 in
+    let few = name_few (bucket name) xs c.bucket.left c.bucket.invariant.leads in
+    let at = read xs c.bucket.left x c.bucket-test.true few c.index-row.ensures in
+    ap (λ es. some_entry (slice_get es x.first)) (sym c.self.view_is)
+    ∙ (knows_first xs k x name at (c.self.invariant.firsts k x at) (sym c.is_in_file.ensures ∙ c.if-is_in_file.true)).1
+    ∙ ap (λ es. find (is_in_file name) (map entry_of es)) c.self.view_is
+
+pub returns-clause-found : goal.returns-clause-found
+returns-clause-found c =
+    let xs = c.self.inside.rows.items in
+    let name = c.args.name.now in
+    let n = c.len.result in
+    let all : n ≡ length xs = c.len.ensures ∙ c.self.inside.rows.ok.0 in
+    let long = length-map xs (λ (r : Row). r.entry) in
+    ap (λ es. some_entry (slice_get es n)) (sym c.self.view_is)
+    ∙ none_there (entries_of xs) n (omega (arith, all, long))
+    ∙ finding_ends by_name (bucket name) (is_in_file name) xs (other_in_file name) None c.bucket.left (omega (arith, c.bucket-test.false)) c.bucket.invariant
+    ∙ ap (λ es. find (is_in_file name) (map entry_of es)) c.self.view_is
