@@ -5,10 +5,12 @@ use Rattle.std.proofs.lemmas.Bool.{eq-eqb, ne_eqb}
 use Rattle.std.proofs.Math.Nat.{mul-le-mul_right}
 use Rattle.bv_term.specs.declared.term.TermId.{TermId}
 use Rattle.bv_term.specs.declared.term.Term.{Term}
-use Rattle.bv_term.specs.WellFormed.{Table, IsTable}
+use Rattle.bv_term.specs.WellFormed.{Table, IsTable, widths, widths_after}
 use Rattle.term_laws.proofs.Made.{made}
+use Rattle.term_values.specs.declared.step.Source.{Source}
 use Rattle.term_values.specs.declared.part.Part.{Part}
-use Rattle.term_values.specs.Steps.{IsPlaced, IsPlacing, lacking}
+use Rattle.term_values.specs.Cones.{over}
+use Rattle.term_values.specs.Steps.{IsPlaced, IsPlacing, lacking, steps_of}
 use Rattle.term_values.specs.Parts.{IsPart}
 use Rattle.term_values.proofs.Lacking.{IsLacking, one-lacking}
 
@@ -170,3 +172,32 @@ waits-less table part new term waiting rest now k w is p placing after =
       | true ↦ (λ e. (at, p t ∙ ap (λ (b : Bool). if b then Some at else before t) e))
       | false ↦ (λ e. (q.0, p t ∙ ap (λ (b : Bool). if b then Some at else before t) e ∙ q.1))
     ] refl
+
+-- no term stands in the cone at first
+part-none : (table : Table) (part : Part) → IsTable table → part.sources.items ≡ [] → part.shapes.terms ≡ []
+    → ((k : ℕ) → get nat_eq part.places k ≡ None) → IsPart table part
+part-none table part h s t none = record {
+  paired = ap length s ∙ sym (ap length t);
+  made = subst (λ (ss : List Source). IsTable (over table (steps_of ss part.shapes.terms))) (sym s) (record { cells = h.cells; terms = tt });
+  widths =
+      ap (widths_after part.shapes.cells []) t ∙ sym (ap (λ (ss : List Source). widths (over table (steps_of ss part.shapes.terms))) s);
+  placed = λ term at e. (let n : None ≡ Some at = sym (none term) ∙ e in absurd cc);
+}
+
+-- and the term itself waits
+pub waits-first : (table : Table) (part : Part) (term : TermId) (waiting : List ℕ) → IsTable table → part.sources.items ≡ [] → part.shapes.terms ≡ []
+    → ((k : ℕ) → get nat_eq part.places k ≡ None) → term.0 < length table.terms → waiting ≡ term.0 ∷ [] → Waits table part term waiting
+waits-first table part term waiting h s t none lt is =
+    subst (Waits table part term) (sym is) (record { gathered = part-none table part h s t none; falls = (lt, none term.0, tt); first = inr refl })
+
+-- where none waits, the term stands in the cone
+pub waits-none : (table : Table) (part : Part) (term : TermId) (waiting : List ℕ) → Waits table part term waiting → length waiting ≡ 0
+    → IsPlaced (get nat_eq part.places) term
+waits-none table part term waiting w none = elim w.first as (λ _. IsPlaced (get nat_eq part.places) term) [
+  | inl p ↦ p
+  | inr s ↦ absurd (starts-none term.0 waiting none s)
+]
+  where
+    starts-none : (t : ℕ) (xs : List ℕ) → length xs ≡ 0 → Starts t xs → ⊥
+    starts-none t [] e s = s
+    starts-none t (x ∷ xs) e s = omega (arith, e)
