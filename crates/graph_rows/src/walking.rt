@@ -5,6 +5,7 @@ use c_graph::{Edge, EdgeId, Graph, Node, NodeId, Operation};
 use lv_base::ErrorKind;
 use row_text::RowFail;
 use std::alloc::Global;
+use term_values::ConeTerms;
 
 // The most steps of a walk.
 const MOST_STEPS: u32 = 2000;
@@ -132,14 +133,12 @@ fn leads_on(alloc: Global, graph: &Graph, edge: &Edge, store: &[u128]) -> Result
 // The value of a term in a store, whose values the cells have to hold.
 fn value(alloc: Global, graph: &Graph, term: TermId, store: &[u128]) -> Result<u128, RowFail> {
     let terms = graph.terms();
-    if !terms.is_store(store) {
+    if !terms.is_store(store) || term.0 >= terms.count() {
         return Err(RowFail::Bad);
     }
-    let values = terms.values(alloc, store)?;
-    match values.get(term.0 as usize) {
-        None => Err(RowFail::Bad),
-        Some(value) => Ok(*value),
-    }
+    let cone = ConeTerms::new(alloc, terms, term)?;
+    let value = cone.value(alloc, store)?;
+    Ok(value)
 }
 
 fn set(store: &mut Vec<u128>, cell: usize, value: u128) {

@@ -1,0 +1,4 @@
+pub mod Lacking
+pub mod Placing
+pub mod Waiting
+pub mod Reading
