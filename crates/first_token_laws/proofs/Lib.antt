@@ -1,0 +1,9 @@
+mod Fillers
+mod EndSt
+mod EndDecl
+mod EndEx
+mod EndMode
+mod SureEx
+mod SureSteps
+mod SureRun
+mod Viable
