@@ -7,3 +7,4 @@ mod SureEx
 mod SureSteps
 mod SureRun
 mod Viable
+mod FirstRefused

@@ -1,9 +1,21 @@
--- Where the tokens of a source are refused.
-use Rattle.std.specs.Prelude.{◌≡◌, List}
+-- The token at which a source is refused.
+use Rattle.std.specs.Prelude.{◌≡◌, ◌≢◌, List, [], ◌∷◌, ◌++◌}
 use Rattle.c_tree.specs.declared.symbol.SymbolAt.{SymbolAt}
 use Rattle.c_tree.specs.Denotes.{Begins}
-use Rattle.parse_machine.specs.Machine.{State, Going, start, run}
+use Rattle.parse_machine.specs.Machine.{Result, TooHigh, State, Going, Over, start, run, refusal}
+
+-- Some shaped tree begins with the tokens before this one, and none, of whatever height, with those up to it.
+pub record IsFirstRefused (tokens : List SymbolAt) (token : SymbolAt) : Type 0 where
+  pub before : List SymbolAt
+  pub behind : List SymbolAt
+  pub are : before ++ token ∷ behind ≡ tokens
+  pub begins : Begins before
+  pub none : Begins (before ++ token ∷ []) → ⊥
 
 -- Some shaped tree begins with the tokens that the machine reads without stopping.
 abbrev pub IsViable : Type 0
 IsViable = (tokens : List SymbolAt) (state : State) → run tokens (Going start) ≡ Going state → Begins tokens
+
+-- A fault is at the first token up to which no shaped tree begins, and says whether that token is left out of the subset.
+abbrev pub FaultsFirst : Type 0
+FaultsFirst = (tokens : List SymbolAt) (answer : Result) → run tokens (Going start) ≡ Over answer → answer ≢ TooHigh → (token : SymbolAt) × IsFirstRefused tokens token × (refusal token ≡ answer)

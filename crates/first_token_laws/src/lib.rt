@@ -1,11 +1,15 @@
-//! The first token of a source at which no tree goes on.
+//! The laws of the token at which a source is refused: it is the first up to which no shaped tree begins, which is said
+//! without the machine that finds it.
 #![tactic(auto)]
 
-ghost use Rattle.std.specs.Prelude.{◌≡◌};
+ghost use Rattle.first_token_laws.specs.Laws.{FaultsFirst, IsViable};
 
-/// Something.
-pub fn something() -> u8
-    ensures { result ≡ 1 }
-{
-    1
-}
+/// Some shaped tree begins with the tokens that the machine reads without stopping.
+pub fn viable_tokens()
+    ensures { IsViable }
+{}
+
+/// A fault is at the first token up to which no shaped tree, of whatever height, begins.
+pub fn first_refusals()
+    ensures { FaultsFirst }
+{}
