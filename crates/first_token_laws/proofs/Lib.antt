@@ -8,3 +8,17 @@ mod SureSteps
 mod SureRun
 mod Viable
 mod FirstRefused
+mod Full
+mod FullLeads
+mod FullFirst
+mod FullOpened
+mod FullReadEx
+mod FullWholeEx
+mod FullReadDecl
+mod FullReadDecs
+mod FullReadDeclaration
+mod FullReadSt
+mod FullWholeSt
+mod FullReadItem
+mod UniqueItem
+mod UniqueFile

@@ -1,7 +1,8 @@
 -- The token at which a source is refused.
 use Rattle.std.specs.Prelude.{◌≡◌, ◌≢◌, List, [], ◌∷◌, ◌++◌}
 use Rattle.c_tree.specs.declared.symbol.SymbolAt.{SymbolAt}
-use Rattle.c_tree.specs.Denotes.{Begins}
+use Rattle.c_tree.specs.Tree.{Items}
+use Rattle.c_tree.specs.Denotes.{IsSpelled, Begins}
 use Rattle.parse_machine.specs.Machine.{Result, TooHigh, State, Going, Over, start, run, refusal}
 
 -- Some shaped tree begins with the tokens before this one, and none, of whatever height, with those up to it.
@@ -19,3 +20,7 @@ IsViable = (tokens : List SymbolAt) (state : State) → run tokens (Going start)
 -- A fault is at the first token up to which no shaped tree begins, and says whether that token is left out of the subset.
 abbrev pub FaultsFirst : Type 0
 FaultsFirst = (tokens : List SymbolAt) (answer : Result) → run tokens (Going start) ≡ Over answer → answer ≢ TooHigh → (token : SymbolAt) × IsFirstRefused tokens token × (refusal token ≡ answer)
+
+-- Two shaped trees with the same tokens are equal, whatever their heights.
+abbrev pub HasOneTree : Type 0
+HasOneTree = (tokens : List SymbolAt) (a b : Items) → IsSpelled tokens a → IsSpelled tokens b → a ≡ b

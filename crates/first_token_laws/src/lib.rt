@@ -2,7 +2,7 @@
 //! without the machine that finds it.
 #![tactic(auto)]
 
-ghost use Rattle.first_token_laws.specs.Laws.{FaultsFirst, IsViable};
+ghost use Rattle.first_token_laws.specs.Laws.{FaultsFirst, HasOneTree, IsViable};
 
 /// Some shaped tree begins with the tokens that the machine reads without stopping.
 pub fn viable_tokens()
@@ -12,4 +12,9 @@ pub fn viable_tokens()
 /// A fault is at the first token up to which no shaped tree, of whatever height, begins.
 pub fn first_refusals()
     ensures { FaultsFirst }
+{}
+
+/// Two shaped trees with the same tokens are equal, whatever their heights.
+pub fn one_tree()
+    ensures { HasOneTree }
 {}
