@@ -22,3 +22,14 @@ mod FullWholeSt
 mod FullReadItem
 mod UniqueItem
 mod UniqueFile
+mod FullGood
+mod FullSoundEx
+mod FullSoundEnds
+mod FullSoundSpecs
+mod FullSoundDecls
+mod FullSoundSt
+mod FullSoundSteps
+mod Sim
+mod SimEx
+mod SimSteps
+mod Shadow

@@ -1,4 +1,5 @@
 -- A declared name of the type `void` without parameters gets no attribute: behind an operand, and where one is to come.
+use Rattle.first_token_laws.proofs.Full as full
 use Rattle.std.proofs.Common.{◌≡◌, ℕ, List, Option, None, Some, Bool, true, false, ◌&&◌, not, if◌then◌else◌, leb}
 use Rattle.c_tree.specs.declared.symbol.Bracket.{Bracket}
 use Rattle.c_tree.specs.declared.symbol.Bracket.TheVariants as br
@@ -9,7 +10,7 @@ use Rattle.c_tree.specs.Tree.{iValue, Ex, eName, Form, fArray, Declaration}
 use Rattle.parse_machine.specs.Tokens.{Prefix, preName, preNumber, preLetter, preOpen, preSizeof, preOperator, preOther, prefix_of, Suffix, sufBinary, sufAssign, sufQuestion, sufComma, sufColon, sufSemicolon, sufClose, sufOpenRound, sufOpenSquare, sufCrement, sufOther}
 use Rattle.parse_machine.specs.Contexts.{Tall, Part, Bind, bComma, Opened, oParen, oIndex, oArgument, oThen, Outer, Place, placeFile, placeBlock, placeFor, Declaring, Declared, Base, baseStatement, baseTest, baseDo, baseReturn, baseCase, baseStart, baseMore, baseStep, baseLength, baseInitial, basePart, Inner, inBase, inBind, inOpen, inConstant, Mode}
 use Rattle.parse_machine.specs.Making as mk
-use Rattle.parse_machine.specs.Making.{bound, bind_level}
+use Rattle.parse_machine.specs.Making.{bind_level}
 use Rattle.parse_machine.specs.Heights.{least}
 use Rattle.parse_machine.specs.Expressions as ex
 use Rattle.parse_machine.specs.Declarations as decl
@@ -36,7 +37,7 @@ open_sure : (c : Bool) (m n : Mode) → Sure m → Sure n → Sure (if c then m 
 open_sure true m n g h = g
 open_sure false m n g h = h
 
-pub operand_sure : (names : List (List ℕ)) (p : Prefix) (at : ℕ) (k : Inner) → SureMode (ex.step_operand names p at k)
+pub operand_sure : (names : List (List ℕ)) (p : Prefix) (at : ℕ) (k : Inner) → SureMode (full.step_operand names p at k)
 operand_sure names (preName n) at k = when_sure (not (sh.has names n)) _ tt
 operand_sure names (preNumber v f) at k = tt
 operand_sure names (preLetter v) at k = tt
@@ -45,7 +46,7 @@ operand_sure names preSizeof at k = tt
 operand_sure names (preOperator o) at k = tt
 operand_sure names preOther at k = tt
 
-pub sizeof_sure : (names : List (List ℕ)) (p : Prefix) (at x : ℕ) (k : Inner) → SureMode (ex.step_sizeof names p at x k)
+pub sizeof_sure : (names : List (List ℕ)) (p : Prefix) (at x : ℕ) (k : Inner) → SureMode (full.step_sizeof names p at x k)
 sizeof_sure names preOpen at x k = tt
 sizeof_sure names (preName n) at x k = operand_sure names (preName n) at _
 sizeof_sure names (preNumber v f) at x k = tt
@@ -109,7 +110,7 @@ colon_sure at e (inBase x) = colon_base_sure at e x
 colon_sure at e (inOpen o k) = colon_open_sure at e o k
 colon_sure at e _ = tt
 
-round_open_sure : (at : ℕ) (e : Part) (o : Opened) (k : Inner) → SureMode (ex.close_round_open at e o k)
+round_open_sure : (at : ℕ) (e : Part) (o : Opened) (k : Inner) → SureMode (full.close_round_open at e o k)
 round_open_sure at e (oParen a) k = tt
 round_open_sure at e (oArgument f a es c) k = when_sure (leb 1 e.level) _ tt
 round_open_sure at e _ k = tt
@@ -120,12 +121,12 @@ round_base_sure at e (baseDo x s y a o) = tt
 round_base_sure at e (baseStep m x a st p y o) = tt
 round_base_sure at e _ = tt
 
-round_sure : (at : ℕ) (e : Part) (k : Inner) → SureMode (ex.close_round at e k)
+round_sure : (at : ℕ) (e : Part) (k : Inner) → SureMode (full.close_round at e k)
 round_sure at e (inOpen o k) = round_open_sure at e o k
 round_sure at e (inBase x) = round_base_sure at e x
 round_sure at e _ = tt
 
-square_open_sure : (at : ℕ) (e : Part) (o : Opened) (k : Inner) → SureMode (ex.close_square_open at e o k)
+square_open_sure : (at : ℕ) (e : Part) (o : Opened) (k : Inner) → SureMode (full.close_square_open at e o k)
 square_open_sure at e (oIndex f x) k = tt
 square_open_sure at e _ k = tt
 
@@ -133,7 +134,7 @@ square_base_sure : (file : List (List ℕ)) (at : ℕ) (e : Part) (x : Base) →
 square_base_sure file at e (baseLength d a) f = when_sure (leb 2 e.level) _ (bare_sure d (mk.tall (fArray a (Some e.value) at) e.height) f.1)
 square_base_sure file at e _ f = tt
 
-square_sure : (file : List (List ℕ)) (at : ℕ) (e : Part) (k : Inner) → FitInner file k → SureMode (ex.close_square at e k)
+square_sure : (file : List (List ℕ)) (at : ℕ) (e : Part) (k : Inner) → FitInner file k → SureMode (full.close_square at e k)
 square_sure file at e (inOpen o k) f = square_open_sure at e o k
 square_sure file at e (inBase x) f = square_base_sure file at e x f
 square_sure file at e _ f = tt
@@ -147,7 +148,7 @@ curly_sure at e (inConstant w s h es c n x a) = when_sure (leb 2 e.level) _ tt
 curly_sure at e (inBase x) = curly_base_sure at e x
 curly_sure at e _ = tt
 
-close_sure : (file : List (List ℕ)) (c : Bracket) (at : ℕ) (e : Part) (k : Inner) → FitInner file k → SureMode (ex.close c at e k)
+close_sure : (file : List (List ℕ)) (c : Bracket) (at : ℕ) (e : Part) (k : Inner) → FitInner file k → SureMode (full.close c at e k)
 close_sure file br.Round at e k f = round_sure at e k
 close_sure file br.Square at e k f = square_sure file at e k f
 close_sure file br.Curly at e k f = curly_sure at e k
@@ -172,7 +173,7 @@ semicolon_sure : (at : ℕ) (e : Part) (k : Inner) → SureMode (ex.semicolon at
 semicolon_sure at e (inBase x) = semicolon_base_sure at e x
 semicolon_sure at e _ = tt
 
-folded_sure : (file : List (List ℕ)) (s : Suffix) (at : ℕ) (e : Part) (k : Inner) → FitInner file k → SureMode (ex.step_folded s at e k)
+folded_sure : (file : List (List ℕ)) (s : Suffix) (at : ℕ) (e : Part) (k : Inner) → FitInner file k → SureMode (full.step_folded s at e k)
 folded_sure file (sufBinary o) at e k f = when_sure _ _ tt
 folded_sure file (sufAssign o) at e k f = when_sure _ _ tt
 folded_sure file sufQuestion at e k f = when_sure _ _ tt
@@ -190,13 +191,13 @@ pick_around : (file : List (List ℕ)) (c : Bool) (x y : ex.Held) → FitInner f
 pick_around file true x y f g = f
 pick_around file false x y f g = g
 
-fold_around : (file : List (List ℕ)) (k : Inner) (n : ℕ) (e : Part) → FitInner file k → FitInner file (ex.fold k n e).around
-fold_around file (inBind x k) n e f = pick_around file (leb n (bind_level x)) _ _ (fold_around file k n (bound x e) f.1) f
+fold_around : (file : List (List ℕ)) (k : Inner) (n : ℕ) (e : Part) → FitInner file k → FitInner file (full.fold k n e).around
+fold_around file (inBind x k) n e f = pick_around file (leb n (bind_level x)) _ _ (fold_around file k n (full.bound x e) f.1) f
 fold_around file (inBase x) n e f = f
 fold_around file (inOpen o k) n e f = f
 fold_around file (inConstant w s h es c n x a) m e f = f
 
-postfix_sure : (s : Suffix) (at : ℕ) (e : Part) (k : Inner) → SureMode (ex.postfix s at e k)
+postfix_sure : (s : Suffix) (at : ℕ) (e : Part) (k : Inner) → SureMode (full.postfix s at e k)
 postfix_sure sufOpenRound at e k = tt
 postfix_sure sufOpenSquare at e k = tt
 postfix_sure (sufCrement c) at e k = tt
@@ -206,14 +207,14 @@ value_pick : (c : Bool) (x y : Option Mode) → SureMode x → SureMode y → Su
 value_pick true x y g h = g
 value_pick false x y g h = h
 
-pub value_sure : (file : List (List ℕ)) (s : Suffix) (at : ℕ) (e : Part) (k : Inner) → FitInner file k → SureMode (ex.step_value s at e k)
+pub value_sure : (file : List (List ℕ)) (s : Suffix) (at : ℕ) (e : Part) (k : Inner) → FitInner file k → SureMode (full.step_value s at e k)
 value_sure file s at e k f =
     value_pick (ex.is_postfix s) _ _ (if_sure (leb 15 e.level) _ (postfix_sure s at e k))
-    (let h = ex.fold k (ex.fold_level s) e in folded_sure file s at h.value h.around (fold_around file k (ex.fold_level s) e f))
+    (let h = full.fold k (ex.fold_level s) e in folded_sure file s at h.value h.around (fold_around file k (ex.fold_level s) e f))
 
 -- Where an expression may be left out.
 
-nothing_round_sure : (at : ℕ) (k : Inner) → SureMode (ex.nothing_round at k)
+nothing_round_sure : (at : ℕ) (k : Inner) → SureMode (full.nothing_round at k)
 nothing_round_sure at (inOpen (oArgument f a es None) k) = tt
 nothing_round_sure at (inBase (baseStep m x a st p y o)) = tt
 nothing_round_sure at _ = tt
@@ -232,7 +233,7 @@ nothing_semicolon_sure at (inBase (baseStart m x a o)) = tt
 nothing_semicolon_sure at (inBase (baseMore m x a st o)) = tt
 nothing_semicolon_sure at _ = tt
 
-pub maybe_sure : (file names : List (List ℕ)) (t : Symbol) (at : ℕ) (k : Inner) → FitInner file k → SureMode (ex.step_maybe names t at k)
+pub maybe_sure : (file names : List (List ℕ)) (t : Symbol) (at : ℕ) (k : Inner) → FitInner file k → SureMode (full.step_maybe names t at k)
 maybe_sure file names (sy.Close br.Round) at k f = nothing_round_sure at k
 maybe_sure file names (sy.Close br.Square) at k f = nothing_square_sure file at k f
 maybe_sure file names (sy.Close br.Curly) at k f = nothing_curly_sure at k

@@ -26,7 +26,8 @@ use Rattle.std.proofs.Common.{◌⊎◌, inl, inr}
 use Rattle.c_tree.specs.Spelling.{extension}
 use Rattle.parse_laws.proofs.SoundRun.{next_reads}
 use Rattle.first_token_laws.proofs.EndMode.{Sure}
-use Rattle.first_token_laws.proofs.SureSteps.{SureTurn, next_sure}
+use Rattle.first_token_laws.proofs.SureSteps.{SureTurn}
+use Rattle.first_token_laws.proofs.Shadow.{Shadow, shadow_next, own_shadow, next_sure}
 use Rattle.parse_laws.proofs.Externs.{Out, OutTurn, extern_out, next_out}
 use Rattle.c_tree.specs.declared.known.Storage.TheVariants as sto
 
@@ -73,7 +74,7 @@ fresh_next names here sy.Extension at u h e n = inr (inl (at, sym (ap (λ o. mod
     mode_of (Some u) = u.mode
 fresh_next names here t at u h e n = inr (inr (λ r. ap sh.is_unlisted (h (sign t at ∷ r)) ∙ first_unlisted t at r e (λ x. cc)))
 
-begun_next : (names : List (List ℕ)) (here : Reader) (t : SymbolAt) (m : Mode) (u : Turn) → Begun m here → ma.opens t.symbol t.at m ≡ None → steps.next names t m ≡ Some u → Begun u.mode (λ r. here (t ∷ r))
+pub begun_next : (names : List (List ℕ)) (here : Reader) (t : SymbolAt) (m : Mode) (u : Turn) → Begun m here → ma.opens t.symbol t.at m ≡ None → steps.next names t m ≡ Some u → Begun u.mode (λ r. here (t ∷ r))
 begun_next names here t m u (inl g) e n = fresh_next names here t.symbol t.at u g.1 (subst (λ z. ma.opens t.symbol t.at z ≡ None) g.0 e) (subst (λ z. steps.next names t z ≡ Some u) g.0 n)
 begun_next names here t m u (inr (inl g)) e n = inr (inr (λ r. ap sh.is_unlisted (g.2 (t ∷ r)) ∙ second_unlisted g.0 t.symbol t.at r (subst (λ z. ma.opens t.symbol t.at z ≡ None) g.1 e)))
 begun_next names here t m u (inr (inr g)) e n = inr (inr (λ r. g (t ∷ r)))
@@ -91,7 +92,7 @@ either_false false false h = (refl, refl)
 stop_false : (c : Bool) (x : Bool) (y : Bool) → c ≡ false → (if c then x else y) ≡ y
 stop_false c x y h = rw h refl
 
-raw_unlisted : (r : Raw) (ts : List SymbolAt) → sh.has_listed r ≡ false → sh.has_stop r ≡ false → sh.has_no_listed ts ≡ true → sh.has_no_listed (spell_raw r ts) ≡ true
+pub raw_unlisted : (r : Raw) (ts : List SymbolAt) → sh.has_listed r ≡ false → sh.has_stop r ≡ false → sh.has_no_listed ts ≡ true → sh.has_no_listed (spell_raw r ts) ≡ true
 raw_unlisted no_raw ts a c h = h
 raw_unlisted (raw_and r s) ts a c h =
     let x = either_false (sh.is_listed s.symbol) (sh.has_listed r) a in
@@ -99,11 +100,11 @@ raw_unlisted (raw_and r s) ts a c h =
     let z : sh.has_no_listed (s ∷ ts) ≡ true = stop_false (sh.is_stop s.symbol) true (not (sh.is_listed s.symbol) && sh.has_no_listed ts) y.0 ∙ ap (λ q. not q && sh.has_no_listed ts) x.0 ∙ h in
     raw_unlisted r (s ∷ ts) x.1 y.1 z
 
-extern_unlisted : (o : Option ℕ) (at : ℕ) (ts : List SymbolAt) → sh.has_no_listed ts ≡ true → sh.is_unlisted (extension o (sign (sy.Storage storage.Extern) at ∷ ts)) ≡ true
+pub extern_unlisted : (o : Option ℕ) (at : ℕ) (ts : List SymbolAt) → sh.has_no_listed ts ≡ true → sh.is_unlisted (extension o (sign (sy.Storage storage.Extern) at ∷ ts)) ≡ true
 extern_unlisted None at ts h = h
 extern_unlisted (Some x) at ts h = h
 
-stop_ends : (t : SymbolAt) (r : List SymbolAt) → sh.is_stop t.symbol ≡ true → sh.has_no_listed (t ∷ r) ≡ true
+pub stop_ends : (t : SymbolAt) (r : List SymbolAt) → sh.is_stop t.symbol ≡ true → sh.has_no_listed (t ∷ r) ≡ true
 stop_ends t r h = rw h refl
 
 -- the state of a machine that reads the item beside, where its trees are not too high
@@ -116,7 +117,7 @@ pub record Beside (file names : List (List ℕ)) (here : Reader) (m : Mode) : Ty
 
 abbrev pub GoodBoth : List (List ℕ) → List (List ℕ) → Reader → Bool → Option Mode → Type 0
 GoodBoth file names here high None = Unit {0}
-GoodBoth file names here high (Some m) = Out m × (high ≡ false → Beside file names here m)
+GoodBoth file names here high (Some m) = Out m × (high ≡ false → Beside file names here m) × Shadow file names here m
 
 low_not_high : (n : ℕ) → not (leb n 200) ≡ false → n ≤ 200
 low_not_high n h = leb-true n 200 (not_not (leb n 200) h)
@@ -164,7 +165,7 @@ item_shaped file here (tDeclaration d) h f e (inl g) = cc
 item_shaped file here (tDeclaration d) h f e (inr (inl g)) = let z = g.1 in cc
 item_shaped file here (tDeclaration d) h f e (inr (inr g)) = (f, ap sh.is_unlisted (e []) ∙ g [])
 
-filed_good : (p : Reader) (is : Items) (names : List (List ℕ)) (x : Phase) (here : Reader) → sh.ShapedItems is → ((r : List SymbolAt) → spell_items is (here r) ≡ p r) → GoodPhase (sh.file_names is) names here x → GoodState p (ma.filed is names x)
+pub filed_good : (p : Reader) (is : Items) (names : List (List ℕ)) (x : Phase) (here : Reader) → sh.ShapedItems is → ((r : List SymbolAt) → spell_items is (here r) ≡ p r) → GoodPhase (sh.file_names is) names here x → GoodState p (ma.filed is names x)
 filed_good p is names (Plain (Ended i h)) here s e g = record {
   shaped = (s, item_shaped (sh.file_names is) here i h g.2 g.3 g.4);
   here = λ r. r;
@@ -213,7 +214,11 @@ GoodSure file p o = GoodTurn file p o × SureTurn o
 
 go_reads : (file names : List (List ℕ)) (t : SymbolAt) (o : Option Mode) (high : Bool) (here : Reader) → GoodBoth file names here high o → high ≡ false → GoodSure file (λ r. here (t ∷ r)) (ma.go names t o)
 go_reads file names t None high here g h = (tt, tt)
-go_reads file names t (Some m) high here g h = let x = g.1 h in (next_reads file names t m here x.names_are x.fits x.low x.reads, next_sure file names t m x.fits x.sure)
+go_reads file names t (Some m) high here g h = let x = g.1 h in (next_reads file names t m here x.names_are x.fits x.low x.reads, next_sure file names t m here x.names_are x.fits x.reads x.sure)
+
+pub go_shadow : (file names : List (List ℕ)) (t : SymbolAt) (o : Option Mode) (high : Bool) (here : Reader) (u : Turn) → GoodBoth file names here high o → ma.go names t o ≡ Some u → Shadow file u.names (λ r. here (t ∷ r)) u.mode
+go_shadow file names t None high here u g h = cc
+go_shadow file names t (Some m) high here u g h = shadow_next file names here t m u g.2 h
 
 go_out : (file names : List (List ℕ)) (t : SymbolAt) (o : Option Mode) (high : Bool) (here : Reader) → GoodBoth file names here high o → sh.is_stop t.symbol ≡ false → OutTurn names (ma.go names t o)
 go_out file names t None high here g h = tt
@@ -228,16 +233,20 @@ settled_at p is here None high s e u h = tt
 settled_at p is here (Some w) true s e u h = λ l. absurd (omega (arith, l))
 settled_at p is here (Some w) false s e u h = λ l. let y = (h refl).0 l in record { shaped = s; here = here; split = e; phase = (l, y.0, y.1, y.2, started w.mode here (inr (inr u)), (h refl).1) }
 
+-- an item that may be skipped, at its first `;`, `=` or `{`
+pub stop_unlisted : (file names : List (List ℕ)) (here : Reader) (x : Extern) (m : Option Mode) (high : Bool) (t : SymbolAt) → GoodPhase file names here (Both x m high) → sh.is_stop t.symbol ≡ true → (r : List SymbolAt) → sh.is_unlisted (here (t ∷ r)) ≡ true
+stop_unlisted file names here x m high t g k r = ap sh.is_unlisted (sym (g.0.tokens (t ∷ r))) ∙ extern_unlisted x.extension x.at _ (raw_unlisted x.raw (t ∷ r) g.1 g.0.no_stop (stop_ends t r k))
+
 settled_good : (p : Reader) (is : Items) (names : List (List ℕ)) (here : Reader) (x : Extern) (m : Option Mode) (high : Bool) (t : SymbolAt) → sh.ShapedItems is → ((r : List SymbolAt) → spell_items is (here r) ≡ p r) → GoodPhase (sh.file_names is) names here (Both x m high) → sh.is_stop t.symbol ≡ true → GoodNext (λ r. p (t ∷ r)) (ma.settled high is (ma.go names t m))
 settled_good p is names here x m high t s e g k =
     settled_at (λ r. p (t ∷ r)) is (λ r. here (t ∷ r)) (ma.go names t m) high s (λ r. e (t ∷ r))
-    (λ r. ap sh.is_unlisted (sym (g.0.tokens (t ∷ r))) ∙ extern_unlisted x.extension x.at _ (raw_unlisted x.raw (t ∷ r) g.1 g.0.no_stop (stop_ends t r k)))
+    (stop_unlisted (sh.file_names is) names here x m high t g k)
     (λ h. go_reads (sh.file_names is) names t m high here g.2 h)
 
 -- one token more beside
-both_state : (p : Reader) (is : Items) (names : List (List ℕ)) (here : Reader) (x : Extern) (high : Bool) (o : Option Turn) → sh.ShapedItems is → ((r : List SymbolAt) → spell_items is (here r) ≡ p r) → GoodExtern (sh.file_names is) names here x → sh.has_listed x.raw ≡ false → OutTurn names o → (high ≡ false → GoodSure (sh.file_names is) here o) → GoodNext p (Some (ma.both is names x high o))
-both_state p is names here x high None s e g n w h = λ l. record { shaped = s; here = here; split = e; phase = (g, n, tt) }
-both_state p is names here x high (Some u) s e g n w h = λ l. record {
+both_state : (p : Reader) (is : Items) (names : List (List ℕ)) (here : Reader) (x : Extern) (high : Bool) (o : Option Turn) → sh.ShapedItems is → ((r : List SymbolAt) → spell_items is (here r) ≡ p r) → GoodExtern (sh.file_names is) names here x → sh.has_listed x.raw ≡ false → OutTurn names o → (high ≡ false → GoodSure (sh.file_names is) here o) → ((u : Turn) → o ≡ Some u → Shadow (sh.file_names is) u.names here u.mode) → GoodNext p (Some (ma.both is names x high o))
+both_state p is names here x high None s e g n w h k = λ l. record { shaped = s; here = here; split = e; phase = (g, n, tt) }
+both_state p is names here x high (Some u) s e g n w h q0 = λ l. record {
   shaped = s;
   here = here;
   split = e;
@@ -252,6 +261,7 @@ both_state p is names here x high (Some u) s e g n w h = λ l. record {
           let v = h z.0 in
           let y = v.0 q in
           record { low = q; names_are = y.0; fits = y.1; reads = y.2; sure = v.1 },
+      q0 u refl,
     ),
   );
 }
@@ -262,7 +272,7 @@ both_pick p is names here x m high t false true k n s e g = λ l.
     record { shaped = s; here = λ r. here (t ∷ r); split = λ r. e (t ∷ r); phase = (extern_more (sh.file_names is) names here x t g.0 k, ap (λ q. q || sh.has_listed x.raw) n) }
 both_pick p is names here x m high t false false k n s e g =
     both_state (λ r. p (t ∷ r)) is names (λ r. here (t ∷ r)) (ma.more x t) high (ma.go names t m) s (λ r. e (t ∷ r)) (extern_more (sh.file_names is) names here x t g.0 k) (ap (λ q. q || sh.has_listed x.raw) n ∙ g.1)
-    (go_out (sh.file_names is) names t m high here g.2 k) (λ h. go_reads (sh.file_names is) names t m high here g.2 h)
+    (go_out (sh.file_names is) names t m high here g.2 k) (λ h. go_reads (sh.file_names is) names t m high here g.2 h) (λ u h. go_shadow (sh.file_names is) names t m high here u g.2 h)
 
 both_good : (p : Reader) (is : Items) (names : List (List ℕ)) (here : Reader) (x : Extern) (m : Option Mode) (high : Bool) (t : Symbol) (at : ℕ) → sh.ShapedItems is → ((r : List SymbolAt) → spell_items is (here r) ≡ p r) → GoodPhase (sh.file_names is) names here (Both x m high) → GoodNext (λ r. p (sign t at ∷ r)) (ma.step_both (ma.role t) is names (sign t at) x m high)
 both_good p is names here x m high sy.Semicolon at s e g = settled_good p is names here x m high (sign sy.Semicolon at) s e g refl
@@ -303,12 +313,13 @@ opened_out file names _ at m x f e = cc
 
 plain_step : (p : Reader) (is : Items) (names : List (List ℕ)) (here : Reader) (t : SymbolAt) (m : Mode) (o : Option Extern) → ma.opens t.symbol t.at m ≡ o → sh.ShapedItems is → ((r : List SymbolAt) → spell_items is (here r) ≡ p r) → GoodPlain (sh.file_names is) names here m → GoodNext (λ r. p (t ∷ r)) (ma.step_plain o is names t m)
 plain_step p is names here t m None k s e g =
-    plain_good (λ r. p (t ∷ r)) is (λ r. here (t ∷ r)) (steps.next names t m) s (λ r. e (t ∷ r)) (next_reads (sh.file_names is) names t m here g.1 g.2 g.0 g.3) (λ u n. started_next names here t m u g.4 k n) (next_sure (sh.file_names is) names t m g.2 g.5)
+    plain_good (λ r. p (t ∷ r)) is (λ r. here (t ∷ r)) (steps.next names t m) s (λ r. e (t ∷ r)) (next_reads (sh.file_names is) names t m here g.1 g.2 g.0 g.3) (λ u n. started_next names here t m u g.4 k n) (next_sure (sh.file_names is) names t m here g.1 g.2 g.3 g.5)
 plain_step p is names here t m (Some x) k s e g =
     let q = opened_at (sh.file_names is) t.symbol t.at m here x g.3 k in
     both_state (λ r. p (t ∷ r)) is names (λ r. here (t ∷ r)) x false (steps.next names t m) s (λ r. e (t ∷ r))
     (record { tokens = λ r. q.0.tokens r ∙ ap (λ z. here (sign z t.at ∷ r)) (sym q.1); outside = g.1 ∙ q.0.outside; no_stop = ap sh.has_stop q.0.raw }) (ap sh.has_listed q.0.raw)
-    (opened_out (sh.file_names is) names t.symbol t.at m x g.2 k) (λ h. (next_reads (sh.file_names is) names t m here g.1 g.2 g.0 g.3, next_sure (sh.file_names is) names t m g.2 g.5))
+    (opened_out (sh.file_names is) names t.symbol t.at m x g.2 k) (λ h. (next_reads (sh.file_names is) names t m here g.1 g.2 g.0 g.3, next_sure (sh.file_names is) names t m here g.1 g.2 g.3 g.5))
+    (λ u h. shadow_next (sh.file_names is) names here t m u (own_shadow (sh.file_names is) names here m g.1 g.2 g.3 g.5) h)
 
 phase_good : (p : Reader) (is : Items) (names : List (List ℕ)) (here : Reader) (t : SymbolAt) (x : Phase) → sh.ShapedItems is → ((r : List SymbolAt) → spell_items is (here r) ≡ p r) → GoodPhase (sh.file_names is) names here x → GoodNext (λ r. p (t ∷ r)) (ma.step_phase is names t x)
 phase_good p is names here t (Plain m) s e g = plain_step p is names here t m (ma.opens t.symbol t.at m) refl s e g

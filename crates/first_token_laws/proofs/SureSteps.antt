@@ -1,4 +1,5 @@
 -- A declared name of the type `void` without parameters gets no attribute: one token, in each mode.
+use Rattle.first_token_laws.proofs.Full as full
 use Rattle.std.proofs.Common.{◌≡◌, ℕ, List, [], Option, None, Some, Bool, true, false, ◌||◌, not, if◌then◌else◌, refl}
 use Rattle.c_tree.specs.declared.symbol.AssignOp.TheVariants as to
 use Rattle.c_tree.specs.declared.symbol.Bracket.TheVariants as br
@@ -65,7 +66,7 @@ cast_sure : (t : Symbol) (at : ℕ) (s : Spoken) (a : ℕ) (k : Inner) → SureM
 cast_sure (sy.Close br.Round) at s a k = tt
 cast_sure _ at s a k = tt
 
-behind_sizeof_sure : (t : Symbol) (at : ℕ) (s : Spoken) (x a : ℕ) (k : Inner) → SureMode (sp.behind_sizeof t at s x a k)
+behind_sizeof_sure : (t : Symbol) (at : ℕ) (s : Spoken) (x a : ℕ) (k : Inner) → SureMode (full.behind_sizeof t at s x a k)
 behind_sizeof_sure (sy.Close br.Round) at s x a k = tt
 behind_sizeof_sure _ at s x a k = tt
 
@@ -80,13 +81,13 @@ behind_place_sure (sy.Name n) at s p = λ h. refl
 behind_place_sure sy.Semicolon at s p = when_sure (not (is_void s.told.typing)) _ (ended_sure (mk.declaring p s mk.no_more) at)
 behind_place_sure _ at s p = tt
 
-behind_words_sure : (t : Symbol) (at : ℕ) (s : Spoken) (w : Around) → SureMode (sp.behind_words t at s w)
+behind_words_sure : (t : Symbol) (at : ℕ) (s : Spoken) (w : Around) → SureMode (full.behind_words t at s w)
 behind_words_sure t at s (aroundCast a k) = cast_sure t at s a k
 behind_words_sure t at s (aroundSizeof x a k) = behind_sizeof_sure t at s x a k
 behind_words_sure t at s (aroundParameter d a ps c) = behind_parameter_sure t at s d a ps c
 behind_words_sure t at s (aroundPlace p) = behind_place_sure t at s p
 
-kind_sure : (x : SpecKind) (t : Symbol) (at : ℕ) (s : Spoken) (w : Around) → SureMode (sp.step_kind x t at s w)
+kind_sure : (x : SpecKind) (t : Symbol) (at : ℕ) (s : Spoken) (w : Around) → SureMode (full.step_kind x t at s w)
 kind_sure (spType x) t at s w = word_sure s w (wType x at) (with_type (sp.site_of w) x s.told)
 kind_sure (spStorage x) t at s w = word_sure s w (wStorage x at) (with_storage (sp.site_of w) x s.told)
 kind_sure (spConst x) t at s w = tt
@@ -96,7 +97,7 @@ kind_sure spEnum t at s w = enum_sure at s w (with_named s.told)
 kind_sure (spTypedef n) t at s w = word_sure s w (wTypedef n at) (with_named s.told)
 kind_sure spOther t at s w = if_sure (is_typed s.told.typing) _ (behind_words_sure t at s w)
 
-specs_sure : (names : List (List ℕ)) (t : Symbol) (at : ℕ) (s : Spoken) (w : Around) → SureMode (sp.step_specs names t at s w)
+specs_sure : (names : List (List ℕ)) (t : Symbol) (at : ℕ) (s : Spoken) (w : Around) → SureMode (full.step_specs names t at s w)
 specs_sure names t at s w = kind_sure (spec_of names t) t at s w
 
 enumeration_sure : (names : List (List ℕ)) (t : Symbol) (at x : ℕ) (s : Spoken) (w : Around) → SureMode (sp.step_enumeration names t at x s w)
@@ -104,7 +105,7 @@ enumeration_sure names (sy.Name n) at x s w = when_sure (not (sh.has names n)) _
 enumeration_sure names (sy.Open br.Curly) at x s w = tt
 enumeration_sure names _ at x s w = tt
 
-tagged_sure : (names : List (List ℕ)) (t : Symbol) (at x : ℕ) (n : List ℕ) (y : ℕ) (s : Spoken) (w : Around) → SureMode (sp.step_tagged names t at x n y s w)
+tagged_sure : (names : List (List ℕ)) (t : Symbol) (at x : ℕ) (n : List ℕ) (y : ℕ) (s : Spoken) (w : Around) → SureMode (full.step_tagged names t at x n y s w)
 tagged_sure names (sy.Open br.Curly) at x n y s w = tt
 tagged_sure names t at x n y s w = specs_sure names t at (mk.said s s.told (wTag x n y) 1) w
 
@@ -162,7 +163,7 @@ listed_sure sy.Comma at d = tt
 listed_sure sy.Semicolon at d = ended_sure d at
 listed_sure _ at d = tt
 
-parameters_sure : (names : List (List ℕ)) (t : Symbol) (at : ℕ) (d : Declared) (a : ℕ) → SureMode (decl.step_parameters names t at d a)
+parameters_sure : (names : List (List ℕ)) (t : Symbol) (at : ℕ) (d : Declared) (a : ℕ) → SureMode (full.step_parameters names t at d a)
 parameters_sure names (sy.Close br.Round) at d a = function_sure d (tall (fFunction (pUnknown a at)) 1) refl
 parameters_sure names (sy.Type type.Void) at d a = tt
 parameters_sure names t at d a = specs_sure names t at mk.unspoken (aroundParameter d a (tall no_params 0) None)
@@ -177,7 +178,7 @@ parameter_sure _ at d a ps c s n x = tt
 fork_words_fit : (file : List (List ℕ)) (f : Fork) (ats : List ℕ) → FitFork file f → FitInner file (stt.extension_binds ats (stt.fork_inner f))
 fork_words_fit file f ats w = binds_fit file ats (stt.fork_inner f) (fork_fits file f w)
 
-fork_kind_sure : (file names : List (List ℕ)) (x : SpecKind) (t : Symbol) (at : ℕ) (f : Fork) (ats : List ℕ) → FitFork file f → SureMode (stt.fork_kind names x t at f ats)
+fork_kind_sure : (file names : List (List ℕ)) (x : SpecKind) (t : Symbol) (at : ℕ) (f : Fork) (ats : List ℕ) → FitFork file f → SureMode (full.fork_kind names x t at f ats)
 fork_kind_sure file names spExtension t at f ats w = tt
 fork_kind_sure file names spOther t at f ats w = maybe_sure file names t at (stt.extension_binds ats (stt.fork_inner f)) (fork_words_fit file f ats w)
 fork_kind_sure file names (spType x) t at f ats w = specs_sure names t at _ (stt.fork_around f)
@@ -187,7 +188,7 @@ fork_kind_sure file names (spAttribute x) t at f ats w = specs_sure names t at _
 fork_kind_sure file names spEnum t at f ats w = specs_sure names t at _ (stt.fork_around f)
 fork_kind_sure file names (spTypedef n) t at f ats w = specs_sure names t at _ (stt.fork_around f)
 
-either_sure : (file names : List (List ℕ)) (t : Symbol) (at : ℕ) (f : Fork) (ats : List ℕ) → FitFork file f → SureMode (stt.step_either names t at f ats)
+either_sure : (file names : List (List ℕ)) (t : Symbol) (at : ℕ) (f : Fork) (ats : List ℕ) → FitFork file f → SureMode (full.step_either names t at f ats)
 either_sure file names t at f ats w = fork_kind_sure file names (spec_of names t) t at f ats w
 
 begin_word_sure : (w : StatementWord) (at : ℕ) (o : Outer) → SureMode (stt.begin_word w at o)
@@ -210,25 +211,25 @@ close_block_sure names at (outBlock m a ss o) = tt
 close_block_sure names at (outDo x o) = tt
 close_block_sure names at (outWrap w o) = tt
 
-other_sure : (file names : List (List ℕ)) (t : Symbol) (at : ℕ) (o : Outer) (c : Bool) → is_list o ≡ c → FitOuter file o → SureMode (if c then stt.step_either names t at (forkBlock o) [] else ex.step_operand names (prefix_of t) at (inBase (baseStatement o)))
+other_sure : (file names : List (List ℕ)) (t : Symbol) (at : ℕ) (o : Outer) (c : Bool) → is_list o ≡ c → FitOuter file o → SureMode (if c then full.step_either names t at (forkBlock o) [] else full.step_operand names (prefix_of t) at (inBase (baseStatement o)))
 other_sure file names t at o true e f = either_sure file names t at (forkBlock o) [] (e, f)
 other_sure file names t at o false e f = operand_sure names (prefix_of t) at (inBase (baseStatement o))
 
-start_sure : (file names : List (List ℕ)) (x : Start) (t : Symbol) (at : ℕ) (o : Outer) → FitOuter file o → SureTurn (stt.step_start names x t at o)
+start_sure : (file names : List (List ℕ)) (x : Start) (t : Symbol) (at : ℕ) (o : Outer) → FitOuter file o → SureTurn (full.step_start names x t at o)
 start_sure file names startEmpty t at o f = tt
 start_sure file names startOpen t at o f = tt
 start_sure file names startClose t at o f = close_block_sure names at o
 start_sure file names (startWord w) t at o f = kept_sure names _ (begin_word_sure w at o)
 start_sure file names startOther t at o f = kept_sure names _ (other_sure file names t at o (is_list o) refl f)
 
-begin_sure : (file names : List (List ℕ)) (t : Symbol) (at : ℕ) (o : Outer) → FitOuter file o → SureTurn (stt.step_begin names t at o)
+begin_sure : (file names : List (List ℕ)) (t : Symbol) (at : ℕ) (o : Outer) → FitOuter file o → SureTurn (full.step_begin names t at o)
 begin_sure file names t at o f = start_sure file names (start_of t) t at o f
 
 goto_sure : (names : List (List ℕ)) (t : Symbol) (at x : ℕ) (o : Outer) → SureMode (stt.step_goto names t at x o)
 goto_sure names (sy.Name n) at x o = when_sure (not (sh.has names n)) _ tt
 goto_sure names _ at x o = tt
 
-label_sure : (file names : List (List ℕ)) (t : Symbol) (at : ℕ) (n : List ℕ) (x y : ℕ) (ats : Ats) (o : Outer) → FitOuter file (outWrap (wLabel n x y ats) o) → SureTurn (stt.step_label names t at n x y ats o)
+label_sure : (file names : List (List ℕ)) (t : Symbol) (at : ℕ) (n : List ℕ) (x y : ℕ) (ats : Ats) (o : Outer) → FitOuter file (outWrap (wLabel n x y ats) o) → SureTurn (full.step_label names t at n x y ats o)
 label_sure file names (sy.Attribute w) at n x y ats o f = tt
 label_sure file names t at n x y ats o f = begin_sure file names t at (outWrap (wLabel n x y ats) o) f
 
@@ -262,16 +263,16 @@ otherwise_sure names at (outWrap (wCase x e c) o) s = otherwise_sure names at o 
 otherwise_sure names at (outWrap (wDefault x c) o) s = otherwise_sure names at o _
 otherwise_sure names at (outWrap (wLabel n x c ats) o) s = otherwise_sure names at o _
 
-settled_sure : (file names ns : List (List ℕ)) (t : Symbol) (at : ℕ) (o : Outer) (s : St) → FitOuter file o → sh.ShapedStatement s (scope file o) → Stands s o → SureTurn (stt.step_settled t at (stt.settle names o s))
+settled_sure : (file names ns : List (List ℕ)) (t : Symbol) (at : ℕ) (o : Outer) (s : St) → FitOuter file o → sh.ShapedStatement s (scope file o) → Stands s o → SureTurn (full.step_settled t at (stt.settle names o s))
 settled_sure file names ns t at (outBody m h a ss) s f g d = begin_sure file names t at (outBody m h a (statements_and ss s)) (f.0, f.1, f.2, (f.3, g))
 settled_sure file names ns t at (outBlock m a ss o) s f g d = begin_sure file names t at (outBlock m a (statements_and ss s) o) (f.0, (f.1, g), f.2)
 settled_sure file names ns t at (outDo x o) s f g d = kept_sure names _ (wait_sure names t at (waitWhile x s o) tt)
 settled_sure file names ns t at (outWrap w o) s f g d = settled_sure file (stt.left w names) ns t at o (wrapped w s) f.1 (wrap_shaped (scope file o) w s f.0 (is_statement s (outWrap w o) refl d) g) (wrap_stands w s o)
 
-whole_sure : (file names : List (List ℕ)) (t : Symbol) (at : ℕ) (s : St) (o : Outer) → Fit file (Whole s o) → SureTurn (stt.step_whole names t at s o)
+whole_sure : (file names : List (List ℕ)) (t : Symbol) (at : ℕ) (s : St) (o : Outer) → Fit file (Whole s o) → SureTurn (full.step_whole names t at s o)
 whole_sure file names t at s o f = pick (is_else t)
   where
-    pick : (c : Bool) → SureTurn (if c then stt.otherwise names at o s else stt.step_settled t at (stt.settle names o s))
+    pick : (c : Bool) → SureTurn (if c then stt.otherwise names at o s else full.step_settled t at (stt.settle names o s))
     pick true = otherwise_sure names at o s
     pick false = settled_sure file names names t at o s f.3 f.2 f.1
 
@@ -292,12 +293,12 @@ body_sure (skipOn n) t h a r = tt
 body_sure skipClose t h a r = tt
 body_sure skipEnd t h a r = tt
 
-file_sure : (names : List (List ℕ)) (t : Symbol) (at : ℕ) → SureMode (steps.step_file names t at)
+file_sure : (names : List (List ℕ)) (t : Symbol) (at : ℕ) → SureMode (full.step_file names t at)
 file_sure names sy.Semicolon at = tt
 file_sure names sy.End at = tt
 file_sure names t at = specs_sure names t at mk.unspoken (aroundPlace placeFile)
 
-pub next_sure : (file names : List (List ℕ)) (t : SymbolAt) (m : Mode) → Fit file m → Sure m → SureTurn (steps.next names t m)
+pub next_sure : (file names : List (List ℕ)) (t : SymbolAt) (m : Mode) → Fit file m → Sure m → SureTurn (full.next names t m)
 next_sure file names t File f z = kept_sure names _ (file_sure names t.symbol t.at)
 next_sure file names t (Ended i h) f z = tt
 next_sure file names t (Specifiers s w) f z = kept_sure names _ (specs_sure names t.symbol t.at s w)
