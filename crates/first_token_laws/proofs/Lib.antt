@@ -33,3 +33,4 @@ mod Sim
 mod SimEx
 mod SimSteps
 mod Shadow
+mod HighFirst

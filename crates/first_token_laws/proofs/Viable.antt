@@ -46,6 +46,12 @@ begun_viable tokens is here m s e h f z g (inr (inr k)) =
     let q : (r : List SymbolAt) → spell_item w.item r ≡ here (w.more r) = λ r. w.spelled r ∙ reads_of m here h g (w.more r) in
     item_begins tokens is w.item w.more s (unlisted_shaped (sh.file_names is) w.item w.fits (ap sh.is_unlisted (q []) ∙ k (w.more []))) (λ r. ap (spell_items is) (q r) ∙ e (w.more r))
 
+-- a mode that keeps its trees, behind so much of an item that it is not skipped
+pub shadow_viable : (tokens : List SymbolAt) (is : Items) (here : Reader) (m : Mode) → sh.ShapedItems is → ((r : List SymbolAt) → spell_items is (here r) ≡ tokens ++ r) → Fit (sh.file_names is) m → Sure m → Reads m here → ((r : List SymbolAt) → sh.is_unlisted (here r) ≡ true) → Begins tokens
+shadow_viable tokens is here File s e f z g u = record { tree = is; shaped = s; end = 0; more = sign sy.End 0 ∷ []; spelled = ap (spell_items is) (g (sign sy.End 0 ∷ [])) ∙ e (sign sy.End 0 ∷ []) }
+shadow_viable tokens is here Finished s e f z g u = record { tree = is; shaped = s; end = g.0; more = []; spelled = ap (spell_items is) (g.1 []) ∙ e [] }
+shadow_viable tokens is here m s e f z g u = begun_viable tokens is here m s e tt f z g (inr (inr u))
+
 -- outside of items that may be skipped
 plain_viable : (tokens : List SymbolAt) (is : Items) (names : List (List ℕ)) (here : Reader) (m : Mode) → sh.ShapedItems is → ((r : List SymbolAt) → spell_items is (here r) ≡ tokens ++ r) → GoodPlain (sh.file_names is) names here m → Begins tokens
 plain_viable tokens is names here File s e g = record { tree = is; shaped = s; end = 0; more = sign sy.End 0 ∷ []; spelled = ap (spell_items is) (g.3 (sign sy.End 0 ∷ [])) ∙ e (sign sy.End 0 ∷ []) }

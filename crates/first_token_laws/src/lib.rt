@@ -2,7 +2,7 @@
 //! without the machine that finds it.
 #![tactic(auto)]
 
-ghost use Rattle.first_token_laws.specs.Laws.{FaultsFirst, HasOneTree, IsViable};
+ghost use Rattle.first_token_laws.specs.Laws.{FaultsFirst, HasOneTree, IsViable, LimitsRightly};
 
 /// Some shaped tree begins with the tokens that the machine reads without stopping.
 pub fn viable_tokens()
@@ -12,6 +12,12 @@ pub fn viable_tokens()
 /// A fault is at the first token up to which no shaped tree, of whatever height, begins.
 pub fn first_refusals()
     ensures { FaultsFirst }
+{}
+
+/// The limit on the height is passed only where some shaped tree begins with the tokens up to there, and each such tree is
+/// higher than 200.
+pub fn limits()
+    ensures { LimitsRightly }
 {}
 
 /// Two shaped trees with the same tokens are equal, whatever their heights.
