@@ -88,7 +88,7 @@ fork_fits file (forkSizeof at a k) w = (tt, (tt, w))
 fork_fits file (forkBlock o) w = w.1
 fork_fits file (forkFor m at a o) w = w
 
-fork_reads : (f : Fork) (r : List SymbolAt) → b.inner (stt.fork_inner f) r ≡ b.fork f r
+pub fork_reads : (f : Fork) (r : List SymbolAt) → b.inner (stt.fork_inner f) r ≡ b.fork f r
 fork_reads (forkCast a k) r = refl
 fork_reads (forkSizeof at a k) r = refl
 fork_reads (forkBlock o) r = refl
@@ -98,7 +98,7 @@ pub binds_fit : (file : List (List ℕ)) (ats : List ℕ) (k : Inner) → FitInn
 binds_fit file [] k f = f
 binds_fit file (x ∷ ats) k f = binds_fit file ats (inBind (bPrefix pre.Extension x) k) (tt, f)
 
-binds_read : (ats : List ℕ) (k : Inner) (r : List SymbolAt) → b.inner (stt.extension_binds ats k) r ≡ b.inner k (b.extensions ats r)
+pub binds_read : (ats : List ℕ) (k : Inner) (r : List SymbolAt) → b.inner (stt.extension_binds ats k) r ≡ b.inner k (b.extensions ats r)
 binds_read [] k r = refl
 binds_read (x ∷ ats) k r = binds_read ats (inBind (bPrefix pre.Extension x) k) r
 

@@ -42,7 +42,7 @@ wrap_shaped ns (wCase at e c) s f i g = (f.0, f.1, i, g)
 wrap_shaped ns (wDefault at c) s f i g = (i, g)
 wrap_shaped ns (wLabel n at c ats) s f i g = (f.0, f.1, i, g)
 
-wrap_spells : (w : Wrap) (s : St) (r : List SymbolAt) → spell_statement (wrapped w s) r ≡ b.wrap w (spell_statement s r)
+pub wrap_spells : (w : Wrap) (s : St) (r : List SymbolAt) → spell_statement (wrapped w s) r ≡ b.wrap w (spell_statement s r)
 wrap_spells (wThen h) s r = refl
 wrap_spells (wElse h a at) s r = refl
 wrap_spells (wWhile h) s r = refl

@@ -1,4 +1,4 @@
--- The first token of an expression or of a word does the same in two modes, whatever the height.
+-- The first token of an expression or of a word does the same in two modes of the machine that keeps each tree.
 use Rattle.first_token_laws.proofs.Full as full
 use Rattle.std.proofs.Common.{◌≡◌, ℕ, List, [], ◌∷◌, ◌++◌, None, Some, Bool, true, false, not, if◌then◌else◌, refl, subst, sym, ap}
 use Rattle.c_tree.specs.declared.symbol.BinaryOp.TheVariants as op

@@ -1,4 +1,4 @@
--- What is open once an expression's tokens are read, and what makes it whole.
+-- What the machine that keeps each tree has open once an expression's tokens are read, and what makes it whole.
 use Rattle.first_token_laws.proofs.Full as full
 use Rattle.std.proofs.Common.{◌≡◌, ℕ, ◌≤◌, List, None, Some, true, refl, ◌∙◌, arith, le-leb, leb}
 use Rattle.c_tree.specs.Shape as sh

@@ -104,7 +104,7 @@ behind_declared_good file _ at d f = tt
 
 pub next_declared_good : (file : List (List ℕ)) (t : Symbol) (at : ℕ) (d : Declaring) (c : ℕ) → Fit file (Next d c) → GoodMode file (declaring_names file d) (λ r. b.declaring d (sign sy.Comma c ∷ sign t at ∷ r)) (decl.step_next (declaring_names file d) t at d c)
 next_declared_good file (sy.Name n) at d c f =
-    tested file _ _ (not (sh.has (declaring_names file d) n)) _ (λ h. 
+    tested file _ _ (not (sh.has (declaring_names file d) n)) _ (λ h.
     (refl, record { around = f.0; comma = comma_some _ c f.1; name = not_true _ h; shaped = tt; attributes = tt; form = tt }, λ r. refl))
 next_declared_good file _ at d c f = tt
 
@@ -118,7 +118,7 @@ listed_declared_good file sy.Semicolon at d f = ended_good file d at f.0 (may_en
 listed_declared_good file _ at d f = tt
 
 pub parameters_good : (file : List (List ℕ)) (t : Symbol) (at : ℕ) (d : Declared) (a : ℕ) → FitFunction file d → GoodMode file (declared_names file d) (λ r. b.declared d (opening br.Round a ∷ sign t at ∷ r)) (full.step_parameters (declared_names file d) t at d a)
-parameters_good file (sy.Close br.Round) at d a f = 
+parameters_good file (sy.Close br.Round) at d a f =
     let x = tall (fFunction (pUnknown a at)) 1 in
     (refl, with_form_fits file d x f.declared tt (f.place, f.storage), λ r. formed_reads d x f.bare r)
 parameters_good file (sy.Type type.Void) at d a f = (refl, f, λ r. refl)

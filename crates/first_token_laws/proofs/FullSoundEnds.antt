@@ -1,6 +1,6 @@
--- The machine that keeps each tree: What ends an expression.
+-- The machine that keeps each tree: what ends an expression.
 use Rattle.first_token_laws.proofs.Full as full
-use Rattle.std.proofs.Common.{◌≡◌, ℕ, ◌≤◌, max, List, ◌∷◌, Option, None, Some, true, false, ◌&&◌, leb, refl, sym, ap, ◌∙◌, arith, leb-true}
+use Rattle.std.proofs.Common.{◌≡◌, ℕ, ◌≤◌, max, List, ◌∷◌, Option, None, Some, true, false, leb, refl, sym, ap, ◌∙◌, arith, leb-true}
 use Rattle.c_tree.specs.declared.symbol.AssignOp.TheVariants as to
 use Rattle.c_tree.specs.declared.symbol.Bracket.TheVariants as br
 use Rattle.c_tree.specs.declared.symbol.Symbol.{Symbol}
@@ -9,10 +9,10 @@ use Rattle.c_tree.specs.declared.symbol.SymbolAt.{SymbolAt}
 use Rattle.c_tree.specs.declared.known.Site.{Site}
 use Rattle.c_tree.specs.declared.known.Known.{Known}
 use Rattle.c_tree.specs.Symbols.{sign}
-use Rattle.c_tree.specs.Spelling.{level, level_of, opening, closing, word, comma, spell, spell_parts, spell_words, spell_word, spell_enumerators, spell_attributes, spell_form, spell_declarators}
+use Rattle.c_tree.specs.Spelling.{level, level_of, opening, closing, word, comma, spell, spell_parts, spell_words, spell_word, spell_enumerators, spell_declarators}
 use Rattle.c_tree.specs.Shape as sh
 use Rattle.c_tree.specs.Words.{known, with_named, is_typed}
-use Rattle.c_tree.specs.Tree.{Ats, no_attributes, attributes_and, Ex, eParen, eCall, eIndex, ePostfix, Parts, Words, words_and, Ens, Form, fPlain, fArray, fFunction, iValue, iList, Decs, declares, head}
+use Rattle.c_tree.specs.Tree.{Ex, eParen, eCall, eIndex, ePostfix, Parts, Words, words_and, Ens, fArray, iValue, iList, Decs, declares, head}
 use Rattle.parse_machine.specs.Tokens.{suffix_of}
 use Rattle.parse_machine.specs.Contexts.{Tall, Part, Spoken, Opened, oParen, oIndex, oArgument, Test, testIf, testWhile, testSwitch, Outer, outWrap, Place, placeFile, placeBlock, placeFor, Declaring, Declared, EnumHead, headBare, headTagged, Base, baseStatement, baseTest, baseDo, baseReturn, baseStart, baseMore, baseStep, baseLength, baseInitial, basePart, Inner, inBase, inOpen, inConstant, Listing, Begin, Value}
 use Rattle.parse_machine.specs.Making as mk
@@ -47,12 +47,6 @@ pub ended_good : (file : List (List ℕ)) (d : Declaring) (at : ℕ) → FitDecl
 ended_good file d at f m = ended_at_good file d.place d.spoken d.before at (mk.declaration_height d) f.place f.spoken f.typed f.before m
 
 -- Behind a bare name.
-
-formed : (g : Form) (ats : Ats) (f : Form) (r : List SymbolAt) → (decl.is_plain g && decl.are_no_attributes ats) ≡ true → spell_form f (spell_attributes ats r) ≡ spell_form g (spell_attributes ats (spell_form f r))
-formed fPlain no_attributes f r h = refl
-formed fPlain (attributes_and ats a) f r h = cc
-formed (fArray a e c) ats f r h = cc
-formed (fFunction ps) ats f r h = cc
 
 -- Round brackets.
 
@@ -93,7 +87,7 @@ close_square_open_good file ns p at e _ k g = tt
 
 close_square_base_good : (file ns : List (List ℕ)) (p : Reader) (at : ℕ) (e : Part) (x : Base) → GoodHeld file ns p (ex.held e (inBase x)) → GoodMode file ns (λ r. p (closing br.Square at ∷ r)) (ex.close_square_base at e x)
 close_square_base_good file ns p at e (baseLength d a) g =
-    tested file ns _ (leb 2 e.level) _ (λ h. 
+    tested file ns _ (leb 2 e.level) _ (λ h.
     let v : 2 ≤ level_of e.value = omega (arith, leb-true _ _ h, g.fits.level) in
     (g.names, with_form_fits file d (tall (fArray a (Some e.value) at) e.height) g.around.0 (v, g.fits.shaped) g.around.2, λ r. formed_reads d (tall (fArray a (Some e.value) at) e.height) g.around.1 r ∙ g.reads (closing br.Square at ∷ r)))
 close_square_base_good file ns p at e _ g = tt

@@ -79,21 +79,21 @@ sizeof_good file t at x k f = operand_good file t at (inBind (bPrefix pre.Sizeof
 
 pub binary_good : (file ns : List (List ℕ)) (p : Reader) (o : BinaryOp) (at : ℕ) (e : Part) (k : Inner) → GoodHeld file ns p (ex.held e k) → GoodMode file ns (λ r. p (sign (sy.Binary o) at ∷ r)) (ex.binary o at e k)
 binary_good file ns p o at e k g =
-    tested file ns _ (leb (least k) (level o) && leb (level o) e.level) _ (λ h. 
+    tested file ns _ (leb (least k) (level o) && leb (level o) e.level) _ (λ h.
     let x = leb-true _ _ (both_left (leb (least k) (level o)) (leb (level o) e.level) h) in
     let y = leb-true _ _ (both_right (leb (least k) (level o)) (leb (level o) e.level) h) in
     (g.names, ((x, omega (arith, y, g.fits.level), g.fits.shaped), g.around), λ r. g.reads (sign (sy.Binary o) at ∷ r)))
 
 pub assign_good : (file ns : List (List ℕ)) (p : Reader) (o : AssignOp) (at : ℕ) (e : Part) (k : Inner) → GoodHeld file ns p (ex.held e k) → GoodMode file ns (λ r. p (sign (sy.Assign o) at ∷ r)) (ex.assign o at e k)
 assign_good file ns p o at e k g =
-    tested file ns _ (leb (least k) 1 && leb 14 e.level) _ (λ h. 
+    tested file ns _ (leb (least k) 1 && leb 14 e.level) _ (λ h.
     let x = leb-true _ _ (both_left (leb (least k) 1) (leb 14 e.level) h) in
     let y = leb-true _ _ (both_right (leb (least k) 1) (leb 14 e.level) h) in
     (g.names, ((x, omega (arith, y, g.fits.level), g.fits.shaped), g.around), λ r. g.reads (sign (sy.Assign o) at ∷ r)))
 
 pub question_good : (file ns : List (List ℕ)) (p : Reader) (at : ℕ) (e : Part) (k : Inner) → GoodHeld file ns p (ex.held e k) → GoodMode file ns (λ r. p (sign sy.Question at ∷ r)) (ex.question at e k)
 question_good file ns p at e k g =
-    tested file ns _ (leb (least k) 2 && leb 3 e.level) _ (λ h. 
+    tested file ns _ (leb (least k) 2 && leb 3 e.level) _ (λ h.
     let x = leb-true _ _ (both_left (leb (least k) 2) (leb 3 e.level) h) in
     let y = leb-true _ _ (both_right (leb (least k) 2) (leb 3 e.level) h) in
     (g.names, ((x, omega (arith, y, g.fits.level), g.fits.shaped), g.around), λ r. g.reads (sign sy.Question at ∷ r)))
@@ -102,35 +102,31 @@ question_good file ns p at e k g =
 
 sequence_good : (file ns : List (List ℕ)) (p : Reader) (at : ℕ) (e : Part) (k : Inner) → GoodHeld file ns p (ex.held e k) → GoodMode file ns (λ r. p (sign sy.Comma at ∷ r)) (ex.sequence at e k)
 sequence_good file ns p at e k g =
-    tested file ns _ (leb (least k) 0 && leb 1 e.level) _ (λ h. 
+    tested file ns _ (leb (least k) 0 && leb 1 e.level) _ (λ h.
     let x = leb-true _ _ (both_left (leb (least k) 0) (leb 1 e.level) h) in
     let y = leb-true _ _ (both_right (leb (least k) 0) (leb 1 e.level) h) in
     (g.names, ((x, refl, (tt, omega (arith, y, g.fits.level), tt, g.fits.shaped)), g.around), λ r. g.reads (sign sy.Comma at ∷ r)))
 
--- a declared name that does not declare a typedef name leaves the names
-object_names : (c : Bool) (x y : List (List ℕ)) → c ≡ false → (if c then x else y) ≡ y
-object_names c x y h = rw h refl
-
 comma_base_good : (file ns : List (List ℕ)) (p : Reader) (at : ℕ) (e : Part) (x : Base) → GoodHeld file ns p (ex.held e (inBase x)) → GoodMode file ns (λ r. p (sign sy.Comma at ∷ r)) (ex.comma_base at e x)
 comma_base_good file ns p at e (baseInitial d y) g =
-    tested file ns _ (leb 1 e.level) _ (λ h. 
+    tested file ns _ (leb 1 e.level) _ (λ h.
     let v : 1 ≤ level_of e.value = omega (arith, leb-true _ _ h, g.fits.level) in
     let w = with_initial_fits file d (iValue y e.value) e.height g.around.0 (may_value _ _ _ y e.value g.around.2 g.around.1) (v, g.fits.shaped) in
     (g.names ∙ object_with_names file d (iValue y e.value) e.height g.around.2, (w, refl), λ r. g.reads (sign sy.Comma at ∷ r)))
 comma_base_good file ns p at e (basePart d y a es c) g =
-    tested file ns _ (leb 1 e.level) _ (λ h. 
+    tested file ns _ (leb 1 e.level) _ (λ h.
     (g.names, (g.around.0, g.around.1, g.around.2, parts_more _ es.value c e g.around.3 g.around.4 (leb-true _ _ h) g.fits, tt), λ r. g.reads (sign sy.Comma at ∷ r)))
 comma_base_good file ns p at e x g = sequence_good file ns p at e (inBase x) g
 
 comma_open_good : (file ns : List (List ℕ)) (p : Reader) (at : ℕ) (e : Part) (x : Opened) (k : Inner) → GoodHeld file ns p (ex.held e (inOpen x k)) → GoodMode file ns (λ r. p (sign sy.Comma at ∷ r)) (ex.comma_open at e x k)
 comma_open_good file ns p at e (oArgument f a es c) k g =
-    tested file ns _ (leb 1 e.level) _ (λ h. 
+    tested file ns _ (leb 1 e.level) _ (λ h.
     (g.names, ((g.around.0.0, g.around.0.1, parts_more _ es.value c e g.around.0.2 g.around.0.3 (leb-true _ _ h) g.fits, tt), g.around.1), λ r. g.reads (sign sy.Comma at ∷ r)))
 comma_open_good file ns p at e x k g = sequence_good file ns p at e (inOpen x k) g
 
 comma_bind_good : (file ns : List (List ℕ)) (p : Reader) (at : ℕ) (e : Part) (x : Bind) (k : Inner) → GoodHeld file ns p (ex.held e (inBind x k)) → GoodMode file ns (λ r. p (sign sy.Comma at ∷ r)) (ex.comma_bind at e x k)
 comma_bind_good file ns p at e (bComma es c) k g =
-    tested file ns _ (leb 1 e.level) _ (λ h. 
+    tested file ns _ (leb 1 e.level) _ (λ h.
     (g.names, ((g.around.0.0, refl, parts_more _ es.value (Some c) e g.around.0.2 (comma_some _ c g.around.0.1) (leb-true _ _ h) g.fits), g.around.1), λ r. g.reads (sign sy.Comma at ∷ r)))
 comma_bind_good file ns p at e _ k g = tt
 
@@ -139,7 +135,7 @@ comma_good file ns p at e (inBase x) g = comma_base_good file ns p at e x g
 comma_good file ns p at e (inBind x k) g = comma_bind_good file ns p at e x k g
 comma_good file ns p at e (inOpen x k) g = comma_open_good file ns p at e x k g
 comma_good file ns p at e (inConstant w s y es c n x a) g =
-    tested file ns _ (leb 2 e.level) _ (λ h. 
+    tested file ns _ (leb 2 e.level) _ (λ h.
     (g.names, record { around = g.around.0; named = g.around.1; head = g.around.2; before = valued_fits _ es.value c n x a e g.around.3 g.around.4 g.around.5 (leb-true _ _ h) g.fits; comma = tt }, λ r. g.reads (sign sy.Comma at ∷ r)))
 
 -- Behind a colon.

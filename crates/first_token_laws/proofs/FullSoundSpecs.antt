@@ -50,7 +50,7 @@ behind_sizeof_good file (sy.Close br.Round) at s x a k f y = value_made file _ 1
 behind_sizeof_good file _ at s x a k f y = tt
 
 pub parameters_end_good : (file : List (List ℕ)) (p : Reader) (d : Declared) (a : ℕ) (ps : Tall Params) (at : ℕ) → FitFunction file d → sh.are_no_params ps.value ≡ false → sh.ShapedParams (declared_names file d) ps.value → ((r : List SymbolAt) → b.declared d (opening br.Round a ∷ spell_params ps.value (closing br.Round at ∷ r)) ≡ p r) → GoodMode file (declared_names file d) p (Some (sp.parameters_end d a ps at))
-parameters_end_good file p d a ps at f n s g = 
+parameters_end_good file p d a ps at f n s g =
     let x = tall (fFunction (pSome a ps.value at)) (above ps.height) in
     (refl, with_form_fits file d x f.declared (n, s) (f.place, f.storage), λ r. formed_reads d x f.bare r ∙ g r)
 

@@ -1,6 +1,8 @@
 -- The machine that keeps each tree: a token where a statement is to come, inside one, or behind one.
 use Rattle.first_token_laws.proofs.Full as full
 use Rattle.std.proofs.Common.{◌≡◌, ℕ, List, [], ◌∷◌, ◌++◌, take, Some, Bool, true, false, not, if◌then◌else◌, refl, subst, sym, ap, ◌∙◌}
+use Rattle.first_token_laws.proofs.EndSt.{is_statement, wrap_shaped, wrap_spells, wrap_stands}
+use Rattle.first_token_laws.proofs.EndMode.{fork_fits, fork_reads, binds_fit, binds_read}
 use Rattle.c_tree.specs.declared.symbol.Bracket.{Bracket}
 use Rattle.c_tree.specs.declared.symbol.Bracket.TheVariants as br
 use Rattle.c_tree.specs.declared.symbol.StatementWord.{StatementWord}
@@ -20,7 +22,7 @@ use Rattle.parse_machine.specs.Making as mk
 use Rattle.parse_machine.specs.Making.{above, tall}
 use Rattle.parse_machine.specs.Heights.{is_list}
 use Rattle.parse_laws.proofs.Before as b
-use Rattle.parse_laws.proofs.Fits.{wrap_names, scope, inner_names, around_names, fork_names, waiting_names, FitSpoken, FitWrap, FitOuter, FitInner, FitAround, FitFork, FitWaiting, Stands, Fit}
+use Rattle.parse_laws.proofs.Fits.{wrap_names, scope, inner_names, around_names, fork_names, waiting_names, FitSpoken, FitWrap, FitOuter, FitAround, FitFork, FitWaiting, Stands, Fit}
 use Rattle.parse_machine.specs.Specifiers as sp
 use Rattle.parse_machine.specs.Declarations.{kept}
 use Rattle.parse_machine.specs.Statements as stt
@@ -40,35 +42,15 @@ Reader = List SymbolAt → List SymbolAt
 
 -- Words or an expression.
 
-fork_fits_inner : (file : List (List ℕ)) (f : Fork) → FitFork file f → FitInner file (stt.fork_inner f)
-fork_fits_inner file (forkCast a k) w = (tt, w.1)
-fork_fits_inner file (forkSizeof at a k) w = (tt, (tt, w))
-fork_fits_inner file (forkBlock o) w = w.1
-fork_fits_inner file (forkFor m at a o) w = w
-
 fork_inner_names : (file : List (List ℕ)) (f : Fork) → fork_names file f ≡ inner_names file (stt.fork_inner f)
 fork_inner_names file (forkCast a k) = refl
 fork_inner_names file (forkSizeof at a k) = refl
 fork_inner_names file (forkBlock o) = refl
 fork_inner_names file (forkFor m at a o) = refl
 
-fork_inner_reads : (f : Fork) (r : List SymbolAt) → b.inner (stt.fork_inner f) r ≡ b.fork f r
-fork_inner_reads (forkCast a k) r = refl
-fork_inner_reads (forkSizeof at a k) r = refl
-fork_inner_reads (forkBlock o) r = refl
-fork_inner_reads (forkFor m at a o) r = refl
-
-binds_fit : (file : List (List ℕ)) (ats : List ℕ) (k : Inner) → FitInner file k → FitInner file (stt.extension_binds ats k)
-binds_fit file [] k f = f
-binds_fit file (x ∷ ats) k f = binds_fit file ats (inBind (bPrefix pre.Extension x) k) (tt, f)
-
 binds_names : (file : List (List ℕ)) (ats : List ℕ) (k : Inner) → inner_names file k ≡ inner_names file (stt.extension_binds ats k)
 binds_names file [] k = refl
 binds_names file (x ∷ ats) k = binds_names file ats (inBind (bPrefix pre.Extension x) k)
-
-binds_read : (ats : List ℕ) (k : Inner) (r : List SymbolAt) → b.inner (stt.extension_binds ats k) r ≡ b.inner k (b.extensions ats r)
-binds_read [] k r = refl
-binds_read (x ∷ ats) k r = binds_read ats (inBind (bPrefix pre.Extension x) k) r
 
 fork_fits_around : (file : List (List ℕ)) (f : Fork) → FitFork file f → FitAround file (stt.fork_around f)
 fork_fits_around file (forkCast a k) w = w
@@ -112,9 +94,9 @@ fork_words_good file t at f ats w =
 fork_value_good : (file : List (List ℕ)) (t : Symbol) (at : ℕ) (f : Fork) (ats : List ℕ) → FitFork file f → GoodMode file (fork_names file f) (λ r. b.fork f (b.extensions ats (sign t at ∷ r))) (full.step_maybe (fork_names file f) t at (stt.extension_binds ats (stt.fork_inner f)))
 fork_value_good file t at f ats w =
     let k = stt.extension_binds ats (stt.fork_inner f) in
-    let g = maybe_good file t at k (binds_fit file ats (stt.fork_inner f) (fork_fits_inner file f w)) in
+    let g = maybe_good file t at k (binds_fit file ats (stt.fork_inner f) (fork_fits file f w)) in
     subst (λ n. GoodMode file n (λ r. b.fork f (b.extensions ats (sign t at ∷ r))) (full.step_maybe n t at k)) (sym (fork_inner_names file f ∙ binds_names file ats (stt.fork_inner f)))
-    (same_mode file _ _ _ _ (full.step_maybe (inner_names file k) t at k) refl (λ r. binds_read ats (stt.fork_inner f) (sign t at ∷ r) ∙ fork_inner_reads f (b.extensions ats (sign t at ∷ r))) g)
+    (same_mode file _ _ _ _ (full.step_maybe (inner_names file k) t at k) refl (λ r. binds_read ats (stt.fork_inner f) (sign t at ∷ r) ∙ fork_reads f (b.extensions ats (sign t at ∷ r))) g)
 
 fork_name_good : (file : List (List ℕ)) (n : List ℕ) (at : ℕ) (f : Fork) (ats : List ℕ) (c : Bool) → FitFork file f → GoodMode file (fork_names file f) (λ r. b.fork f (b.extensions ats (sign (sy.Name n) at ∷ r))) (full.fork_kind (fork_names file f) (if c then spTypedef n else spOther) (sy.Name n) at f ats)
 fork_name_good file n at f ats true w = fork_words_good file (sy.Name n) at f ats w
@@ -210,7 +192,7 @@ arrived_good file at (waitDefault x o) f = (refl, (tt, f), λ r. refl)
 arrived_good file at (waitGoto x n y o) f = (refl, (tt, tt, f.0, f.1), λ r. refl)
 arrived_good file at (waitBreak x o) f = (refl, (tt, tt, tt, f), λ r. refl)
 arrived_good file at (waitContinue x o) f = (refl, (tt, tt, tt, f), λ r. refl)
-arrived_good file at (waitVoid d a x) f = 
+arrived_good file at (waitVoid d a x) f =
     let y = tall (fFunction (pVoid a x at)) 1 in
     (refl, with_form_fits file d y f.declared tt (f.place, f.storage), λ r. formed_reads d y f.bare r)
 arrived_good file at (waitList d x) f = (refl, (f.0, f.1, f.2, tt, tt), λ r. refl)
@@ -222,10 +204,6 @@ wait_good file t at x f =
     same_mode file _ _ _ _ (Some (stt.arrived (waiting_names file x) at x)) refl (λ r. ap (λ s. b.waiting x (sign s at ∷ r)) (sym (is_it (stt.awaited x) t h))) (arrived_good file at x f))
 
 -- A statement is whole.
-
-stands_alone : (s : St) (o : Outer) → is_list o ≡ false → Stands s o → sh.IsStatement s
-stands_alone (sDeclaration d) o e h = cc
-stands_alone _ o e h = tt
 
 alone_names : (s : St) (ns : List (List ℕ)) → sh.IsStatement s → sh.statement_names s ns ≡ ns
 alone_names (sDeclaration d) ns h = absurd h
@@ -241,26 +219,6 @@ left_names (wCase at e c) s ns f i = alone_names s ns i
 left_names (wDefault at c) s ns f i = alone_names s ns i
 left_names (wLabel n at c ats) s ns f i = alone_names s ns i
 
-wrapped_shaped : (w : Wrap) (s : St) (ns : List (List ℕ)) → FitWrap ns w → sh.IsStatement s → sh.ShapedStatement s (wrap_names w ns) → sh.ShapedStatement (mk.wrapped w s) ns
-wrapped_shaped (wThen h) s ns f i g = (f, i, g)
-wrapped_shaped (wElse h a at) s ns f i g = (f.0, f.1, f.2, i, f.3, g)
-wrapped_shaped (wWhile h) s ns f i g = (f, i, g)
-wrapped_shaped (wSwitch h) s ns f i g = (f, i, g)
-wrapped_shaped (wFor m h) s ns f i g = (f.1, i, g)
-wrapped_shaped (wCase at e c) s ns f i g = (f.0, f.1, i, g)
-wrapped_shaped (wDefault at c) s ns f i g = (i, g)
-wrapped_shaped (wLabel n at c ats) s ns f i g = (f.0, f.1, i, g)
-
-wrapped_stands : (w : Wrap) (s : St) (o : Outer) → Stands (mk.wrapped w s) o
-wrapped_stands (wThen h) s o = tt
-wrapped_stands (wElse h a at) s o = tt
-wrapped_stands (wWhile h) s o = tt
-wrapped_stands (wSwitch h) s o = tt
-wrapped_stands (wFor m h) s o = tt
-wrapped_stands (wCase at e c) s o = tt
-wrapped_stands (wDefault at c) s o = tt
-wrapped_stands (wLabel n at c ats) s o = tt
-
 wrapped_names : (w : Wrap) (s : St) (ns : List (List ℕ)) → sh.statement_names (mk.wrapped w s) ns ≡ ns
 wrapped_names (wThen h) s ns = refl
 wrapped_names (wElse h a at) s ns = refl
@@ -270,16 +228,6 @@ wrapped_names (wFor m h) s ns = refl
 wrapped_names (wCase at e c) s ns = refl
 wrapped_names (wDefault at c) s ns = refl
 wrapped_names (wLabel n at c ats) s ns = refl
-
-wrapped_reads : (w : Wrap) (s : St) (r : List SymbolAt) → spell_statement (mk.wrapped w s) r ≡ b.wrap w (spell_statement s r)
-wrapped_reads (wThen h) s r = refl
-wrapped_reads (wElse h a at) s r = refl
-wrapped_reads (wWhile h) s r = refl
-wrapped_reads (wSwitch h) s r = refl
-wrapped_reads (wFor m h) s r = refl
-wrapped_reads (wCase at e c) s r = refl
-wrapped_reads (wDefault at c) s r = refl
-wrapped_reads (wLabel n at c ats) s r = refl
 
 abbrev GoodSettled : List (List ℕ) → Reader → stt.Settled → Type 0
 GoodSettled file p (stt.inBlock o names) = (names ≡ scope file o) × FitOuter file o × ((r : List SymbolAt) → b.outer o r ≡ p r)
@@ -293,11 +241,11 @@ settle_good : (file : List (List ℕ)) (o : Outer) (s : St) (names : List (List 
 settle_good file (outBody m h a ss) s names e t g f = (e, (f.0, f.1, f.2, (f.3, g)), λ r. refl)
 settle_good file (outBlock m a ss o) s names e t g f = (e, (f.0, (f.1, g), f.2), λ r. refl)
 settle_good file (outDo x o) s names e t g f =
-    let i = stands_alone s (outDo x o) refl t in (e ∙ alone_names s (scope file o) i, i, g, f, λ r. refl)
+    let i = is_statement s (outDo x o) refl t in (e ∙ alone_names s (scope file o) i, i, g, f, λ r. refl)
 settle_good file (outWrap w o) s names e t g f =
-    let i = stands_alone s (outWrap w o) refl t in
-    same_settled file _ _ (stt.settle (stt.left w names) o (mk.wrapped w s)) (λ r. ap (b.outer o) (wrapped_reads w s r))
-    (settle_good file o (mk.wrapped w s) (stt.left w names) (ap (stt.left w) e ∙ left_names w s (scope file o) f.0 i ∙ sym (wrapped_names w s (scope file o))) (wrapped_stands w s o) (wrapped_shaped w s (scope file o) f.0 i g) f.1)
+    let i = is_statement s (outWrap w o) refl t in
+    same_settled file _ _ (stt.settle (stt.left w names) o (mk.wrapped w s)) (λ r. ap (b.outer o) (wrap_spells w s r))
+    (settle_good file o (mk.wrapped w s) (stt.left w names) (ap (stt.left w) e ∙ left_names w s (scope file o) f.0 i ∙ sym (wrapped_names w s (scope file o))) (wrap_stands w s o) (wrap_shaped (scope file o) w s f.0 i g) f.1)
 
 settled_good : (file : List (List ℕ)) (p : Reader) (t : Symbol) (at : ℕ) (x : stt.Settled) → GoodSettled file p x → GoodTurn file (λ r. p (sign t at ∷ r)) (full.step_settled t at x)
 settled_good file p t at (stt.inBlock o names) g =
@@ -309,43 +257,43 @@ settled_good file p t at (stt.inDo x s o names) g =
 
 -- what is around an `else` that does not belong to it
 otherwise_on : (file : List (List ℕ)) (at : ℕ) (w : Wrap) (o : Outer) (s : St) (names : List (List ℕ)) → GoodTurn file (λ r. b.outer o (spell_statement (mk.wrapped w s) (word key.Else at ∷ r))) (stt.otherwise (stt.left w names) at o (mk.wrapped w s)) → GoodTurn file (λ r. b.outer o (b.wrap w (spell_statement s (word key.Else at ∷ r)))) (stt.otherwise (stt.left w names) at o (mk.wrapped w s))
-otherwise_on file at w o s names g = same_turn file _ _ (stt.otherwise (stt.left w names) at o (mk.wrapped w s)) (λ r. ap (b.outer o) (wrapped_reads w s (word key.Else at ∷ r))) g
+otherwise_on file at w o s names g = same_turn file _ _ (stt.otherwise (stt.left w names) at o (mk.wrapped w s)) (λ r. ap (b.outer o) (wrap_spells w s (word key.Else at ∷ r))) g
 
 otherwise_good : (file : List (List ℕ)) (at : ℕ) (o : Outer) (s : St) (names : List (List ℕ)) → names ≡ sh.statement_names s (scope file o) → sh.Closed s → Stands s o → sh.ShapedStatement s (scope file o) → FitOuter file o → GoodTurn file (λ r. b.outer o (spell_statement s (word key.Else at ∷ r))) (stt.otherwise names at o s)
 otherwise_good file at (outBody m h a ss) s names e c t g f = tt
 otherwise_good file at (outBlock m a ss o) s names e c t g f = tt
 otherwise_good file at (outDo x o) s names e c t g f = tt
 otherwise_good file at (outWrap (wThen h) o) s names e c t g f =
-    let i = stands_alone s (outWrap (wThen h) o) refl t in
+    let i = is_statement s (outWrap (wThen h) o) refl t in
     (e ∙ alone_names s (scope file o) i, ((f.0, c, i, g), f.1), λ r. refl)
 otherwise_good file at (outWrap (wElse h a x) o) s names e c t g f =
-    let i = stands_alone s (outWrap (wElse h a x) o) refl t in
+    let i = is_statement s (outWrap (wElse h a x) o) refl t in
     otherwise_on file at (wElse h a x) o s names
-    (otherwise_good file at o (mk.wrapped (wElse h a x) s) (stt.left (wElse h a x) names) (ap (stt.left (wElse h a x)) e ∙ left_names (wElse h a x) s (scope file o) f.0 i ∙ sym (wrapped_names (wElse h a x) s (scope file o))) c (wrapped_stands (wElse h a x) s o) (wrapped_shaped (wElse h a x) s (scope file o) f.0 i g) f.1)
+    (otherwise_good file at o (mk.wrapped (wElse h a x) s) (stt.left (wElse h a x) names) (ap (stt.left (wElse h a x)) e ∙ left_names (wElse h a x) s (scope file o) f.0 i ∙ sym (wrapped_names (wElse h a x) s (scope file o))) c (wrap_stands (wElse h a x) s o) (wrap_shaped (scope file o) (wElse h a x) s f.0 i g) f.1)
 otherwise_good file at (outWrap (wWhile h) o) s names e c t g f =
-    let i = stands_alone s (outWrap (wWhile h) o) refl t in
+    let i = is_statement s (outWrap (wWhile h) o) refl t in
     otherwise_on file at (wWhile h) o s names
-    (otherwise_good file at o (mk.wrapped (wWhile h) s) (stt.left (wWhile h) names) (ap (stt.left (wWhile h)) e ∙ left_names (wWhile h) s (scope file o) f.0 i ∙ sym (wrapped_names (wWhile h) s (scope file o))) c (wrapped_stands (wWhile h) s o) (wrapped_shaped (wWhile h) s (scope file o) f.0 i g) f.1)
+    (otherwise_good file at o (mk.wrapped (wWhile h) s) (stt.left (wWhile h) names) (ap (stt.left (wWhile h)) e ∙ left_names (wWhile h) s (scope file o) f.0 i ∙ sym (wrapped_names (wWhile h) s (scope file o))) c (wrap_stands (wWhile h) s o) (wrap_shaped (scope file o) (wWhile h) s f.0 i g) f.1)
 otherwise_good file at (outWrap (wSwitch h) o) s names e c t g f =
-    let i = stands_alone s (outWrap (wSwitch h) o) refl t in
+    let i = is_statement s (outWrap (wSwitch h) o) refl t in
     otherwise_on file at (wSwitch h) o s names
-    (otherwise_good file at o (mk.wrapped (wSwitch h) s) (stt.left (wSwitch h) names) (ap (stt.left (wSwitch h)) e ∙ left_names (wSwitch h) s (scope file o) f.0 i ∙ sym (wrapped_names (wSwitch h) s (scope file o))) c (wrapped_stands (wSwitch h) s o) (wrapped_shaped (wSwitch h) s (scope file o) f.0 i g) f.1)
+    (otherwise_good file at o (mk.wrapped (wSwitch h) s) (stt.left (wSwitch h) names) (ap (stt.left (wSwitch h)) e ∙ left_names (wSwitch h) s (scope file o) f.0 i ∙ sym (wrapped_names (wSwitch h) s (scope file o))) c (wrap_stands (wSwitch h) s o) (wrap_shaped (scope file o) (wSwitch h) s f.0 i g) f.1)
 otherwise_good file at (outWrap (wFor m h) o) s names e c t g f =
-    let i = stands_alone s (outWrap (wFor m h) o) refl t in
+    let i = is_statement s (outWrap (wFor m h) o) refl t in
     otherwise_on file at (wFor m h) o s names
-    (otherwise_good file at o (mk.wrapped (wFor m h) s) (stt.left (wFor m h) names) (ap (stt.left (wFor m h)) e ∙ left_names (wFor m h) s (scope file o) f.0 i ∙ sym (wrapped_names (wFor m h) s (scope file o))) c (wrapped_stands (wFor m h) s o) (wrapped_shaped (wFor m h) s (scope file o) f.0 i g) f.1)
+    (otherwise_good file at o (mk.wrapped (wFor m h) s) (stt.left (wFor m h) names) (ap (stt.left (wFor m h)) e ∙ left_names (wFor m h) s (scope file o) f.0 i ∙ sym (wrapped_names (wFor m h) s (scope file o))) c (wrap_stands (wFor m h) s o) (wrap_shaped (scope file o) (wFor m h) s f.0 i g) f.1)
 otherwise_good file at (outWrap (wCase x v y) o) s names e c t g f =
-    let i = stands_alone s (outWrap (wCase x v y) o) refl t in
+    let i = is_statement s (outWrap (wCase x v y) o) refl t in
     otherwise_on file at (wCase x v y) o s names
-    (otherwise_good file at o (mk.wrapped (wCase x v y) s) (stt.left (wCase x v y) names) (ap (stt.left (wCase x v y)) e ∙ left_names (wCase x v y) s (scope file o) f.0 i ∙ sym (wrapped_names (wCase x v y) s (scope file o))) c (wrapped_stands (wCase x v y) s o) (wrapped_shaped (wCase x v y) s (scope file o) f.0 i g) f.1)
+    (otherwise_good file at o (mk.wrapped (wCase x v y) s) (stt.left (wCase x v y) names) (ap (stt.left (wCase x v y)) e ∙ left_names (wCase x v y) s (scope file o) f.0 i ∙ sym (wrapped_names (wCase x v y) s (scope file o))) c (wrap_stands (wCase x v y) s o) (wrap_shaped (scope file o) (wCase x v y) s f.0 i g) f.1)
 otherwise_good file at (outWrap (wDefault x y) o) s names e c t g f =
-    let i = stands_alone s (outWrap (wDefault x y) o) refl t in
+    let i = is_statement s (outWrap (wDefault x y) o) refl t in
     otherwise_on file at (wDefault x y) o s names
-    (otherwise_good file at o (mk.wrapped (wDefault x y) s) (stt.left (wDefault x y) names) (ap (stt.left (wDefault x y)) e ∙ left_names (wDefault x y) s (scope file o) f.0 i ∙ sym (wrapped_names (wDefault x y) s (scope file o))) c (wrapped_stands (wDefault x y) s o) (wrapped_shaped (wDefault x y) s (scope file o) f.0 i g) f.1)
+    (otherwise_good file at o (mk.wrapped (wDefault x y) s) (stt.left (wDefault x y) names) (ap (stt.left (wDefault x y)) e ∙ left_names (wDefault x y) s (scope file o) f.0 i ∙ sym (wrapped_names (wDefault x y) s (scope file o))) c (wrap_stands (wDefault x y) s o) (wrap_shaped (scope file o) (wDefault x y) s f.0 i g) f.1)
 otherwise_good file at (outWrap (wLabel n x y ats) o) s names e c t g f =
-    let i = stands_alone s (outWrap (wLabel n x y ats) o) refl t in
+    let i = is_statement s (outWrap (wLabel n x y ats) o) refl t in
     otherwise_on file at (wLabel n x y ats) o s names
-    (otherwise_good file at o (mk.wrapped (wLabel n x y ats) s) (stt.left (wLabel n x y ats) names) (ap (stt.left (wLabel n x y ats)) e ∙ left_names (wLabel n x y ats) s (scope file o) f.0 i ∙ sym (wrapped_names (wLabel n x y ats) s (scope file o))) c (wrapped_stands (wLabel n x y ats) s o) (wrapped_shaped (wLabel n x y ats) s (scope file o) f.0 i g) f.1)
+    (otherwise_good file at o (mk.wrapped (wLabel n x y ats) s) (stt.left (wLabel n x y ats) names) (ap (stt.left (wLabel n x y ats)) e ∙ left_names (wLabel n x y ats) s (scope file o) f.0 i ∙ sym (wrapped_names (wLabel n x y ats) s (scope file o))) c (wrap_stands (wLabel n x y ats) s o) (wrap_shaped (scope file o) (wLabel n x y ats) s f.0 i g) f.1)
 
 pub whole_good : (file : List (List ℕ)) (t : Symbol) (at : ℕ) (s : St) (o : Outer) → Fit file (Whole s o) → GoodTurn file (λ r. b.outer o (spell_statement s (sign t at ∷ r))) (full.step_whole (sh.statement_names s (scope file o)) t at s o)
 whole_good file (sy.Statement key.Else) at s o f = otherwise_good file at o s (sh.statement_names s (scope file o)) refl f.0 f.1 f.2 f.3

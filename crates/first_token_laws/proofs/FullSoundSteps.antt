@@ -1,4 +1,4 @@
--- The machine that keeps each tree: One token, in each mode.
+-- The machine that keeps each tree: one token, in each mode.
 use Rattle.first_token_laws.proofs.Full as full
 use Rattle.std.proofs.Common.{◌≡◌, ℕ, zero, suc, List, ◌∷◌, Option, Some, refl, subst, sym, ap, ◌∙◌}
 use Rattle.c_tree.specs.declared.symbol.Bracket.{Bracket}

@@ -127,11 +127,13 @@ high_or_low tokens w n false q = leb-false _ _ q
 pub high_first : (tokens : List SymbolAt) → ma.run tokens (Going ma.start) ≡ Over TooHigh → (token : SymbolAt) × IsTooHighAt tokens token
 high_first tokens h =
     let w = stop_of tokens ma.start TooHigh h in
-    let ts = w.before ++ w.token ∷ [] in
-    (w.token, record {
-      before = w.before;
-      behind = w.behind;
-      are = w.are;
-      begins = halted w.before w.token w.state (ma.step w.token w.state) (going_good w.before w.state w.goes) refl w.stops;
-      high = λ x. high_or_low ts x (refused ts TooHigh (run_to_stop tokens TooHigh w)) (leb (height_items x.tree) 200) refl;
-    })
+    let ts = w.before ++ w.token ∷ [] in (
+      w.token,
+      record {
+        before = w.before;
+        behind = w.behind;
+        are = w.are;
+        begins = halted w.before w.token w.state (ma.step w.token w.state) (going_good w.before w.state w.goes) refl w.stops;
+        high = λ x. high_or_low ts x (refused ts TooHigh (run_to_stop tokens TooHigh w)) (leb (height_items x.tree) 200) refl;
+      },
+    )

@@ -31,10 +31,6 @@ if_sim true false o q e s = cc
 if_sim false true o q e s = cc
 if_sim false false o q e s = tt
 
-pub pick_sim : (c : Bool) (m n x y : Mode) → SimMode m x → SimMode n y → SimMode (if c then m else n) (if c then x else y)
-pick_sim true m n x y s t = s
-pick_sim false m n x y s t = t
-
 -- Levels.
 
 bind_least : (x y : Bind) → SimBind x y → ht.least_bind x ≡ ht.least_bind y

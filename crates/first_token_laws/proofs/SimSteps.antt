@@ -94,9 +94,6 @@ behind_sizeof_sim : (t : Symbol) (at : ℕ) (s u : Spoken) (x y a c : ℕ) (k l 
 behind_sizeof_sim (sy.Close br.Round) at s u x y a c k l r = (part_sim 14 (mk.above (mk.above s.height)) (mk.above (mk.above u.height)) (eSizeof x a s.words at) (eSizeof y c u.words at) refl refl, r)
 behind_sizeof_sim _ at s u x y a c k l r = tt
 
-with_form_sim : (d e : Declared) (f g : Tall Form) → SimDeclared d e → SimForm f.value g.value → SimDeclared (mk.with_form d f) (mk.with_form e g)
-with_form_sim d e f g s r = (s.0, s.1, r, s.3)
-
 behind_parameter_sim : (t : Symbol) (at : ℕ) (s u : Spoken) (d e : Declared) (a x : ℕ) (ps qs : Tall Params) (c y : Option ℕ) → SimDeclared d e → SimModes (sp.behind_parameter t at s d a ps c) (sp.behind_parameter t at u e x qs y)
 behind_parameter_sim (sy.Name n) at s u d e a x ps qs c y r = r
 behind_parameter_sim sy.Comma at s u d e a x ps qs c y r = (refl, r)

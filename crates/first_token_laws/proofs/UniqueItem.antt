@@ -1,4 +1,4 @@
--- Two shaped items that begin the same tokens are equal, of whatever height.
+-- Two shaped items with which the same tokens begin are equal, of whatever height.
 use Rattle.std.proofs.Common.{◌≡◌, ℕ, List, [], ◌∷◌, ◌++◌, Option, None, Some, Bool, true, false, ◌&&◌, ◌||◌, not, if◌then◌else◌, refl, subst, sym, ap, ◌∙◌, ◌⊎◌, inl, inr}
 use Rattle.c_tree.specs.declared.symbol.StorageWord.TheVariants as storage
 use Rattle.c_tree.specs.declared.symbol.Symbol.TheVariants as sy
@@ -23,16 +23,16 @@ use Rattle.first_token_laws.proofs.FullReadItem.{item_read}
 
 -- Lists.
 
-abbrev OneIsFirst : List SymbolAt → List SymbolAt → List SymbolAt → List SymbolAt → Type 0
+abbrev pub OneIsFirst : List SymbolAt → List SymbolAt → List SymbolAt → List SymbolAt → Type 0
 OneIsFirst a c p q = ((x : List SymbolAt) × (a ≡ c ++ x) × (q ≡ x ++ p)) ⊎ ((x : List SymbolAt) × (c ≡ a ++ x) × (p ≡ x ++ q))
 
-head_same : (x y : SymbolAt) (p q : List SymbolAt) → x ∷ p ≡ y ∷ q → x ≡ y
+pub head_same : (x y : SymbolAt) (p q : List SymbolAt) → x ∷ p ≡ y ∷ q → x ≡ y
 head_same x y p q h = cc
 
 tail_same : (x y : SymbolAt) (p q : List SymbolAt) → x ∷ p ≡ y ∷ q → p ≡ q
 tail_same x y p q h = cc
 
-one_is_first : (a c p q : List SymbolAt) → a ++ p ≡ c ++ q → OneIsFirst a c p q
+pub one_is_first : (a c p q : List SymbolAt) → a ++ p ≡ c ++ q → OneIsFirst a c p q
 one_is_first [] c p q h = inr (c, refl, h)
 one_is_first (x ∷ a) [] p q h = inl (x ∷ a, refl, sym h)
 one_is_first (x ∷ a) (y ∷ c) p q h = both (head_same x y (a ++ p) (c ++ q) h) (one_is_first a c p q (tail_same x y (a ++ p) (c ++ q) h))

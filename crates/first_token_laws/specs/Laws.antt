@@ -14,6 +14,10 @@ pub record IsFirstRefused (tokens : List SymbolAt) (token : SymbolAt) : Type 0 w
   pub begins : Begins before
   pub none : Begins (before ++ token ∷ []) → ⊥
 
+-- Of some tokens one at most is the first that is refused.
+abbrev pub HasOneFirst : Type 0
+HasOneFirst = (tokens : List SymbolAt) (a b : SymbolAt) → (w : IsFirstRefused tokens a) → (v : IsFirstRefused tokens b) → (w.before ≡ v.before) × (a ≡ b)
+
 -- Some shaped tree begins with the tokens that the machine reads without stopping.
 abbrev pub IsViable : Type 0
 IsViable = (tokens : List SymbolAt) (state : State) → run tokens (Going start) ≡ Going state → Begins tokens
