@@ -1,5 +1,5 @@
 -- What the machine answers, in words of the grammar.
-use Rattle.std.proofs.Common.{◌≡◌, ◌⊎◌, inl, inr, ℕ, ◌≤◌, List, [], ◌∷◌, ◌++◌, Option, None, Some, Bool, true, false, if◌then◌else◌, refl, sym, ap, ◌∙◌, subst}
+use Rattle.std.proofs.Common.{◌≡◌, ◌≢◌, ◌⊎◌, inl, inr, ℕ, List, [], ◌∷◌, ◌++◌, Option, None, Some, Bool, true, false, if◌then◌else◌, refl, sym, ap, ◌∙◌, subst}
 use Rattle.std.specs.Prelude.{leb, Result, Ok, Err, IfOk, IfErr}
 use Rattle.lv_base.specs.declared.fail.SourceFail.{SourceFail}
 use Rattle.lv_base.specs.declared.fail.SourceFail.TheVariants as source
@@ -9,11 +9,10 @@ use Rattle.c_tree.specs.declared.symbol.SymbolAt.{SymbolAt}
 use Rattle.c_tree.specs.Tree as tr
 use Rattle.c_tree.specs.Tree.{Items}
 use Rattle.c_tree.specs.Words.{is_typed}
-use Rattle.c_tree.specs.Height.{height_items}
 use Rattle.c_tree.specs.declared.tree.Unit.{Unit as Unit'}
 use Rattle.c_tree.specs.Symbols.{sign, signs_of}
 use Rattle.c_lexer.specs.declared.token.Token.{Token}
-use Rattle.c_tree.specs.Denotes.{IsSpelled, BeginsWithin, spelling, Denotes, tree_of}
+use Rattle.c_tree.specs.Denotes.{Denotes, tree_of}
 use Rattle.parse_machine.specs.Tokens.{is_unsupported, prefix_of, Awaited, awaitOpen, awaitClose, awaitSemicolon, awaitColon, awaitWhile, is_awaited}
 use Rattle.parse_machine.specs.Contexts as m
 use Rattle.parse_machine.specs.Declarations.{Turn, kept}
@@ -24,52 +23,22 @@ use Rattle.parse_machine.specs.Making as mk
 use Rattle.parse_machine.specs.Specifiers as sp
 use Rattle.parse_machine.specs.Statements as sm
 use Rattle.parse_machine.specs.Steps as steps
-use Rattle.parse_laws.proofs.CompleteFile.{complete, refused}
 use Rattle.parse_laws.proofs.SoundRun.{sound}
-use Rattle.c_parser.specs.Reading.{IsOnly, StopsAt, IsStopped, IsEnded, IsReading, IsRefusal}
+use Rattle.first_token_laws.specs.Laws.{IsFirstRefused}
+use Rattle.first_token_laws.proofs.FirstRefused.{first_refused}
+use Rattle.first_token_laws.proofs.HighFirst.{high_first}
+use Rattle.first_token_laws.proofs.UniqueFile.{one_tree}
+use Rattle.c_parser.specs.Reading.{IsOnly, IsEnded, IsReading, IsRefusal}
 use Rattle.c_parser.specs.StateView.{FailsWith, Answers}
-use Rattle.c_parser.proofs.RunLemmas.{stays}
 
--- ---- the token at which the machine stops
-
-record Stop (s : ma.State) (tokens : List SymbolAt) (r : ma.Result) : Type 0 where
-  pub before : List SymbolAt
-  pub token : SymbolAt
-  pub behind : List SymbolAt
-  pub are : before ++ token ∷ behind ≡ tokens
-  pub state : ma.State
-  pub runs : ma.run before (ma.Going s) ≡ ma.Going state
-  pub halts : ma.advance token (ma.Going state) ≡ ma.Over r
-
-over_same : (r q : ma.Result) → ma.Over r ≡ ma.Over q → r ≡ q
-over_same r q h = cc
+-- ---- a course that goes on has not stopped
 
 no_halt : (s : ma.State) (r : ma.Result) → ma.Going s ≡ ma.Over r → ⊥
 no_halt s r h = cc
 
-stop_step : (t : SymbolAt) (ts : List SymbolAt) (s : ma.State) (r : ma.Result) → ((s1 : ma.State) → ma.run ts (ma.Going s1) ≡ ma.Over r → Stop s1 ts r) → (c : ma.Course) → ma.advance t (ma.Going s) ≡ c → ma.run ts c ≡ ma.Over r → Stop s (t ∷ ts) r
-stop_step t ts s r later (ma.Over q) e h =
-    record { before = []; token = t; behind = ts; are = refl; state = s; runs = refl; halts = e ∙ ap ma.Over (over_same q r (sym (stays ts q) ∙ h)) }
-stop_step t ts s r later (ma.Going s1) e h =
-    let w = later s1 h in
-    record { before = t ∷ w.before; token = w.token; behind = w.behind; are = ap (λ (x : List SymbolAt). t ∷ x) w.are; state = w.state; runs = ap (ma.run w.before) e ∙ w.runs; halts = w.halts }
-
-stop_of : (tokens : List SymbolAt) (s : ma.State) (r : ma.Result) → ma.run tokens (ma.Going s) ≡ ma.Over r → Stop s tokens r
-stop_of [] s r h = absurd (no_halt s r h)
-stop_of (t ∷ ts) s r h = stop_step t ts s r (λ s1 h1. stop_of ts s1 r h1) (ma.advance t (ma.Going s)) refl h
-
 run_append : (ts us : List SymbolAt) (c : ma.Course) → ma.run (ts ++ us) c ≡ ma.run us (ma.run ts c)
 run_append [] us c = refl
 run_append (t ∷ ts) us c = run_append ts us (ma.advance t c)
-
-stops_there : (tokens : List SymbolAt) (r : ma.Result) → (w : Stop ma.start tokens r) → StopsAt tokens w.token
-stops_there tokens r w =
-    record { before = w.before; behind = w.behind; are = w.are; none = refused (w.before ++ w.token ∷ []) r (run_append w.before (w.token ∷ []) (ma.Going ma.start) ∙ ap (ma.run (w.token ∷ [])) w.runs ∙ w.halts) }
-
-reason : (t : SymbolAt) (a : ma.Answer) (r : ma.Result) → ma.course t a ≡ ma.Over r → (ma.refusal t ≡ r) ⊎ (ma.TooHigh ≡ r)
-reason t (ma.Goes s) r h = absurd (no_halt s r h)
-reason t ma.Refused r h = inl (over_same (ma.refusal t) r h)
-reason t ma.High r h = inr (over_same ma.TooHigh r h)
 
 -- ---- the end of a source is the last token that the machine takes
 
@@ -197,25 +166,23 @@ ended_tree tokens w q h =
 
 -- ---- what the machine's answers say
 
-tree_same : (a b : Items) → ma.Tree a ≡ ma.Tree b → a ≡ b
-tree_same a b h = cc
-
 only : (tokens : List SymbolAt) (tree : Items) → ma.parse_of tokens ≡ ma.Tree tree → IsOnly tokens tree
-only tokens tree h other spelled low =
-    tree_same other tree (sym (complete other spelled.shaped low spelled.end) ∙ ap ma.parse_of spelled.spelled ∙ h)
+only tokens tree h other spelled = one_tree tokens other tree spelled (sound tokens tree h)
 
-refusal_reading : (tokens : List SymbolAt) (t : SymbolAt) → StopsAt tokens t → (b : Bool) → is_unsupported t.symbol ≡ b → IsReading tokens (if b then ma.Unsupported t.at else ma.Syntax t.at)
-refusal_reading tokens t stops true e = (t, stops, refl, e)
-refusal_reading tokens t stops false e = λ ended. (t, stops, refl, e)
+refusal_reading : (tokens : List SymbolAt) (t : SymbolAt) → IsFirstRefused tokens t → (b : Bool) → is_unsupported t.symbol ≡ b → IsReading tokens (if b then ma.Unsupported t.at else ma.Syntax t.at)
+refusal_reading tokens t first true e = (t, first, refl, e)
+refusal_reading tokens t first false e = λ ended. (t, first, refl, e)
 
-halt_from : (tokens : List SymbolAt) (r : ma.Result) (w : Stop ma.start tokens r) → (ma.refusal w.token ≡ r) ⊎ (ma.TooHigh ≡ r) → IsReading tokens r
-halt_from tokens r w (inl e) = subst (λ (x : ma.Result). IsReading tokens x) e (refusal_reading tokens w.token (stops_there tokens r w) (is_unsupported w.token.symbol) refl)
-halt_from tokens r w (inr e) = subst (λ (x : ma.Result). IsReading tokens x) e (w.token, stops_there tokens r w)
+halt_from : (tokens : List SymbolAt) (r : ma.Result) → ma.run tokens (ma.Going ma.start) ≡ ma.Over r → r ≢ ma.TooHigh → IsReading tokens r
+halt_from tokens r h n =
+    let w = first_refused tokens r h n in
+    subst (λ (x : ma.Result). IsReading tokens x) w.2 (refusal_reading tokens w.0 w.1 (is_unsupported w.0.symbol) refl)
 
 halt_reading : (tokens : List SymbolAt) (r : ma.Result) → ma.run tokens (ma.Going ma.start) ≡ ma.Over r → IsReading tokens r
-halt_reading tokens r h =
-    let w = stop_of tokens ma.start r h in
-    halt_from tokens r w (reason w.token (ma.limited_step w.token w.state) r w.halts)
+halt_reading tokens ma.TooHigh h = high_first tokens h
+halt_reading tokens (ma.Tree tree) h = halt_from tokens (ma.Tree tree) h (λ e. cc)
+halt_reading tokens (ma.Syntax at) h = halt_from tokens (ma.Syntax at) h (λ e. cc)
+halt_reading tokens (ma.Unsupported at) h = halt_from tokens (ma.Unsupported at) h (λ e. cc)
 
 finish_cases : (is : Items) (p : ma.Phase) → (ma.finish_phase is p ≡ ma.Tree is) ⊎ (ma.finish_phase is p ≡ ma.Syntax 0)
 finish_cases is (ma.Plain m.Finished) = inl refl

@@ -7,7 +7,7 @@ mod SureEx
 mod SureSteps
 mod SureRun
 mod Viable
-mod FirstRefused
+pub mod FirstRefused
 mod Full
 mod FullLeads
 mod FullFirst
@@ -21,7 +21,7 @@ mod FullReadSt
 mod FullWholeSt
 mod FullReadItem
 mod UniqueItem
-mod UniqueFile
+pub mod UniqueFile
 mod FullGood
 mod FullSoundEx
 mod FullSoundEnds
@@ -33,4 +33,4 @@ mod Sim
 mod SimEx
 mod SimSteps
 mod Shadow
-mod HighFirst
+pub mod HighFirst
