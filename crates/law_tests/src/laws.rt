@@ -2,6 +2,7 @@
 
 use bv_term::laws::{one_for_each, values_begin, values_fit, values_stay, widths_stay};
 use c_graph::laws::inductive_means_safe;
+use c_meaning::drawn_are_there;
 use c_tokens::{has_no_other, has_one, has_spans, is_lexed};
 use c_typed::{drawn_inputs, more_turns};
 use call_order::{
@@ -19,10 +20,12 @@ use elaboration_offset_laws::{
 use elaboration_source_laws::{calls_found, good_programs, objects_kept, tokens_rise};
 use error_call_laws::reaches_kept;
 use fault_examples::broken_lines;
+use first_token_laws::{first_refusals, limits, one_first, one_tree, viable_tokens};
 use good_run_laws::{bodies_left, labels_found};
 use high_tree_laws::{faults, too_high};
 use jump_rules::bodies_walked;
 use name_bindings::part_by_part;
+use parser_symbols::words_are;
 use resolution_log::laws::{
     cuts_stay_lean, lean_refutes, new_by_closed_set, new_logs_are_valid, new_logs_grow,
     none_is_new_over_empty, propagation_stays, results_are_implied, sets_are_enough,
@@ -47,6 +50,7 @@ fn small_sources_and_their_faults() {
 fn runs_that_break_no_rule() {
     bodies_left();
     labels_found();
+    drawn_are_there();
 }
 
 #[test]
@@ -206,6 +210,16 @@ fn the_tokens_of_a_source() {
 fn trees_that_are_too_high() {
     too_high();
     faults();
+}
+
+#[test]
+fn the_first_token_that_is_refused() {
+    words_are();
+    viable_tokens();
+    first_refusals();
+    one_first();
+    limits();
+    one_tree();
 }
 
 #[test]
