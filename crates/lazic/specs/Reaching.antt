@@ -1,4 +1,4 @@
--- What is reported of a run that reaches an error.
+-- What is reported of a run that reaches an error, and what is so of a run that is reported to reach one.
 use Rattle.std.specs.Prelude.{ℕ, ◌≡◌, ◌≤◌, ◌⊎◌, List, length, ℤ, Some}
 use Rattle.lv_base.specs.Place.{place_at}
 use Rattle.lv_base.specs.declared.fault.ErrorKind.{ErrorKind}
@@ -13,6 +13,7 @@ use Rattle.c_meaning.specs.Program.{run, Reaches}
 use Rattle.stored_text.specs.RunText.{Spells}
 use Rattle.lazic.specs.Words.{Wanted, request_of}
 use Rattle.lazic.specs.Answer.{outcome_of}
+use Rattle.lazic.specs.Meaning.{HasTree, IsAccepted}
 use Rattle.lazic.specs.declared.outcome.Outcome.TheVariants.{Reached, OutOfTurns}
 use Rattle.lazic.specs.declared.report.Kept.{Kept}
 use Rattle.lazic.specs.declared.report.Kept.TheVariants.{Nothing, Unsafe, Limited}
@@ -47,3 +48,20 @@ pub data IsReachTold (words : List (List ℕ)) (file : List ℕ → List ℕ) (r
 abbrev pub ReachesAreTold : List (List ℕ) → (List ℕ → List ℕ) → Type 0 → Type 0 → ℕ → Kept → Type 0
 ReachesAreTold words file read_rose put_rose status kept =
     (wanted : Wanted) (tree : Items) (values : List ℤ) (kind : ErrorKind) (at : ℕ) → IsReaching words file wanted tree values kind at → IsReachTold words file read_rose put_rose status kept wanted tree values kind at
+
+-- The words ask for the replay of a source whose tree breaks no rule, and these values, all of them being drawn, lead it to the error
+-- that is told, at its place.
+pub record IsReplayed (words : List (List ℕ)) (file : List ℕ → List ℕ) (values : List ℤ) : Type 0 where
+  pub wanted : Wanted
+  pub asked : request_of words ≡ Some wanted
+  pub tree : Items
+  pub has : HasTree (file wanted.source) tree
+  pub accepted : IsAccepted tree wanted.model
+  pub kind : ErrorKind
+  pub at : ℕ
+  pub told : outcome_of words file ≡ Reached kind (place_at (file wanted.source) at) values
+  pub reaches : Reaches tree wanted.model values kind at
+
+-- so it is of values that are kept
+abbrev pub KeptAreReplayed : List (List ℕ) → (List ℕ → List ℕ) → Kept → Type 0
+KeptAreReplayed words file kept = (values : List ℤ) → kept ≡ Unsafe values → IsReplayed words file values

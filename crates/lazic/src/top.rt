@@ -8,7 +8,7 @@ ghost use Rattle.lazic.specs.declared.outcome.Outcome.{Outcome};
 ghost use Rattle.lazic.specs.Outcome.{status_of, text_of};
 ghost use Rattle.lazic.specs.Answer.{outcome_of, IsCaused};
 ghost use Rattle.lazic.specs.Meaning.{OneAnswer};
-ghost use Rattle.lazic.specs.Reaching.{ReachesAreTold};
+ghost use Rattle.lazic.specs.Reaching.{KeptAreReplayed, ReachesAreTold};
 ghost use Rattle.lazic.specs.Headline.{Headline};
 ghost use Rattle.lazic.specs.Told.{RequestsDiffer, ToldOf, stamp_of};
 ghost use Rattle.lazic.specs.Report.{MeansReport, kept_of, told_text, IsFree};
@@ -16,6 +16,7 @@ ghost use Rattle.lazic.specs.Report.{MeansReport, kept_of, told_text, IsFree};
 use crate::answer::decide;
 use crate::report::{Kept, Report, no_memory, print};
 use crate::requests::answer_asked;
+use c_meaning::drawn_are_there;
 use lv_base::Memory;
 use lv_outside::{Folder, Gate, Sink};
 use request_words::{names_are_apart, numbers_are_read, request, seeds_are_read};
@@ -48,6 +49,9 @@ pub fn run_words<R: Threads + Sync, F: Folder, S: Sink, G: Gate>(
     ensures status { IsNone (asked_of (map (λ w. w.now) words.now)) → F.tells folder.old → IsFree result.status ⊎ (result.status ≡ status_of (outcome_of (map (λ w. w.now) words.now) (F.file folder.old))) }
     ensures kept { IsNone (asked_of (map (λ w. w.now) words.now)) → F.tells folder.old → IsFree result.status ⊎ (result.kept ≡ kept_of (outcome_of (map (λ w. w.now) words.now) (F.file folder.old))) }
     ensures free { IsNone (asked_of (map (λ w. w.now) words.now)) → IsFree result.status → result.kept ≡ Kept.Nothing }
+
+    // Values that are kept of a replay lead the source, which breaks no rule, to the error that is told.
+    ensures replayed { IsNone (asked_of (map (λ w. w.now) words.now)) → F.tells folder.old → KeptAreReplayed (map (λ w. w.now) words.now) (F.file folder.old) result.kept }
 
     // A run that reaches an error is told, with its values.
     ensures reaches { IsNone (asked_of (map (λ w. w.now) words.now)) → F.tells folder.old → ReachesAreTold (map (λ w. w.now) words.now) (F.file folder.old) (Rose (F.read_faults folder.old) (F.read_faults folder.new)) (Rose (S.faults out.old) (S.faults out.new)) result.status result.kept }
@@ -113,6 +117,9 @@ fn replay_words<F: Folder, S: Sink>(
     ensures kept { F.tells folder.old → IsFree result.status ⊎ (result.kept ≡ kept_of (outcome_of (map (λ w. w.now) words.now) (F.file folder.old))) }
     ensures free { IsFree result.status → result.kept ≡ Kept.Nothing }
 
+    // Values that are kept lead the source, which breaks no rule, to the error that is told.
+    ensures replayed { F.tells folder.old → KeptAreReplayed (map (λ w. w.now) words.now) (F.file folder.old) result.kept }
+
     // A run that reaches an error is told, with its values.
     ensures reaches { F.tells folder.old → ReachesAreTold (map (λ w. w.now) words.now) (F.file folder.old) (Rose (F.read_faults folder.old) (F.read_faults folder.new)) (Rose (S.faults out.old) (S.faults out.new)) result.status result.kept }
 
@@ -132,6 +139,7 @@ fn replay_words<F: Folder, S: Sink>(
 
     ensures files { (n : List ℕ) → F.file folder.new n ≡ F.file folder.old n }
 {
+    drawn_are_there();
     let outcome = decide(alloc, words, folder);
     print(alloc, outcome, out)
 }

@@ -2,6 +2,7 @@ use Rattle.std.proofs.Common.{rules, inl, inr}
 use Rattle.lazic.specs.declared.outcome.Outcome.TheVariants.{NoMemory}
 use Rattle.lazic.proofs.MeaningLaws.{report_means}
 use Rattle.lazic.proofs.ReachingLaws.{reaches_told}
+use Rattle.lazic.proofs.ReplayedLaws.{kept_are_replayed}
 use Rattle.lazic.proofs.top.replay_words.Goals as goal
 
 pub returns-clause-cut : goal.returns-clause-cut
@@ -23,3 +24,7 @@ returns-clause-read_fault g c = search rules
 
 pub returns-clause-print_fault : goal.returns-clause-print_fault
 returns-clause-print_fault g c = search rules
+
+pub returns-clause-replayed : goal.returns-clause-replayed
+returns-clause-replayed g c told =
+    kept_are_replayed c.drawn_are_there.ensures _ _ _ _ c.decide-outcome.result c.print.result.status c.print.result.kept c.decide-outcome.ensures.caused told c.print.ensures.status c.print.ensures.free
