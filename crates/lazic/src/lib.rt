@@ -10,6 +10,6 @@ mod requests;
 mod running;
 mod top;
 
-pub use report::{Kept, Report};
+pub use report::{Kept, Report, no_memory};
 pub use top::run_words;
 pub use verdicts::Values;

@@ -51,8 +51,8 @@ pub fn print<S: Sink>(alloc: Global, outcome: Outcome, out: &mut S) -> Report
     }
 }
 
-/// Prints that memory ran out.
-pub(crate) fn no_memory<S: Sink>(out: &mut S) -> Report
+/// Prints that memory ran out. The status is 15, or 14 where the line could not be put.
+pub fn no_memory<S: Sink>(out: &mut S) -> Report
     ensures status { (result.status ≡ 14) ⊎ (result.status ≡ 15) }
     ensures kept { result.kept ≡ Kept.Nothing }
     ensures fault { result.status ≡ 14 → Rose (S.faults out.old) (S.faults out.new) }

@@ -1,11 +1,11 @@
 //! `lazic` answers its words: `verify SOURCE`, `generate SEED`, `check SOURCE CERT` and `replay SOURCE RUN`, over the files of the host.
 #![tactic(auto)]
 
-ghost use Rattle.std.specs.Prelude.{pos, ◌≤ℤ◌};
+ghost use Rattle.std.specs.Prelude.{pos, ◌≤ℤ◌, ◌≡◌, ◌⊎◌};
 
-use lazic::run_words;
-use lv_outside::{HostFolder, HostGate, HostSink, Sink};
-use std::alloc::AllocError;
+use lazic::{no_memory, run_words};
+use lv_outside::{HostFolder, HostGate, HostSink};
+use std::alloc::{AllocError, Global};
 use std::io::IsTerminal;
 use std::process::ExitCode;
 use std::random::RandomSource;
@@ -15,6 +15,15 @@ use std::time::SystemTime;
 use std::{env, io};
 
 const LAST_MOMENT: u64 = 253370764799;
+
+// Why a program has no words.
+#[derive(Clone, Copy)]
+enum NoWords {
+    // Memory is wanting.
+    Memory,
+    // They can't be read.
+    Unread,
+}
 
 fn main(rt: HostRuntime) -> ExitCode {
     let shows = rt.stderr().is_terminal();
@@ -37,33 +46,27 @@ where
         + Drop,
 {
     let alloc = rt.alloc();
-    let args = match env::args(rt) {
-        Ok(args) => args,
-        Err(fail) if fail.kind() == io::ErrorKind::OutOfMemory => return no_memory(rt),
-        Err(_) => return 16,
+    let owned = match words_of(rt, alloc) {
+        Ok(owned) => owned,
+        Err(NoWords::Memory) => return wants_memory(rt),
+        Err(NoWords::Unread) => return 16,
     };
-    let mut owned = Vec::new(alloc);
-    for arg in args.skip(1) {
-        if owned.push(arg).is_err() {
-            return no_memory(rt);
-        }
-    }
     let mut words = Vec::new(alloc);
     for word in &owned {
         if words.push(word.as_str()).is_err() {
-            return no_memory(rt);
+            return wants_memory(rt);
         }
     }
     let files: Result<R, AllocError> = rt.clone();
     let Ok(files) = files else {
-        return no_memory(rt);
+        return wants_memory(rt);
     };
     let prints: Result<R, AllocError> = rt.clone();
     let Ok(prints) = prints else {
-        return no_memory(rt);
+        return wants_memory(rt);
     };
     let Ok(gate) = gate_of(rt, shows) else {
-        return no_memory(rt);
+        return wants_memory(rt);
     };
     let mut folder = HostFolder::new(files);
     let mut out = HostSink::new(prints);
@@ -89,15 +92,31 @@ fn gate_of<R: Clock + Eprint + Sync + Clone + Drop>(
     Ok(HostGate::new(hears, shows))
 }
 
-fn no_memory<R: Print + Clone + Drop>(rt: &R) -> u8 {
+// The words behind the program's name.
+fn words_of<R: AllocGlobal + Env>(rt: &R, alloc: Global) -> Result<Vec<String>, NoWords> {
+    let args = match env::args(rt) {
+        Ok(args) => args,
+        Err(fail) if fail.kind() == io::ErrorKind::OutOfMemory => return Err(NoWords::Memory),
+        Err(_) => return Err(NoWords::Unread),
+    };
+    let mut words = Vec::new(alloc);
+    for word in args.skip(1) {
+        if words.push(word).is_err() {
+            return Err(NoWords::Memory);
+        }
+    }
+    Ok(words)
+}
+
+// The status where memory is wanting, which is printed.
+fn wants_memory<R: Print + Clone + Drop>(rt: &R) -> u8
+    ensures { (result ≡ 14) ⊎ (result ≡ 15) }
+{
     let prints: Result<R, AllocError> = rt.clone();
     let Ok(prints) = prints else {
         return 14;
     };
-    match HostSink::new(prints).put(b"NO MEMORY\n") {
-        Ok(()) => 15,
-        Err(_) => 14,
-    }
+    no_memory(&mut HostSink::new(prints)).status
 }
 
 // Sixteen bytes of chance, or zeroes where there are none.
