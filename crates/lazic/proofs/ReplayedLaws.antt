@@ -123,7 +123,7 @@ kept_reached outcome.NeedsMore values e = absurd (cc)
 kept_reached (outcome.BadValue i) values e = absurd (cc)
 kept_reached outcome.NoMemory values e = absurd (cc)
 
-nothing_is_replayed : (words : List (List ℕ)) (file : List ℕ → List ℕ) (kept : Kept) → kept ≡ Nothing → KeptAreReplayed words file kept
+pub nothing_is_replayed : (words : List (List ℕ)) (file : List ℕ → List ℕ) (kept : Kept) → kept ≡ Nothing → KeptAreReplayed words file kept
 nothing_is_replayed words file kept nothing values e = absurd (let both : Nothing ≡ Unsafe values = sym nothing ∙ e in cc)
 
 pub kept_are_replayed : DrawnAreThere → (rose told : Type 0) (words : List (List ℕ)) (file : List ℕ → List ℕ) (answer : Outcome) (status : ℕ) (kept : Kept)

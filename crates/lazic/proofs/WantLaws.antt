@@ -14,7 +14,11 @@ use Rattle.request_answers.specs.Witnessed.{IsWitnessed, IsWitnessBy, named_for}
 use Rattle.source_witnesses.specs.declared.stamp.Stamp.{Stamp}
 use Rattle.lazic.specs.declared.report.Kept.{Kept}
 use Rattle.lazic.specs.declared.report.Kept.TheVariants as kept
+use Rattle.lazic.specs.Outcome.{text_of as line_of}
+use Rattle.lazic.specs.Report.{Ends}
 use Rattle.lazic.specs.Told.{IsTold, ToldOf, kept_when}
+use Rattle.lazic.specs.declared.outcome.Outcome.{Outcome}
+use Rattle.lazic.specs.declared.outcome.Outcome.TheVariants as outcome
 
 wants : (rose : Type 0) (asked : Asked) (file : List ℕ → List ℕ) → IsAnswer rose asked file NoMemory
 wants rose (Check c) file = unchecked refl
@@ -88,3 +92,20 @@ want_told files_told text_told read_rose write_rose put_rose stamp asked old new
     },
   ),
 )
+
+same_line : (b : Bool) → (if b then line_of outcome.NoMemory else line_of outcome.NoMemory) ≡ line_of outcome.NoMemory
+same_line true = refl
+same_line false = refl
+
+pub want_ends :
+    (read_rose put_rose files_told text_told : Type 0) (right : Outcome) (before after : List ℕ) (status : ℕ) (k : Kept)
+    → (status ≡ 14) ⊎ (status ≡ 15) → (status ≡ 14 → put_rose) → (text_told → status ≢ 14 → after ≡ before ++ line_of outcome.NoMemory)
+    → (text_told → status ≡ 14 → GrewByFront before after (line_of outcome.NoMemory)) → Ends read_rose put_rose files_told text_told right before after status k
+want_ends read_rose put_rose files_told text_told right before after status k has put printed cut = record {
+  answer = outcome.NoMemory;
+  cause = tt;
+  told = elim has [ inl e ↦ inl e | inr e ↦ inr (inl e) ];
+  put = put;
+  grown = λ t other. printed t other ∙ ap (λ (xs : List ℕ). before ++ xs) (sym (same_line (status == 15)));
+  cut = λ t e. inl (cut t e);
+}

@@ -26,6 +26,8 @@ pub fn decide<F: Folder>(alloc: Global, words: &[&str], folder: &mut F) -> Outco
     ensures usage { result ≡ Outcome.Usage → IsNone (request_of (map (λ w. w.now) words.now)) }
     ensures only_usage { IsNone (request_of (map (λ w. w.now) words.now)) → (result ≡ Outcome.Usage) ⊎ (result ≡ Outcome.NoMemory) }
     ensures files { (n : List ℕ) → F.file folder.new n ≡ F.file folder.old n }
+    ensures tells { F.tells folder.old → F.tells folder.new }
+    ensures writes { F.write_faults folder.new ≡ F.write_faults folder.old }
 {
     match replay_request(alloc, words) {
         Ok(Some(wanted)) => decide_source(alloc, folder, wanted),
@@ -37,6 +39,8 @@ pub fn decide<F: Folder>(alloc: Global, words: &[&str], folder: &mut F) -> Outco
 fn decide_source<F: Folder>(alloc: Global, folder: &mut F, wanted: Replaying<'_>) -> Outcome
     ensures caused { IsCaused (Rose (F.read_faults folder.old) (F.read_faults folder.new)) (F.tells folder.old) (source_outcome wanted.entry.model wanted.entry.turns (F.file folder.old wanted.entry.source.now) (F.file folder.old wanted.entry.run.now)) result }
     ensures files { (n : List ℕ) → F.file folder.new n ≡ F.file folder.old n }
+    ensures tells { F.tells folder.old → F.tells folder.new }
+    ensures writes { F.write_faults folder.new ≡ F.write_faults folder.old }
 {
     match folder.read(alloc, wanted.source, MOST_SOURCE) {
         Ok(Got::Bytes(bytes)) => decide_tree(alloc, folder, &bytes, wanted),
@@ -55,6 +59,8 @@ fn decide_tree<F: Folder>(
     requires { length source.now ≤ 2 ^ 20 }
     ensures caused { IsCaused (Rose (F.read_faults folder.old) (F.read_faults folder.new)) (F.tells folder.old) (tree_outcome wanted.entry.model wanted.entry.turns source.now (source_read wanted.entry.model source.now) (F.file folder.old wanted.entry.run.now)) result }
     ensures files { (n : List ℕ) → F.file folder.new n ≡ F.file folder.old n }
+    ensures tells { F.tells folder.old → F.tells folder.new }
+    ensures writes { F.write_faults folder.new ≡ F.write_faults folder.old }
     ensures later { F.read_faults folder.old ≤ F.read_faults folder.new }
 {
     match examined(alloc, source, wanted.model) {
@@ -86,6 +92,8 @@ fn decide_run<F: Folder>(
     requires { length source.now ≤ 2 ^ 20 }
     ensures caused { (tree : Items) → RunsAs (tree_of examined.now.typed) tree wanted.entry.model → IsCaused (Rose (F.read_faults folder.old) (F.read_faults folder.new)) (F.tells folder.old) (run_outcome wanted.entry.model wanted.entry.turns source.now tree (F.file folder.old wanted.entry.run.now)) result }
     ensures files { (n : List ℕ) → F.file folder.new n ≡ F.file folder.old n }
+    ensures tells { F.tells folder.old → F.tells folder.new }
+    ensures writes { F.write_faults folder.new ≡ F.write_faults folder.old }
     ensures later { F.read_faults folder.old ≤ F.read_faults folder.new }
 {
     match folder.read(alloc, wanted.run, MOST_BYTES) {

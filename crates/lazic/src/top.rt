@@ -11,7 +11,7 @@ ghost use Rattle.lazic.specs.Meaning.{OneAnswer};
 ghost use Rattle.lazic.specs.Reaching.{KeptAreReplayed, ReachesAreTold};
 ghost use Rattle.lazic.specs.Headline.{Headline};
 ghost use Rattle.lazic.specs.Told.{RequestsDiffer, ToldOf, stamp_of};
-ghost use Rattle.lazic.specs.Report.{MeansReport, kept_of, told_text, IsFree};
+ghost use Rattle.lazic.specs.Report.{Ends, MeansReport, kept_of, told_text, IsFree};
 
 use crate::answer::decide;
 use crate::report::{Kept, Report, no_memory, print};
@@ -71,6 +71,11 @@ pub fn run_words<R: Threads + Sync, F: Folder, S: Sink, G: Gate>(
     ensures only_usage { IsNone (asked_of (map (λ w. w.now) words.now)) → IsNone (request_of (map (λ w. w.now) words.now)) → (result.status ≡ 10) ⊎ ((result.status ≡ 14) ⊎ (result.status ≡ 15)) }
 
     ensures files { IsNone (asked_of (map (λ w. w.now) words.now)) → (n : List ℕ) → F.file folder.new n ≡ F.file folder.old n }
+    ensures tells { IsNone (asked_of (map (λ w. w.now) words.now)) → F.tells folder.old → F.tells folder.new }
+    ensures writes { IsNone (asked_of (map (λ w. w.now) words.now)) → F.write_faults folder.new ≡ F.write_faults folder.old }
+
+    // Whether or not the files are told, there is an answer that has its cause, and its status and its line end the run.
+    ensures ends { IsNone (asked_of (map (λ w. w.now) words.now)) → Ends (Rose (F.read_faults folder.old) (F.read_faults folder.new)) (Rose (S.faults out.old) (S.faults out.new)) (F.tells folder.old) (S.tells out.new) (outcome_of (map (λ w. w.now) words.now) (F.file folder.old)) (S.text out.old) (S.text out.new) result.status result.kept }
 
     // What is asked of a certificate or a source has a verdict: the files are as it says, and the text grows by its line, and by that of
     // the seed behind it where the source is a seed's. Where a file is named for a witness, the witness of the verdict is written to it.
@@ -138,6 +143,11 @@ fn replay_words<F: Folder, S: Sink>(
     ensures only_usage { IsNone (request_of (map (λ w. w.now) words.now)) → (result.status ≡ 10) ⊎ ((result.status ≡ 14) ⊎ (result.status ≡ 15)) }
 
     ensures files { (n : List ℕ) → F.file folder.new n ≡ F.file folder.old n }
+    ensures tells { F.tells folder.old → F.tells folder.new }
+    ensures writes { F.write_faults folder.new ≡ F.write_faults folder.old }
+
+    // Whether or not the files are told, there is an answer that has its cause, and its status and its line end the run.
+    ensures ends { Ends (Rose (F.read_faults folder.old) (F.read_faults folder.new)) (Rose (S.faults out.old) (S.faults out.new)) (F.tells folder.old) (S.tells out.new) (outcome_of (map (λ w. w.now) words.now) (F.file folder.old)) (S.text out.old) (S.text out.new) result.status result.kept }
 {
     drawn_are_there();
     let outcome = decide(alloc, words, folder);

@@ -28,3 +28,13 @@ returns-clause-print_fault g c = search rules
 pub returns-clause-replayed : goal.returns-clause-replayed
 returns-clause-replayed g c told =
     kept_are_replayed c.drawn_are_there.ensures _ _ _ _ c.decide-outcome.result c.print.result.status c.print.result.kept c.decide-outcome.ensures.caused told c.print.ensures.status c.print.ensures.free
+
+pub returns-clause-ends : goal.returns-clause-ends
+returns-clause-ends g c = record {
+  answer = c.decide-outcome.result;
+  cause = c.decide-outcome.ensures.caused;
+  told = c.print.ensures.status;
+  put = c.print.ensures.fault;
+  grown = c.print.ensures.printed;
+  cut = c.print.ensures.cut;
+}
