@@ -1,16 +1,11 @@
 -- What is told of a verdict means what the verdict means.
 use Rattle.std.proofs.Common.{◌≡◌, ◌≢◌, ◌⊎◌, ◌∙◌, inl, inr, refl, sym, ap, subst, ℕ, ◌==◌, Bool, true, false, if◌then◌else◌, List, ◌++◌, ℤ}
-use Rattle.std.specs.Prelude.{◌||◌, Option, None, Some, Result, Ok, Err}
+use Rattle.std.specs.Prelude.{◌||◌, Option, None}
 use Rattle.lv_outside.specs.Bytes.{GrewByFront}
 use Rattle.lv_outside.specs.Counts.{Rose}
 use Rattle.lv_base.specs.declared.kind.Model.{Model}
 use Rattle.lv_base.specs.declared.place.Place.{Place}
 use Rattle.lv_base.specs.declared.fault.ErrorKind.{ErrorKind}
-use Rattle.lv_base.specs.declared.fail.SourceFail.{SourceFail}
-use Rattle.c_tree.specs.Tree.{Items}
-use Rattle.c_meaning.specs.Good.{Good}
-use Rattle.source_checks.specs.Refusals.{source_refusal}
-use Rattle.source_reading.specs.Reading.{unless, checked, tree_read, source_read}
 use Rattle.task_gen.specs.Generated.{generated}
 use Rattle.request_words.specs.Asked.{Asked, Check, Verify, Generate, IsApart, plain_learn, plain_model, plain_units}
 use Rattle.verdicts.specs.Lines.{status_of, text_of}
@@ -28,8 +23,8 @@ use Rattle.request_answers.proofs.Verifications.{unsafe_reached, verify_more}
 use Rattle.lazic.specs.declared.report.Kept.{Kept}
 use Rattle.lazic.specs.declared.report.Kept.TheVariants as kept
 use Rattle.lazic.specs.Told.{IsTold, ToldOf, kept_in, kept_when}
-use Rattle.lazic.specs.Headline.{Headline, IsGoodIn, IsGoodFor, IsReachedFor, IsReachedIn}
-use Rattle.lazic.proofs.AcceptedLaws.{good_of}
+use Rattle.lazic.specs.Headline.{Headline, IsSecureIn, IsSecureFor, IsReachedFor, IsReachedIn}
+use Rattle.lazic.proofs.MeaningLaws.{read_tree}
 
 zero_told : (status : ℕ) (v : Verdict) → (status ≡ 14) ⊎ ((status ≡ 15) ⊎ (status ≡ status_of v)) → status ≡ 0 → status_of v ≡ 0
 zero_told status v (inl e) z = absurd (let both : 14 ≡ 0 = sym e ∙ z in cc)
@@ -56,33 +51,25 @@ kept_by : (b : Bool) (v : Verdict) (values : List ℤ) → (if b then kept.Nothi
 kept_by true v values e = absurd (cc)
 kept_by false v values e = kept_verdict v values e
 
--- ---- the source breaks no rule
+-- ---- the source breaks no rule, and is secure
 
-checked_free : (model : Model) (r : Result Items SourceFail) (tree : Items) → checked model r ≡ Ok tree → source_refusal tree model ≡ None
-checked_free model (Err f) tree is = absurd (cc)
-checked_free model (Ok read) tree is = by_refusal (source_refusal read model) refl is
-  where
-    by_refusal : (o : Option SourceFail) → source_refusal read model ≡ o → unless o read ≡ Ok tree → source_refusal tree model ≡ None
-    by_refusal None free e = let same : read ≡ tree = cc in subst (λ (t : Items). source_refusal t model ≡ None) same free
-    by_refusal (Some f) refused e = absurd (cc)
+secure_in : (model : Model) (source : List ℕ) → IsCertified model source → IsSecureIn model source
+secure_in model source c =
+    let r = read_tree model source c.replay.tree c.replay.read in
+    record { tree = c.replay.tree; has = r.0; good = r.1; secure = c.secure }
 
-read_is_good : (model : Model) (source : List ℕ) (tree : Items) → source_read model source ≡ Ok tree → Good tree model
-read_is_good model source tree read = good_of tree model (checked_free model (tree_read source) tree read)
-
-certified_good : (model : Model) (source : List ℕ) → IsCertified model source → IsGoodIn model source
-certified_good model source c = (c.replay.tree, c.replay.read, read_is_good model source c.replay.tree c.replay.read)
-
-good_for : (asked : Asked) (file : List ℕ → List ℕ) → IsCertifiedFor asked file → IsGoodFor asked file
-good_for (Check c) file h = certified_good c.model (file c.source) h
-good_for (Verify w) file h = certified_good w.model (file w.source) h
-good_for (Generate seed) file h = certified_good plain_model (generated seed) h
+secure_for : (asked : Asked) (file : List ℕ → List ℕ) → IsCertifiedFor asked file → IsSecureFor asked file
+secure_for (Check c) file h = secure_in c.model (file c.source) h
+secure_for (Verify w) file h = secure_in w.model (file w.source) h
+secure_for (Generate seed) file h = secure_in plain_model (generated seed) h
 
 -- ---- the values that are kept
 
 reached_in : (before behind : ℕ) (model : Model) (units learn : ℕ) (source : List ℕ) (v : Verdict) (values : List ℤ) → IsVerifyAnswer (Rose before behind) model units learn source v → IsUnsafe v values → IsReachedIn model source values
 reached_in before behind model units learn source v values h u =
     let r = unsafe_reached before behind model units learn source u.0 u.1 values u.2 (subst (λ (x : Verdict). IsVerifyAnswer (Rose before behind) model units learn source x) u.3 h) in
-    (r.0, r.1, read_is_good model source r.0 r.1, (u.0, (r.2.0, r.2.2)))
+    let t = read_tree model source r.0 r.1 in
+    record { tree = r.0; has = t.0; good = t.1; kind = u.0; at = r.2.0; reaches = r.2.2 }
 
 reached : (before behind : ℕ) (asked : Asked) (file : List ℕ → List ℕ) (v : Verdict) (values : List ℤ) → IsAnswer (Rose before behind) asked file v → IsUnsafe v values → IsReachedFor asked file values
 reached before behind (Check c) file v values h u =
@@ -95,8 +82,8 @@ pub told_means :
     (files_told text_told write_rose put_rose : Type 0) (before behind : ℕ) (stamp : Stamp) (asked : Asked) (old new : List ℕ → List ℕ) (text_before text_after : List ℕ) (status : ℕ) (k : Kept)
     → ToldOf files_told text_told (Rose before behind) write_rose put_rose old new text_before text_after status k stamp asked → Headline files_told asked old status k
 told_means files_told text_told write_rose put_rose before behind stamp asked old new text_before text_after status k (v, (w, t)) = record {
+  secure = λ f z. secure_for asked old (zero_certified before behind asked old v (t.answer f) (zero_told status v t.told z));
   safe = λ f z. zero_certified before behind asked old v (t.answer f) (zero_told status v t.told z);
-  good = λ f z. good_for asked old (zero_certified before behind asked old v (t.answer f) (zero_told status v t.told z));
   unsafe = λ f values e. reached before behind asked old v values (t.answer f) (kept_by ((status == 14) || (status == 15)) v values (sym t.keeps ∙ e));
 }
 
