@@ -1,7 +1,8 @@
 -- The answer that the program computes is the one that is meant.
-use Rattle.std.proofs.Common.{inl, inr, ◌⊎◌, ◌≡◌, ℕ, ◌<◌, ◌≤◌, List, [], ◌∷◌, ◌++◌, length, refl, sym, ◌∙◌, ap, subst, arith, Bool, true, false, ℤ}
+use Rattle.std.proofs.Common.{inl, inr, ◌⊎◌, ◌≡◌, ◌≢◌, ℕ, ◌<◌, ◌≤◌, List, [], ◌∷◌, ◌++◌, length, refl, sym, ◌∙◌, ap, subst, arith, Bool, true, false, ℤ}
 use Rattle.std.specs.Prelude.{Option, Some, None, Result, Ok, Err, nat_lt, if◌then◌else◌}
 use Rattle.std.proofs.lemmas.Bool.Decides.{nat_tests}
+use Rattle.std.proofs.lemmas.List.{append_assoc}
 use Rattle.lv_base.specs.Place.{place_at}
 use Rattle.lv_base.specs.declared.kind.Model.{Model}
 use Rattle.lv_base.specs.declared.fail.SourceFail.{SourceFail}
@@ -16,7 +17,10 @@ use Rattle.c_tree.specs.Tree.{Items}
 use Rattle.parse_machine.specs.Tokens.{is_unsupported}
 use Rattle.parse_machine.specs.Machine as ma
 use Rattle.c_tree.specs.Denotes.{IsSpelled}
+use Rattle.parse_laws.proofs.CompleteFile.{complete}
 use Rattle.high_tree_laws.proofs.HighFile.{the_only}
+use Rattle.first_token_laws.specs.Laws.{IsFirstRefused}
+use Rattle.first_token_laws.proofs.FirstRefused.{one_first}
 use Rattle.c_parser.specs.Reading.{IsEnded, IsReading, IsStopped}
 use Rattle.c_parser.proofs.ReadingLaws.{reading}
 use Rattle.c_meaning.specs.Good.{Good}
@@ -50,17 +54,21 @@ ended source tokens has =
     let divides = has.1 in
     record { before = signs_of (tokens_in 0 divides.pieces); at = length source; are = sym (ap signs_of divides.listed ∙ signs_append (tokens_in 0 divides.pieces) (end_token source ∷ [])) }
 
+not_the_limit : (unsupported : Bool) (at : ℕ) → (if unsupported then ma.Unsupported at else ma.Syntax at) ≡ ma.TooHigh → ⊥
+not_the_limit true at h = cc
+not_the_limit false at h = cc
+
 stopped_at : (source : List ℕ) (tokens : List SymbolAt) (at : ℕ) (unsupported : Bool) → ma.parse_of tokens ≡ (if unsupported then ma.Unsupported at else ma.Syntax at) → IsStopped tokens at unsupported → IsUnread source tokens (Faulty (if unsupported then Unsupported else Syntax) (place_at source at))
 stopped_at source tokens at unsupported read stop =
     let token = stop.0 in
     stopped token stop.1
-    (read ∙ ap (λ (b : Bool). if b then ma.Unsupported at else ma.Syntax at) (sym stop.3) ∙ ap (λ (n : ℕ). if is_unsupported token.symbol then ma.Unsupported n else ma.Syntax n) stop.2)
+    (λ high. not_the_limit unsupported at (sym read ∙ high))
     (ap (λ (b : Bool). Faulty (if b then Unsupported else Syntax) (place_at source at)) (sym stop.3) ∙ ap (λ (n : ℕ). Faulty (if is_unsupported token.symbol then Unsupported else Syntax) (place_at source n)) stop.2)
 
 -- ---- tokens that are a tree
 
 pub tree_is : (tokens : List SymbolAt) (tree : Items) → ma.parse_of tokens ≡ ma.Tree tree → IsSpelled tokens tree → IsTreeOf tokens tree
-tree_is tokens tree read spelled = let w = the_only tokens tree read in record { spelled = spelled; low = w.0; only = w.1; read = read }
+tree_is tokens tree read spelled = let w = the_only tokens tree read in record { spelled = spelled; low = w.0; only = w.1 }
 
 -- ---- a source that is read has a tree, which breaks no rule
 
@@ -86,6 +94,10 @@ read_tree model source tree read = by_tokens (lexed source) refl read
     by_tokens : (r : Result (List Token) SourceFail) → lexed source ≡ r → checked model (tokens_read r) ≡ Ok tree → HasTree source tree × Good tree model
     by_tokens (Err f) is e = absurd (cc)
     by_tokens (Ok tokens) is e = by_parsed tokens ((is_lexed_of source (Ok tokens)).0 is) (ma.parse_of (signs_of tokens)) refl e
+
+-- the machine answers it
+tree_read_of : (tokens : List SymbolAt) (tree : Items) → IsTreeOf tokens tree → ma.parse_of tokens ≡ ma.Tree tree
+tree_read_of tokens tree is = sym (ap ma.parse_of is.spelled.spelled) ∙ complete tree is.spelled.shaped is.low is.spelled.end
 
 -- ---- what is computed is meant
 
@@ -149,18 +161,41 @@ module _ (model : Model) (turns : ℕ) (source file : List ℕ) where
   pub parsed_source : (tokens : List Token) (r : ma.Result) → HasTokens source tokens → ma.parse_of (signs_of tokens) ≡ r → source_outcome model turns source file ≡ read_to (checked model (parsed_of r))
   parsed_source tokens r has read = lexed_source (Ok tokens) has.0 has ∙ ap (λ (x : ma.Result). read_to (checked model (parsed_of x))) read
 
-  refusal_is : (at : ℕ) (b : Bool) → read_to (checked model (parsed_of (if b then ma.Unsupported at else ma.Syntax at))) ≡ Faulty (if b then Unsupported else Syntax) (place_at source at)
-  refusal_is at true = refl
-  refusal_is at false = refl
+  -- the fault at the token that is refused first
+  same_fault : (b : Bool) (at : ℕ) (token other : SymbolAt) → token ≡ other → at ≡ other.at → is_unsupported other.symbol ≡ b
+      → Faulty (if b then Unsupported else Syntax) (place_at source at) ≡ Faulty (if is_unsupported token.symbol then Unsupported else Syntax) (place_at source token.at)
+  same_fault b at token other same at_is flag =
+      ap (λ (n : ℕ). Faulty (if b then Unsupported else Syntax) (place_at source n)) (at_is ∙ ap (λ (t : SymbolAt). t.at) (sym same))
+      ∙ ap (λ (c : Bool). Faulty (if c then Unsupported else Syntax) (place_at source token.at)) (sym flag ∙ ap (λ (t : SymbolAt). is_unsupported t.symbol) (sym same))
+
+  stopped_is : (tokens : List Token) (token : SymbolAt) → HasTokens source tokens → IsFirstRefused (signs_of tokens) token → ma.parse_of (signs_of tokens) ≢ ma.TooHigh
+      → (r : ma.Result) → ma.parse_of (signs_of tokens) ≡ r → IsReading (signs_of tokens) r
+      → source_outcome model turns source file ≡ Faulty (if is_unsupported token.symbol then Unsupported else Syntax) (place_at source token.at)
+  stopped_is tokens token has first low (ma.Tree tree) read reads =
+      let spelled = reads.0 in
+      absurd (first.none (record {
+        tree = tree;
+        shaped = spelled.shaped;
+        end = spelled.end;
+        more = first.behind;
+        spelled = spelled.spelled ∙ sym first.are ∙ sym (append_assoc first.before (token ∷ []) first.behind);
+      }))
+  stopped_is tokens token has first low (ma.Syntax at) read reads =
+      let stop = reads (ended source tokens has) in
+      parsed_source tokens (ma.Syntax at) has read ∙ same_fault false at token stop.0 (one_first (signs_of tokens) token stop.0 first stop.1).1 stop.2 stop.3
+  stopped_is tokens token has first low (ma.Unsupported at) read reads =
+      parsed_source tokens (ma.Unsupported at) has read ∙ same_fault true at token reads.0 (one_first (signs_of tokens) token reads.0 first reads.1).1 reads.2 reads.3
+  stopped_is tokens token has first low ma.TooHigh read reads = absurd (low read)
 
   unread_is : (tokens : List Token) (answer : Outcome) → HasTokens source tokens → IsUnread source (signs_of tokens) answer → source_outcome model turns source file ≡ answer
-  unread_is tokens answer has (stopped token stops read is) =
-      parsed_source tokens (ma.refusal token) has read ∙ refusal_is token.at (is_unsupported token.symbol) ∙ sym is
-  unread_is tokens answer has (too_high token stops read is) = parsed_source tokens ma.TooHigh has read ∙ sym is
+  unread_is tokens answer has (stopped token first low is) =
+      let parsed = ma.parse_of (signs_of tokens) in
+      stopped_is tokens token has first low parsed refl (reading (signs_of tokens) parsed refl) ∙ sym is
+  unread_is tokens answer has (too_high token high read is) = parsed_source tokens ma.TooHigh has read ∙ sym is
 
   pub tree_source : (tree : Items) (o : Option SourceFail) → HasTree source tree → source_refusal tree model ≡ o → source_outcome model turns source file ≡ read_to (unless o tree)
   tree_source tree o has is =
-      parsed_source has.tokens (ma.Tree tree) has.has has.tree_of.read ∙ ap (λ (x : Option SourceFail). read_to (unless x tree)) is
+      parsed_source has.tokens (ma.Tree tree) has.has (tree_read_of (signs_of has.tokens) tree has.tree_of) ∙ ap (λ (x : Option SourceFail). read_to (unless x tree)) is
 
   pub values_source : (tree : Items) (r : Result (List ℤ) StoredFail) → HasTree source tree → source_refusal tree model ≡ None → read_run_of file ≡ r → source_outcome model turns source file ≡ values_outcome model turns source tree r
   values_source tree r has free read = tree_source tree None has free ∙ ap (values_outcome model turns source tree) read

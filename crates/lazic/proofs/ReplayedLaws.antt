@@ -66,8 +66,8 @@ module _ (there : DrawnAreThere) (words : List (List ℕ)) (file : List ℕ → 
   not_run_refused stored.Memory is = cc
 
   not_unread : (source : List ℕ) (tokens : List SymbolAt) → IsUnread source tokens (outcome.Reached kind place values) → ⊥
-  not_unread source tokens (stopped token stops read is) = cc
-  not_unread source tokens (too_high token stops read is) = cc
+  not_unread source tokens (stopped token first low is) = cc
+  not_unread source tokens (too_high token high read is) = cc
 
   module _ (wanted : Wanted) (asked : request_of words ≡ Some wanted) (told : outcome_of words file ≡ outcome.Reached kind place values) where
     abbrev source : List ℕ
