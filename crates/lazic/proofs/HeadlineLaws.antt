@@ -1,5 +1,5 @@
 -- What is told of a verdict means what the verdict means.
-use Rattle.std.proofs.Common.{◌≡◌, ◌≢◌, ◌⊎◌, ◌∙◌, inl, inr, refl, sym, ap, subst, ℕ, ◌==◌, Bool, true, false, if◌then◌else◌, List, ◌++◌, ℤ}
+use Rattle.std.proofs.Common.{◌≡◌, ◌≢◌, ◌⊎◌, ◌∙◌, inl, inr, sym, ap, subst, ℕ, ◌==◌, Bool, true, false, if◌then◌else◌, List, ◌++◌, ℤ}
 use Rattle.std.specs.Prelude.{◌||◌, Option, None}
 use Rattle.lv_outside.specs.Bytes.{GrewByFront}
 use Rattle.lv_outside.specs.Counts.{Rose}
@@ -22,7 +22,7 @@ use Rattle.request_answers.proofs.Zero.{zero_certified}
 use Rattle.request_answers.proofs.Verifications.{unsafe_reached, verify_more}
 use Rattle.lazic.specs.declared.report.Kept.{Kept}
 use Rattle.lazic.specs.declared.report.Kept.TheVariants as kept
-use Rattle.lazic.specs.Told.{IsTold, ToldOf, kept_in, kept_when}
+use Rattle.lazic.specs.Told.{ToldOf, kept_in, kept_when}
 use Rattle.lazic.specs.Headline.{Headline, IsSecureIn, IsSecureFor, IsReachedFor, IsReachedIn}
 use Rattle.lazic.proofs.MeaningLaws.{read_tree}
 

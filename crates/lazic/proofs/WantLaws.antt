@@ -9,14 +9,14 @@ use Rattle.request_answers.specs.Answers.{IsAnswer}
 use Rattle.request_answers.specs.Answers.IsCheckAnswer.{no_memory as unchecked}
 use Rattle.request_answers.specs.Answers.IsVerifyAnswer.{no_memory as unverified}
 use Rattle.request_answers.specs.Printed.{text_for}
-use Rattle.request_answers.specs.Stored.{File, IsOther, IsStored, IsUntouched, both_named, file_for, witness_file}
+use Rattle.request_answers.specs.Stored.{File, IsStored, IsUntouched, both_named, file_for, witness_file}
 use Rattle.request_answers.specs.Witnessed.{IsWitnessed, IsWitnessBy, named_for}
 use Rattle.source_witnesses.specs.declared.stamp.Stamp.{Stamp}
 use Rattle.lazic.specs.declared.report.Kept.{Kept}
 use Rattle.lazic.specs.declared.report.Kept.TheVariants as kept
 use Rattle.lazic.specs.Outcome.{text_of as line_of}
 use Rattle.lazic.specs.Report.{Ends}
-use Rattle.lazic.specs.Told.{IsTold, ToldOf, kept_when}
+use Rattle.lazic.specs.Told.{ToldOf, kept_when}
 use Rattle.lazic.specs.declared.outcome.Outcome.{Outcome}
 use Rattle.lazic.specs.declared.outcome.Outcome.TheVariants as outcome
 

@@ -1,5 +1,5 @@
 -- What the answers to checks and verifications mean for the source that is asked about.
-use Rattle.std.specs.Prelude.{ℕ, ℤ, ◌≡◌, List, Ok}
+use Rattle.std.specs.Prelude.{ℕ, ℤ, ◌≡◌, List}
 use Rattle.lv_base.specs.declared.kind.Model.{Model}
 use Rattle.lv_base.specs.declared.fault.ErrorKind.{ErrorKind}
 use Rattle.c_tree.specs.Tree.{Items}
