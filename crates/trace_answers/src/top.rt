@@ -25,7 +25,7 @@ fn loaded<F: Folder>(
 ) -> Result<Vec<u8>, Answer> {
     match folder.read(alloc, name, most) {
         Ok(Got::Bytes(bytes)) => Ok(bytes),
-        Ok(Got::Longer) => Err(Answer::Told(Verdict::Over(limit, most as u64 + 1))),
+        Ok(Got::Longer) => Err(Answer::Told(Verdict::Over(limit, (most as u64).saturating_add(1)))),
         Err(FileFail::Failed) => Err(Answer::Told(Verdict::ReadFault)),
         Err(FileFail::Memory) => Err(Answer::Told(Verdict::NoMemory)),
     }
