@@ -4,7 +4,7 @@
 //! steps over them. Both are defined here, once, for all crates above.
 #![tactic(auto)]
 
-ghost use Rattle.std.specs.Prelude.{◌≡◌, ◌↔◌, true, ℕ, ◌+◌, ◌*◌, ◌<◌, ◌≤◌, length, List, [], ◌∷◌, ◌++◌, MatchResult, Some, slice_get};
+ghost use Rattle.std.specs.Prelude.{◌≡◌, ◌↔◌, true, false, ℕ, ◌+◌, ◌*◌, ◌<◌, ◌≤◌, length, List, [], ◌∷◌, ◌++◌, MatchResult, Some, slice_get};
 ghost use Rattle.prop.specs.Logic.{negated, count, OnFail};
 ghost use Rattle.prop.specs.Pieces.{pieces, Rising, start_of};
 
@@ -51,6 +51,14 @@ pub const MOST_LITERALS: u64 = 67_108_864;
 
 /// There are fewer clauses than this, so that each is named by 32 bits.
 const MOST_CLAUSES: usize = 0xffff_ffff;
+
+// Whether no number of 32 bits is left for one clause more.
+fn is_full(clauses: usize) -> bool
+    ensures full { result ≡ true → 4294967295 ≤ clauses }
+    ensures room { result ≡ false → clauses < 4294967295 }
+{
+    clauses >= MOST_CLAUSES
+}
 
 /// A list of clauses, each a list of literals. All literals lie in one flat array, so a clause is reached by its
 /// number in constant time and takes four bytes beside its literals.
@@ -145,7 +153,7 @@ impl Clauses {
         if total > MOST_LITERALS {
             return Err(BlastFail::Over(total));
         }
-        if self.ends.len() >= MOST_CLAUSES || self.ends.push(total as u32).is_err() {
+        if is_full(self.ends.len()) || self.ends.push(total as u32).is_err() {
             return Err(BlastFail::Memory);
         }
         if self.lits.extend_from_slice(clause).is_err() {

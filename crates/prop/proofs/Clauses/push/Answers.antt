@@ -13,7 +13,7 @@ pub invariant_of-self-else-is_err-2 : goal.invariant_of-self-else-is_err-2
 invariant_of-self-else-is_err-2 c =
     let a : c.extend_from_slice.new.self.items ≡ c.self.inside.lits.items ++ c.args.clause.now = search rules in
     let b : c.push.new.self.items ≡ c.self.inside.ends.items ++ (c.len.result + length c.args.clause.now) ∷ [] = search rules in
-    push_keeps c.self.inside.ends.items c.push.new.self.items c.self.inside.lits.items c.args.clause.now c.extend_from_slice.new.self.items (c.len.result + length c.args.clause.now) a b (omega (arith, c.len.ensures, c.self.inside.lits.ok.0)) c.self.invariant.0 (omega (arith, c.if-total-gt-MOST_LITERALS.false)) (omega (arith, c.len-2.ensures, c.self.inside.ends.ok.0, c.if-len-ge-MOST_CLAUSES.false))
+    push_keeps c.self.inside.ends.items c.push.new.self.items c.self.inside.lits.items c.args.clause.now c.extend_from_slice.new.self.items (c.len.result + length c.args.clause.now) a b (omega (arith, c.len.ensures, c.self.inside.lits.ok.0)) c.self.invariant.0 (omega (arith, c.if-total-gt-MOST_LITERALS.false)) (omega (arith, c.len-2.ensures, c.self.inside.ends.ok.0, c.is_full.ensures.room c.if-is_full.false))
 
 pub returns : goal.returns
 returns c =
