@@ -1,4 +1,4 @@
-ghost use Rattle.std.specs.Prelude.{◌≡◌, ℕ, ◌+◌, ◌<◌, ◌≤◌, length, List, [], ◌∷◌, ◌++◌, IfOk, MatchResult};
+ghost use Rattle.std.specs.Prelude.{◌≡◌, ℕ, ◌+◌, ◌<◌, ◌≤◌, length, List, [], ◌∷◌, ◌++◌, IfOk, MatchResult, true, false};
 ghost use Rattle.prop.specs.Logic.{positive_of};
 ghost use Rattle.bit_gates.specs.Cut.{Grew};
 
@@ -46,6 +46,14 @@ impl From<AllocFailed<Def>> for NoRoom {
     }
 }
 
+// Whether no variable is left behind the one with this number.
+fn is_full(next: u32) -> bool
+    ensures full { result ≡ true → 4294967295 ≤ next }
+    ensures room { result ≡ false → next < 4294967295 }
+{
+    next == u32::MAX
+}
+
 /// Definitions of the variables from `start` up to below `next`.
 #[derive(Drop)]
 pub struct Net {
@@ -73,7 +81,7 @@ impl Net {
         ensures grew { IfOk result (λ l. (l ≡ positive_of self.old.next)
             × Grew self.old.next self.old.defs.items self.new.next self.new.defs.items (def ∷ [])) }
     {
-        if self.next == u32::MAX {
+        if is_full(self.next) {
             return Err(NoRoom);
         }
         self.defs.push(def)?;

@@ -1,4 +1,4 @@
-ghost use Rattle.std.specs.Prelude.{◌≡◌, IfOk, slice_index_or, false};
+ghost use Rattle.std.specs.Prelude.{◌≡◌, ◌≤◌, IfOk, OnErr, slice_index_or, false};
 ghost use Rattle.std.specs.List.{list_all};
 ghost use Rattle.call_order.specs.Layers.{IsBounded, HasNoCycle};
 ghost use Rattle.call_order.specs.Order.{IsOrder};
@@ -19,8 +19,10 @@ pub(crate) struct Taking {
     order: Vec<u32>,
 }
 
+// A number of a function. No memory holds as many as make it too great.
 fn number_of(i: usize) -> Result<u32, Memory>
-    ensures { IfOk result (λ n. n ≡ i) }
+    ensures same { IfOk result (λ n. n ≡ i) }
+    ensures cause { OnErr result (4294967296 ≤ i) }
 {
     if i > u32::MAX as usize {
         return Err(Memory);

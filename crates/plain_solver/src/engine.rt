@@ -1,6 +1,6 @@
 //! The search: propagate, decide, and learn from each conflict, until an answer stands.
 
-ghost use Rattle.std.specs.Prelude.{◌≡◌, ℕ, ◌+◌, ◌-◌, ◌++◌, ◌∷◌, [], ◌<◌, ◌≤◌, ◌^◌, length, IfOk, Some, None, List, slice_get, true, false, MatchOption, MatchResult};
+ghost use Rattle.std.specs.Prelude.{◌≡◌, ℕ, ◌+◌, ◌-◌, ◌++◌, ◌∷◌, [], ◌<◌, ◌≤◌, ◌^◌, length, IfOk, OnErr, Some, None, List, slice_get, true, false, MatchOption, MatchResult};
 ghost use Rattle.prop.specs.declared.Lit.{Lit};
 ghost use Rattle.prop.specs.Steps.{In, Has};
 ghost use Rattle.prop.specs.Trues.{listed};
@@ -106,6 +106,7 @@ fn jump(trail: &mut Trail, low: usize)
 fn next_number(known: &Known) -> Result<u32, AllocError>
     ensures value { IfOk result (λ n. n ≡ length known.now) }
     ensures few { IfOk result (λ n. n < 4294967295) }
+    ensures cause { OnErr result (4294967295 ≤ length known.now) }
 {
     let number = known.len();
     if number >= MOST_CLAUSES {

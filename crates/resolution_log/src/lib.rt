@@ -4,7 +4,7 @@
 //! The definitions of new logs and lean refutations, and their laws, are those that the solver's answers cite.
 #![tactic(auto)]
 
-ghost use Rattle.std.specs.Prelude.{◌≡◌, ◌↔◌, true, ℕ, ◌+◌, ◌<◌, ◌≤◌, ◌^◌, List, [], ◌∷◌, ◌++◌, length, IfOk, OnErr, MatchResult};
+ghost use Rattle.std.specs.Prelude.{◌≡◌, ◌↔◌, true, ℕ, ◌+◌, ◌<◌, ◌≤◌, ◌^◌, List, [], ◌∷◌, ◌++◌, length, false, IfOk, OnErr, MatchResult};
 
 mod check;
 pub mod laws;
@@ -92,6 +92,14 @@ pub struct Chain {
     pub pairs: Pairs,
 }
 
+// Whether no number of 32 bits is left for one chain more.
+fn is_full(chains: usize) -> bool
+    ensures full { result ≡ true → 4294967295 ≤ chains }
+    ensures room { result ≡ false → chains < 4294967295 }
+{
+    chains >= 0xffff_ffff
+}
+
 /// A list of chains, fewer than 2^32. Contracts see the list.
 #[derive(Drop)]
 pub struct Log {
@@ -133,7 +141,7 @@ impl Log {
         ensures pushed { IfOk result (λ _. self.new ≡ self.old ++ chain ∷ []) }
         ensures kept { OnErr result (self.new ≡ self.old) }
     {
-        if self.chains.len() >= 0xffff_ffff {
+        if is_full(self.chains.len()) {
             return Err(AllocError);
         }
         let Chain { first, mut pairs } = chain;

@@ -1,4 +1,4 @@
-ghost use Rattle.std.specs.Prelude.{◌≡◌, ◌+◌, ◌<◌, ◌++◌, ◌∷◌, [], suc, length, take, drop, pos, IfOk, option_map};
+ghost use Rattle.std.specs.Prelude.{◌≡◌, ◌+◌, ◌<◌, ◌≤◌, ◌++◌, ◌∷◌, [], suc, length, take, drop, pos, IfOk, OnErr, option_map};
 ghost use Rattle.slot_code.specs.Values as c;
 ghost use Rattle.slot_code.specs.declared.flat.Instruction.TheVariants as i;
 ghost use Rattle.slot_values.specs.Seen as seen;
@@ -22,7 +22,8 @@ pub fn add(code: &mut Vec<Instruction>, instruction: Instruction) -> Result<(), 
 ///
 /// Fails with `Memory` where no machine has so many.
 pub fn after(first: usize, count: usize) -> Result<usize, Memory>
-    ensures { IfOk result (λ n. n ≡ first + count) }
+    ensures value { IfOk result (λ n. n ≡ first + count) }
+    ensures cause { OnErr result (18446744073709551616 ≤ first + count) }
 {
     match first.checked_add(count) {
         None => Err(Memory),
@@ -34,7 +35,8 @@ pub fn after(first: usize, count: usize) -> Result<usize, Memory>
 ///
 /// Fails with `Memory` where no machine has so many.
 pub fn next(slot: usize) -> Result<usize, Memory>
-    ensures { IfOk result (λ n. n ≡ suc slot) }
+    ensures value { IfOk result (λ n. n ≡ suc slot) }
+    ensures cause { OnErr result (18446744073709551616 ≤ suc slot) }
 {
     after(slot, 1)
 }
@@ -43,7 +45,8 @@ pub fn next(slot: usize) -> Result<usize, Memory>
 ///
 /// Fails with `Memory` where a skip can't be so long.
 pub fn distance(count: usize) -> Result<u32, Memory>
-    ensures { IfOk result (λ n. n ≡ count) }
+    ensures value { IfOk result (λ n. n ≡ count) }
+    ensures cause { OnErr result (4294967296 ≤ count) }
 {
     match u32::try_from(count) {
         Err(_) => Err(Memory),
