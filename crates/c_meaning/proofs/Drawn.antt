@@ -27,7 +27,7 @@ within_after most (Stop (Error kind at taken)) f x h = x
 within_after most (Stop Ended) f x h = tt
 within_after most (Stop NoInput) f x h = tt
 within_after most (Stop (BadInput n)) f x h = tt
-within_after most (Stop (Spent at s)) f x h = tt
+within_after most (Stop (Spent at s n)) f x h = tt
 
 turn_within : (most at : ℕ) (store : List (List ℤ)) (taken turns : ℕ) → taken ≤ most → Within most (turn at (record { store = store; taken = taken; turns = turns }))
 turn_within most at store taken zero le = tt
@@ -68,7 +68,7 @@ end_within most (Stop (Error l b u)) kind at taken x h = subst (λ n. n ≤ most
 end_within most (Stop Ended) kind at taken x h = cc
 end_within most (Stop NoInput) kind at taken x h = cc
 end_within most (Stop (BadInput n)) kind at taken x h = cc
-end_within most (Stop (Spent b s)) kind at taken x h = cc
+end_within most (Stop (Spent b s n)) kind at taken x h = cc
 
 pub drawn_are_there : DrawnAreThere
 drawn_are_there compute items model turns inputs kind at taken h =

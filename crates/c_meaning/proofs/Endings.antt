@@ -194,14 +194,14 @@ missing_unused = refl
 abbrev pub endless_source : Items
 endless_source = (items_and (items_and (items_and (items_and no_items (tDeclaration (declares (words_and (words_and no_words (wStorage storage.Extern 0)) (wType type.Void 7)) (declarators_and no_declarators None (named (codes "abort") 12) (fFunction (pVoid 17 18 22)) no_attributes iNothing) 23))) (tDeclaration (declares (words_and (words_and no_words (wStorage storage.Extern 25)) (wType type.Int 32)) (declarators_and no_declarators None (named (codes "__VERIFIER_nondet_int") 36) (fFunction (pVoid 57 58 62)) no_attributes iNothing) 63))) (tFunction (words_and no_words (wType type.Void 65)) (named (codes "reach_error") 70) (pUnknown 81 82) no_attributes (bSkipped 84 no_raw 85))) (tFunction (words_and no_words (wType type.Int 87)) (named (codes "main") 91) (pUnknown 95 96) no_attributes (bBlock 98 (statements_and no_statements (sWhile (head 102 108 (eNumber 1 (form true false 0) 109) 110) (sBlock 112 no_statements 113))) 115)))
 
-pub endless : run 5 endless_source Ilp32 ([]) ≡ (Spent 102 [])
+pub endless : run 5 endless_source Ilp32 ([]) ≡ (Spent 102 [] 0)
 endless = refl
 
 --   int x; int main() { L: x = 1 - x; goto L; }
 abbrev pub goto_takes_turns_source : Items
 goto_takes_turns_source = (items_and (items_and no_items (tDeclaration (declares (words_and no_words (wType type.Int 0)) (declarators_and no_declarators None (named (codes "x") 4) fPlain no_attributes iNothing) 5))) (tFunction (words_and no_words (wType type.Int 7)) (named (codes "main") 11) (pUnknown 15 16) no_attributes (bBlock 18 (statements_and (statements_and no_statements (sLabel (codes "L") 20 21 no_attributes (sExpr (eAssign (eName (codes "x") 23) to.Plain 25 (eBinary (eNumber 1 (form true false 0) 27) op.Subtract 29 (eName (codes "x") 31))) 32))) (sGoto 34 (codes "L") 39 40)) 42)))
 
-pub goto_takes_turns : run 3 goto_takes_turns_source Ilp32 ([]) ≡ (Spent 34 (((pos 0) ∷ []) ∷ []))
+pub goto_takes_turns : run 3 goto_takes_turns_source Ilp32 ([]) ≡ (Spent 34 (((pos 0) ∷ []) ∷ []) 0)
 goto_takes_turns = refl
 
 --   extern void abort(void);

@@ -157,7 +157,7 @@ ends_more (Value v st) (Stop e) x = ⊎_elim (λ h. absurd h) (λ h. absurd h) x
 ends_more (Stop e) (Value w st') x = ⊎_elim (λ h. inl (spent_end e h)) (λ h. absurd h) x
   where
     spent_end : (e : End) → IsSpentEnd e → IsSpent e
-    spent_end (Spent at store) h = tt
+    spent_end (Spent at store n) h = tt
     spent_end (Error kind at taken) h = absurd h
     spent_end Ended h = absurd h
     spent_end NoInput h = absurd h
@@ -165,7 +165,7 @@ ends_more (Stop e) (Value w st') x = ⊎_elim (λ h. inl (spent_end e h)) (λ h.
 ends_more (Stop e) (Stop e') x = ⊎_elim (λ h. inl (spent_end e h)) (λ h. inr h) x
   where
     spent_end : (e : End) → IsSpentEnd e → IsSpent e
-    spent_end (Spent at store) h = tt
+    spent_end (Spent at store n) h = tt
     spent_end (Error kind at taken) h = absurd h
     spent_end Ended h = absurd h
     spent_end NoInput h = absurd h
@@ -189,7 +189,7 @@ not_beyond t (Stop (Error l b u)) g' kind at x h =
 not_beyond t (Stop Ended) g' kind at x h = cc
 not_beyond t (Stop NoInput) g' kind at x h = cc
 not_beyond t (Stop (BadInput n)) g' kind at x h = cc
-not_beyond t (Stop (Spent b s)) g' kind at x h = cc
+not_beyond t (Stop (Spent b s n)) g' kind at x h = cc
 
 pub reflexive : (n : ℕ) → n ≤ n
 reflexive n = omega arith
@@ -212,7 +212,7 @@ placed_end P (Stop (Error l b u)) kind at taken p h = subst P (ap at_of h) p
 placed_end P (Stop Ended) kind at taken p h = cc
 placed_end P (Stop NoInput) kind at taken p h = cc
 placed_end P (Stop (BadInput n)) kind at taken p h = cc
-placed_end P (Stop (Spent b s)) kind at taken p h = cc
+placed_end P (Stop (Spent b s n)) kind at taken p h = cc
 
 pub error_places : ErrorPlaces
 error_places compute items model turns inputs kind at taken h test inside =

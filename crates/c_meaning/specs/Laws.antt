@@ -8,7 +8,7 @@ use Rattle.c_meaning.specs.Program.{run_with}
 use Rattle.c_meaning.specs.Places.{InItems}
 
 abbrev pub IsSpent : End → Type 0
-IsSpent (Spent at store) = Unit {0}
+IsSpent (Spent at store taken) = Unit {0}
 IsSpent _ = ⊥
 
 -- A run that isn't out of turns is the same with more turns.

@@ -14,7 +14,7 @@ pub record Later (st st' : State) : Type 0 where
   pub turns : st.turns ≤ st'.turns
 
 abbrev pub IsSpentEnd : End → Type 0
-IsSpentEnd (Spent at store) = Unit {0}
+IsSpentEnd (Spent at store taken) = Unit {0}
 IsSpentEnd _ = ⊥
 
 abbrev pub IsSpentGot : {A : Type 0} → Got A → Type 0
@@ -87,7 +87,7 @@ beyond_after t (Stop (Error kind at taken)) f b h = b
 beyond_after t (Stop Ended) f b h = tt
 beyond_after t (Stop NoInput) f b h = tt
 beyond_after t (Stop (BadInput n)) f b h = tt
-beyond_after t (Stop (Spent at s)) f b h = tt
+beyond_after t (Stop (Spent at s n)) f b h = tt
 
 same_after : {A B : Type 0} (t : ℕ) (g : Got A) (f f' : A → Run B) → ((v : A) (st : State) → Beyond t (f v st) ⊎ (f' v st ≡ f v st)) → Beyond t (after g f) ⊎ (after g f' ≡ after g f)
 same_after t (Value v st) f f' h = h v st
@@ -158,7 +158,7 @@ placed_after P (Stop (Error kind at taken)) f x h = x
 placed_after P (Stop Ended) f x h = tt
 placed_after P (Stop NoInput) f x h = tt
 placed_after P (Stop (BadInput n)) f x h = tt
-placed_after P (Stop (Spent at s)) f x h = tt
+placed_after P (Stop (Spent at s n)) f x h = tt
 
 turn_placed : (P : ℕ → Type 0) (at : ℕ) (store : List (List ℤ)) (taken turns : ℕ) → AtPlace P (turn at (record { store = store; taken = taken; turns = turns }))
 turn_placed P at store taken zero = tt

@@ -18,14 +18,14 @@ pub record State : Type 0 where
   pub turns : ℕ
 
 -- How a run ends. An error has the offset of its token and the inputs drawn; a bad input its number, from 0; a run that is
--- out of turns the offset of what asked for one more, and the store there. So a loop at this offset is visited with this
--- store exactly where for some number of turns the run ends `Spent` with both.
+-- out of turns the offset of what asked for one more, the store there, and the inputs drawn. So a loop at this offset is
+-- visited with this store, so many inputs being drawn, exactly where for some number of turns the run ends `Spent` with all three.
 pub data End : Type 0 where
   Error : (kind : ErrorKind) (at : ℕ) (taken : ℕ) → End
   Ended : End
   NoInput : End
   BadInput : (number : ℕ) → End
-  Spent : (at : ℕ) (store : List (List ℤ)) → End
+  Spent : (at : ℕ) (store : List (List ℤ)) (taken : ℕ) → End
 
 -- a value with the state behind it, or the end of the run
 pub data Got (A : Type 0) : Type 0 where
@@ -65,14 +65,14 @@ fail kind at st = Stop (Error kind at st.taken)
 
 -- out of turns at this offset
 abbrev pub spent : {A : Type 0} → ℕ → Run A
-spent at st = Stop (Spent at st.store)
+spent at st = Stop (Spent at st.store st.taken)
 
 abbrev pub with_turns : State → ℕ → State
 with_turns st turns = record { store = st.store; taken = st.taken; turns = turns }
 
 -- takes one turn, where one is left
 abbrev pub turn : ℕ → Run (Unit {0})
-turn at st = elim (st.turns) [ zero ↦ Stop (Spent at st.store) | suc left ↦ Value tt (with_turns st left) ]
+turn at st = elim (st.turns) [ zero ↦ Stop (Spent at st.store st.taken) | suc left ↦ Value tt (with_turns st left) ]
 
 -- ---- Objects
 

@@ -151,7 +151,7 @@ module _ (R : (A : Type 0) → Run A → Run A → Type 0) (k : Kept R (λ at. U
 -- ---- The laws
 
 spent_end : (e : End) → IsSpentEnd e → IsSpent e
-spent_end (Spent at store) h = tt
+spent_end (Spent at store n) h = tt
 spent_end (Error kind at taken) h = absurd h
 spent_end Ended h = absurd h
 spent_end NoInput h = absurd h
@@ -179,7 +179,7 @@ not_beyond t (Stop (Error l b u)) g' kind at x h = ⊎_elim (λ lt. absurd (omeg
 not_beyond t (Stop Ended) g' kind at x h = cc
 not_beyond t (Stop NoInput) g' kind at x h = cc
 not_beyond t (Stop (BadInput n)) g' kind at x h = cc
-not_beyond t (Stop (Spent b s)) g' kind at x h = cc
+not_beyond t (Stop (Spent b s n)) g' kind at x h = cc
 
 same_turns : (n : ℕ) → n ≤ n
 same_turns n = omega arith

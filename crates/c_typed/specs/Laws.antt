@@ -6,7 +6,7 @@ use Rattle.c_typed.specs.Tree.{Program}
 use Rattle.c_typed.specs.Run.{run}
 
 abbrev pub IsSpent : End → Type 0
-IsSpent (Spent at store) = Unit {0}
+IsSpent (Spent at store taken) = Unit {0}
 IsSpent _ = ⊥
 
 -- A run that isn't out of turns is the same with more turns.

@@ -120,7 +120,7 @@ error-end (c.Error k x y) kind at taken h =
 error-end c.Ended kind at taken h = absurd cc
 error-end c.NoInput kind at taken h = absurd cc
 error-end (c.BadInput number) kind at taken h = absurd cc
-error-end (c.Spent x store) kind at taken h = absurd cc
+error-end (c.Spent x store n) kind at taken h = absurd cc
 
 pub typed-errors-come-back : TypedErrorsComeBack
 typed-errors-come-back t order p inputs draws more turns n kind at typed ordered flows follow f enough begin =

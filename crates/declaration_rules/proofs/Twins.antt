@@ -1,5 +1,5 @@
--- What a declaration meets has its name and its scope.
-use Rattle.std.proofs.Common.{◌≡◌, ℕ, zero, suc, ◌+◌, ◌<◌, ◌≤◌, Bool, true, false, ◌||◌, ◌&&◌, not, cond, nat_eq, nat_lt, List, [], ◌∷◌, ◌++◌, length, take, map, slice_get, bytes_eq, Option, None, Some, refl, ap, ◌∙◌, sym, arith, inl, inr, ◌⊎◌}
+-- What a declaration meets has its name, its name space and its scope.
+use Rattle.std.proofs.Common.{◌≡◌, ℕ, zero, suc, ◌+◌, ◌<◌, ◌≤◌, Bool, true, false, ◌||◌, ◌&&◌, not, if◌then◌else◌, cond, nat_eq, nat_lt, List, [], ◌∷◌, ◌++◌, length, take, map, slice_get, bytes_eq, Option, None, Some, refl, ap, ◌∙◌, sym, arith, inl, inr, ◌⊎◌}
 use Rattle.std.specs.List.{list_any}
 use Rattle.std.specs.Option.{option_map}
 use Rattle.std.proofs.lemmas.Bool.{and_parts, and_cases, and_left, and_right, eqb-true, both_ways}
@@ -7,7 +7,7 @@ use Rattle.std.proofs.lemmas.List.{length-map}
 use Rattle.std.proofs.lemmas.Option.{slice_get_within, slice_get-map}
 use Rattle.std.proofs.lemmas.Slice.Eq.{bytes_eq-Decides}
 use Rattle.lv_base.specs.declared.kind.Model.{Model}
-use Rattle.c_meaning.specs.Scope.{Scope, file, block, Declared, is_same}
+use Rattle.c_meaning.specs.Scope.{Scope, file, block, Declared, is_same, is_tag}
 use Rattle.c_meaning.specs.Bindings as b
 use Rattle.type_scopes.specs.declared.entries.Entry.{Entry}
 use Rattle.type_scopes.specs.Seen.{entry_of, declared_of}
@@ -55,23 +55,40 @@ same_scope (block a m) (block c n) h =
 same_scope file (block c n) h = absurd (both_ways false refl h)
 same_scope (block a m) file h = absurd (both_ways false refl h)
 
+same_tag : (t u : Bool) → (if t then u else not u) ≡ true → t ≡ u
+same_tag true u h = sym h
+same_tag false true h = absurd (both_ways false refl h)
+same_tag false false h = refl
+
 module _ (x : Declared) (e : b.Entry) (h : is_twin x e ≡ true) where
+  both : ((if is_tag x.what then is_tag e.declared.what else not (is_tag e.declared.what)) ≡ true) × ((is_same x.scope e.declared.scope && bytes_eq x.name e.declared.name) ≡ true)
+  both = and_parts (if is_tag x.what then is_tag e.declared.what else not (is_tag e.declared.what)) (is_same x.scope e.declared.scope && bytes_eq x.name e.declared.name) h
+
   parts : (is_same x.scope e.declared.scope ≡ true) × (bytes_eq x.name e.declared.name ≡ true)
-  parts = and_parts (is_same x.scope e.declared.scope) (bytes_eq x.name e.declared.name) h
+  parts = and_parts (is_same x.scope e.declared.scope) (bytes_eq x.name e.declared.name) both.1
+
+  -- those of a name space, a scope and a name
+  abbrev alike_in : Bool → Scope → List ℕ → b.Entry → Bool
+  alike_in t s n y = (if t then is_tag y.declared.what else not (is_tag y.declared.what)) && (is_same s y.declared.scope && bytes_eq n y.declared.name)
 
   -- the twins of a twin
   twins_same : (es : List b.Entry) (k : ℕ) → last_where (is_twin e.declared) es k ≡ last_where (is_twin x) es k
   twins_same es k =
-      ap (λ s. last_where (λ y. is_same s y.declared.scope && bytes_eq e.declared.name y.declared.name) es k) (sym (same_scope x.scope e.declared.scope parts.0))
-      ∙ ap (λ n. last_where (λ y. is_same x.scope y.declared.scope && bytes_eq n y.declared.name) es k) (sym ((bytes_eq-Decides x.name e.declared.name).0 parts.1))
+      ap (λ (t : Bool). last_where (alike_in t e.declared.scope e.declared.name) es k) (sym (same_tag (is_tag x.what) (is_tag e.declared.what) both.0))
+      ∙ ap (λ s. last_where (alike_in (is_tag x.what) s e.declared.name) es k) (sym (same_scope x.scope e.declared.scope parts.0))
+      ∙ ap (λ n. last_where (alike_in (is_tag x.what) x.scope n) es k) (sym ((bytes_eq-Decides x.name e.declared.name).0 parts.1))
 
 -- what is no twin is not met
 no_meeting : (x : Declared) (e : b.Entry) → is_twin x e ≡ false → is_met x e ≡ false
-no_meeting x e h = and_right (d.same_space x.what e.declared.what) _ (by (and_cases (is_same x.scope e.declared.scope) (bytes_eq x.name e.declared.name) h))
+no_meeting x e h = of_both (and_cases (d.same_space x.what e.declared.what) (is_same x.scope e.declared.scope && bytes_eq x.name e.declared.name) h)
   where
     by : (is_same x.scope e.declared.scope ≡ false) ⊎ (bytes_eq x.name e.declared.name ≡ false) → (is_same x.scope e.declared.scope && (bytes_eq x.name e.declared.name && nat_lt 0 (length x.name))) ≡ false
     by (inl s) = and_left (is_same x.scope e.declared.scope) _ s
     by (inr n) = and_right (is_same x.scope e.declared.scope) _ (and_left (bytes_eq x.name e.declared.name) (nat_lt 0 (length x.name)) n)
+
+    of_both : (d.same_space x.what e.declared.what ≡ false) ⊎ ((is_same x.scope e.declared.scope && bytes_eq x.name e.declared.name) ≡ false) → is_met x e ≡ false
+    of_both (inl s) = and_left (d.same_space x.what e.declared.what) _ s
+    of_both (inr r) = and_right (d.same_space x.what e.declared.what) _ (by (and_cases (is_same x.scope e.declared.scope) (bytes_eq x.name e.declared.name) r))
 
 -- a declaration without a name meets none
 pub nameless : (x : Declared) (es : List b.Entry) (k : ℕ) → length x.name ≡ 0 → 0 ≡ last_where (is_met x) es k

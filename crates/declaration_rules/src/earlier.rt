@@ -64,8 +64,7 @@ fn meets_at(env: &Env<'_>, place: usize, entry: &Entry<'_>) -> bool
     }
 }
 
-// One more than the place of the last declaration before this one that it meets, and 0 where there is none. Those of its name
-// and scope in the other name space are passed over.
+// One more than the place of the last declaration before this one that it meets, and 0 where there is none.
 fn twin_met(env: &Env<'_>, place: usize, entry: &Entry<'_>) -> usize
     requires { slice_get env.now.entries place ≡ Some entry.now }
     ensures { result ≡ walk.last_where (p.is_met (seen.declared_of entry.now)) (seen.env_of env.now).entries place }

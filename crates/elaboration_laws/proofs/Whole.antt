@@ -48,8 +48,8 @@ record Free (env : Env) (model : Model) (items : Items) : Type 0 where
 free : (env : Env) (model : Model) (items : Items) → refusal_in env model items ≡ None → Free env model items
 free env model items h =
     let b = first_broken (faults_in env model items) in
-    let p = passed env 0 env.objects in
-    record { right = none_broken (faults_in env model items) (no_broken b p h); small = all_small env 0 env.objects (no_passed b p h) }
+    let p = passed 0 env.objects in
+    record { right = none_broken (faults_in env model items) (no_broken b p h); small = all_small 0 env.objects (no_passed b p h) }
 
 pub typed_kept_are : SourcesTyped → TypedKept
 typed_kept_are typed items model read h =

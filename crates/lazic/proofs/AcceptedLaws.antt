@@ -33,7 +33,7 @@ pub good_of : (tree : Items) (model : Model) → source_refusal tree model ≡ N
 good_of tree model h =
     let env = env_of tree model in
     let parts = either_none (first.refusal tree model) (control_refusal tree model) h in
-    let no_typing : typing tree model ≡ [] = none_broken (typing tree model) (no_broken (first_broken (typing tree model)) (passed env 0 env.objects) parts.0) in
+    let no_typing : typing tree model ≡ [] = none_broken (typing tree model) (no_broken (first_broken (typing tree model)) (passed 0 env.objects) parts.0) in
     let no_control : control tree model ≡ [] = none_broken (control tree model) (no_fault (first_broken (control tree model)) parts.1) in
     ap (λ bs. or_control bs (control tree model)) no_typing ∙ no_control
 
@@ -55,9 +55,9 @@ pub over_or_none : (tree : Items) (model : Model) → Good tree model → IsOver
 over_or_none tree model good =
     let env = env_of tree model in
     let parts = both_empty (typing tree model) (control tree model) good in
-    let refuses : first.refusal tree model ≡ first.refused None (passed env 0 env.objects) = ap (λ bs. first.refused (first_broken bs) (passed env 0 env.objects)) parts.0 in
+    let refuses : first.refusal tree model ≡ first.refused None (passed 0 env.objects) = ap (λ bs. first.refused (first_broken bs) (passed 0 env.objects)) parts.0 in
     let free : control_refusal tree model ≡ None = ap (λ bs. fault_of (first_broken bs)) parts.1 in
-    by_cells (first.refused None (passed env 0 env.objects)) refuses free (cells_alone (passed env 0 env.objects))
+    by_cells (first.refused None (passed 0 env.objects)) refuses free (cells_alone (passed 0 env.objects))
   where
     by_cells : (o : Option SourceFail) → first.refusal tree model ≡ o → control_refusal tree model ≡ None → IsOverOrNone o → IsOverOrNone (source_refusal tree model)
     by_cells o refuses free (inl none) = inl (ap (λ q. or_else q (control_refusal tree model)) (refuses ∙ none) ∙ free)

@@ -37,7 +37,7 @@ said_plain source turns values (run.Error kind at drawn) = tt
 said_plain source turns values run.Ended = tt
 said_plain source turns values run.NoInput = tt
 said_plain source turns values (run.BadInput i) = tt
-said_plain source turns values (run.Spent at store) = tt
+said_plain source turns values (run.Spent at store n) = tt
 
 values_plain : (model : Model) (turns : ℕ) (source : List ℕ) (tree : Items) (r : Result (List ℤ) StoredFail) → IsPlain (values_outcome model turns source tree r)
 values_plain model turns source tree (Err (stored.Format at)) = tt
@@ -65,7 +65,7 @@ told_is_said source turns values (run.Error kind at drawn) = refl
 told_is_said source turns values run.Ended = refl
 told_is_said source turns values run.NoInput = refl
 told_is_said source turns values (run.BadInput i) = refl
-told_is_said source turns values (run.Spent at store) = refl
+told_is_said source turns values (run.Spent at store n) = refl
 
 -- what is read of a run file, or want of memory
 pub values_run : (p : Program) (turns : ℕ) (source file : List ℕ) (values : List ℤ) (answer : Outcome) → read_run_of file ≡ Ok values → IsRunOn p turns source values answer → IsRunOf p turns source file answer

@@ -79,7 +79,7 @@ IsReachAnswer wanted source tree values kind at answer =
     ⊎ ((number : ℕ) × (count : ℕ) × (answer ≡ Over number count) × IsSourceLimit number))
 
 spent_said : (source : List ℕ) (turns : ℕ) (values : List ℤ) (e : run.End) → IsSpent e → said_of source turns values e ≡ OutOfTurns turns
-spent_said source turns values (run.Spent at store) spent = refl
+spent_said source turns values (run.Spent at store n) spent = refl
 spent_said source turns values (run.Error kind at drawn) spent = absurd spent
 spent_said source turns values run.Ended spent = absurd spent
 spent_said source turns values run.NoInput spent = absurd spent

@@ -94,7 +94,7 @@ module _ (there : DrawnAreThere) (words : List (List ℕ)) (file : List ℕ → 
       by_end run.Ended ends is = absurd (cc)
       by_end run.NoInput ends is = absurd (cc)
       by_end (run.BadInput i) ends is = absurd (cc)
-      by_end (run.Spent at store) ends is = absurd (cc)
+      by_end (run.Spent at store n) ends is = absurd (cc)
 
     by_answer : IsAnswer wanted.model wanted.turns source (file wanted.run) (outcome.Reached kind place values) → IsReplayed words file values
     by_answer (too_long long is) = absurd (cc)

@@ -13,7 +13,7 @@ said_of source turns values (run.Error kind at drawn) = Reached kind (place_at s
 said_of source turns values run.Ended = Ended
 said_of source turns values run.NoInput = NeedsMore
 said_of source turns values (run.BadInput i) = BadValue i
-said_of source turns values (run.Spent at store) = OutOfTurns turns
+said_of source turns values (run.Spent at store taken) = OutOfTurns turns
 
 -- the same of an ending without its store
 abbrev pub told_of : List ℕ → ℕ → List ℤ → Ending → Outcome

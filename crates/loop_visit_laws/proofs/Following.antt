@@ -139,7 +139,7 @@ module _ (t : Parts) (order : List ℕ) (p : Flows) (flows : AreFlows p) (f : Pr
             arrived a.last (a.turns).goal (a.turns).is (a.turns).store s there draws all drawn
 
 pub loop-visits-follow : LoopVisitsFollow
-loop-visits-follow t order p inputs l values typed ordered flows f v (turns, run) = by-link (link_of p.main (links_in t order)) refl ends
+loop-visits-follow t order p inputs l values typed ordered flows f v (turns, drawn, run) = by-link (link_of p.main (links_in t order)) refl ends
   where
     is_laid : IsLaid (program_setting t order)
     is_laid = laid t.objects t.model (program_code t order) (slots_in (program_code t order)) (omega arith) (subst (λ (cs : List Cell). length cs < 4294967296) f.cells flows.few_cells)

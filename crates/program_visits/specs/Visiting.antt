@@ -21,7 +21,7 @@ Shows s values store =
 
 -- The program visits the loop at this offset: a turn is wanted there behind so many turns, with these values of the objects.
 abbrev pub Visits : Program → List ℤ → ℕ → List (List ℤ) → Type 0
-Visits p inputs at values = (turns : ℕ) × (run turns p inputs ≡ Spent at values)
+Visits p inputs at values = (turns : ℕ) × (taken : ℕ) × (run turns p inputs ≡ Spent at values taken)
 
 -- a loop of the graph
 abbrev pub IsLoopOf : Flow → LoopAt → Type 0

@@ -27,7 +27,7 @@ ending_of (Error kind at taken) = ending.Error kind at taken
 ending_of Ended = ending.Ended
 ending_of NoInput = ending.NoInput
 ending_of (BadInput number) = ending.BadInput number
-ending_of (Spent at store) = ending.Spent
+ending_of (Spent at store taken) = ending.Spent
 
 -- the place of the next instruction, the slots, and the state of the run
 pub record Machine : Type 0 where

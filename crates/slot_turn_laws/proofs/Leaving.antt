@@ -180,7 +180,7 @@ module _ (c : Frame) (s0 : List ℤ) (end : ℕ) (labels : List ℕ → ℕ) whe
         λ s st tu ke. seq c.asker (Unit {0}) Exit (h st) (λ v. next) k (from c C s st) (runs t tn C W s st (λ v st1. ends c.asker (next st1) k) r.back_at r.step tu (λ v s1 st1 tu1 k1 is1. next_runs s1 st1 tu1 (keeps_on c d s0 s s1 ke k1))) in
         record { normal = on; leaves = leaves_inner t k (again h next) b e E C (λ x st. refl) (λ l st. refl) (pass t k (again h next) E Broke Normal (λ st. refl) nb) on lv }
 
-    pub spent_turn : (w goal at : ℕ) (s : List ℤ) (store : List (List ℤ)) (taken : ℕ) → Lies c w (i.Turn at goal) → from c w s (record { store = store; taken = taken; turns = zero }) ≡ spent_at c.asker (Spent at store)
+    pub spent_turn : (w goal at : ℕ) (s : List ℤ) (store : List (List ℤ)) (taken : ℕ) → Lies c w (i.Turn at goal) → from c w s (record { store = store; taken = taken; turns = zero }) ≡ spent_at c.asker (Spent at store taken)
     spent_turn w goal at s store taken l = stops c w s (record { store = store; taken = taken; turns = zero }) (i.Turn at goal) ending.Spent l refl
 
     pub taken_turn : (w goal at : ℕ) (s : List ℤ) (store : List (List ℤ)) (taken left : ℕ) → Lies c w (i.Turn at goal) →

@@ -117,7 +117,7 @@ module _ (c : Frame) where
   other-end x st Ended h = refl
   other-end x st NoInput h = refl
   other-end x st (BadInput number) h = refl
-  other-end x st (Spent at store) h = absurd h
+  other-end x st (Spent at store n) h = absurd h
 
   fills_ends : (p d : ℕ) (s : List ℤ) (x : Instruction) (st : State) (g : Got ℤ) → Still st g → onward x st (fills p s d g) ≡ ends c.asker g (λ v st. from (suc p) (put s d v) st)
   unfolding from ends Still

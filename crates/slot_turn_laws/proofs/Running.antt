@@ -20,7 +20,7 @@ use Rattle.slot_turn_laws.specs.Turns.{onward_turned, turned_within, turned_from
 
 -- an end that is not for want of a turn
 abbrev pub IsOther : End → Type 0
-IsOther (Spent at store) = ⊥
+IsOther (Spent at store taken) = ⊥
 IsOther _ = Unit {0}
 
 -- ---- What keeps the turns

@@ -19,7 +19,7 @@ use Rattle.slot_laws.specs.Laws.{IsOrder}
 
 -- what the objects hold where a run is out of turns at this offset
 abbrev pub spent_at : ℕ → End → Option (List (List ℤ))
-spent_at at (Spent other store) = choose (nat_eq other at) (Some store) None
+spent_at at (Spent other store taken) = choose (nat_eq other at) (Some store) None
 spent_at at _ = None
 
 -- what they hold at an instruction that takes a turn for a loop or a jump at this offset

@@ -26,11 +26,11 @@ use Rattle.typed_programs.specs.Parts as part
 use Rattle.source_refusals.specs.Cells as c
 use Rattle.source_refusals.specs.Refusals as re
 
-pub passed_more : (env : b.Env) (cells : ℕ) (xs : List Object) (i : ℕ) (f : Object) → i < length xs →
-    c.passed env cells (map object_of (drop i xs))
-    ≡ (if c.is_over cells (b.size_of_object (Some (object_of (get_or xs i f)))) then Some (record { from = c.declared_from_at env (object_of (get_or xs i f)).at; count = c.count_after cells (b.size_of_object (Some (object_of (get_or xs i f)))) })
-    else c.passed env (cells + b.size_of_object (Some (object_of (get_or xs i f)))) (map object_of (drop (i + 1) xs)))
-passed_more env cells xs i f h = ap (λ ys. c.passed env cells (map object_of ys)) (drop_more xs i f h)
+pub passed_more : (cells : ℕ) (xs : List Object) (i : ℕ) (f : Object) → i < length xs →
+    c.passed cells (map object_of (drop i xs))
+    ≡ (if c.is_over cells (b.size_of_object (Some (object_of (get_or xs i f)))) then Some (record { at = (object_of (get_or xs i f)).at; count = c.count_after cells (b.size_of_object (Some (object_of (get_or xs i f)))) })
+    else c.passed (cells + b.size_of_object (Some (object_of (get_or xs i f)))) (map object_of (drop (i + 1) xs)))
+passed_more cells xs i f h = ap (λ ys. c.passed cells (map object_of ys)) (drop_more xs i f h)
 
 -- ---- Names
 

@@ -9,11 +9,11 @@ const MOST_ELEMENTS: u64 = 1024;
 
 const MOST_CELLS: u64 = 65_536;
 
-/// Where the limit on cells is passed: the offset behind the declarator of the object with which it is, and the count that
-/// passed it, which is the length of an array of more than 1,024 elements, and else that of the cells up to this object.
+/// Where the limit on cells is passed: the offset of the name of the object with which it is, and the count that passed it,
+/// which is the length of an array of more than 1,024 elements, and else that of the cells up to this object.
 #[derive(Clone, Copy, Debug, PartialEq, Eq)]
 pub struct Passed {
-    pub from: u64,
+    pub at: u32,
     pub count: u64,
 }
 
@@ -24,15 +24,6 @@ fn count_of(object: &Object<'_>) -> u64
     match object.length {
         None => 1,
         Some(length) => length,
-    }
-}
-
-fn declared_from(env: &Env<'_>, at: u32) -> u64
-    ensures { result ≡ c.declared_from_at (seen.env_of env.now) at }
-{
-    match env.entries.placed(at) {
-        None => 0,
-        Some(entry) => entry.from,
     }
 }
 
@@ -58,14 +49,14 @@ fn count_after(cells: u64, count: u64) -> u64
 /// elements. Each object counts once, a scalar as one cell.
 #[tactic(auto, using(crate::proofs::Rows::passed_more))]
 pub fn limit_passed(env: &Env<'_>) -> Option<Passed>
-    ensures { result ≡ c.passed (seen.env_of env.now) 0 (seen.env_of env.now).objects }
+    ensures { result ≡ c.passed 0 (seen.env_of env.now).objects }
 {
     let mut cells = 0u64;
     for object in &env.objects {
         let count = count_of(object);
         if is_over(cells, count) {
             return Some(Passed {
-                from: declared_from(env, object.at),
+                at: object.at,
                 count: count_after(cells, count),
             });
         }

@@ -14,6 +14,7 @@ use source_rules::{items_found, items_summed};
 use std::alloc::Global;
 use type_scopes::Env;
 use typed_programs::names_of;
+use typing_rules::Offsets;
 
 /// All rules of names, types, calls, constants and cases that a source breaks, summed up.
 ///
@@ -26,7 +27,7 @@ pub fn all_found(alloc: Global, env: &Env<'_>, model: Model, unit: &Unit) -> Res
     items_summed();
     let bodies = names_of(alloc, &unit.items)?;
     let lines = redeclared(alloc, env, model)?;
-    let again = offsets(alloc, &lines)?;
+    let again = Offsets::of(alloc, offsets(alloc, &lines)?)?;
     let items = items_found(alloc, env, model, &bodies, &again, &unit.items)?;
     let main = main_found(alloc, env, &unit.items)?;
     let twice = summed(&lines);
@@ -49,7 +50,7 @@ fn fault(broken: Broken) -> SourceFail
 fn first_of(broken: Broken, passed: Passed) -> SourceFail
     ensures { Some result ≡ re.refused (Some (told.broken_of broken)) (Some passed) }
 {
-    if (broken.at as u64) < passed.from {
+    if broken.at <= passed.at {
         fault(broken)
     } else {
         over(passed)

@@ -15,14 +15,14 @@ use name_entries::object_length;
 use tree_places::{count_parts, first_of};
 use type_constants::constant;
 use type_scopes::Env;
-use typing_rules::{constant_lines, expression, value_line, words};
+use typing_rules::{Offsets, constant_lines, expression, value_line, words};
 
 // The words of a declaration.
 pub(crate) fn specs_found(
     env: &Env<'_>,
     model: Model,
     bodies: &[Text],
-    again: &[u32],
+    again: &Offsets,
     specs: &Specs,
 ) -> Found
     ensures { lines.found_of result ≡ s.found_of_words (seen.env_of env.now) model bodies.now again.now (v.words_of specs.now) }
@@ -35,7 +35,7 @@ pub(crate) fn value_found(
     env: &Env<'_>,
     model: Model,
     bodies: &[Text],
-    again: &[u32],
+    again: &Offsets,
     e: &Expr,
 ) -> Found
     ensures { lines.found_of result ≡ a.value_all (seen.env_of env.now) model bodies.now again.now (v.expr e.now) }
@@ -49,7 +49,7 @@ pub(crate) fn constant_found(
     env: &Env<'_>,
     model: Model,
     bodies: &[Text],
-    again: &[u32],
+    again: &Offsets,
     e: &Expr,
 ) -> Found
     ensures { lines.found_of result ≡ a.constant_all (seen.env_of env.now) model bodies.now again.now (v.expr e.now) }
@@ -63,7 +63,7 @@ fn first_found(
     env: &Env<'_>,
     model: Model,
     bodies: &[Text],
-    again: &[u32],
+    again: &Offsets,
     is_static: bool,
     e: &Expr,
 ) -> Found
@@ -81,7 +81,7 @@ fn firsts_found(
     env: &Env<'_>,
     model: Model,
     bodies: &[Text],
-    again: &[u32],
+    again: &Offsets,
     is_static: bool,
     parts: &[Listed],
 ) -> Found
@@ -105,7 +105,7 @@ fn is_short(env: &Env<'_>, model: Model, e: &Expr) -> bool
 }
 
 // The length of an array is a constant of at least 1 (C11 6.7.6.2 p1).
-fn length_found(env: &Env<'_>, model: Model, bodies: &[Text], again: &[u32], e: &Expr) -> Found
+fn length_found(env: &Env<'_>, model: Model, bodies: &[Text], again: &Offsets, e: &Expr) -> Found
     ensures { lines.found_of result ≡ a.length_all (seen.env_of env.now) model bodies.now again.now (v.expr e.now) }
 {
     let short = line(
@@ -122,7 +122,7 @@ fn params_found(
     env: &Env<'_>,
     model: Model,
     bodies: &[Text],
-    again: &[u32],
+    again: &Offsets,
     parameters: &[Parameter],
 ) -> Found
     ensures { lines.found_of result ≡ a.params_all (seen.env_of env.now) model bodies.now again.now (v.params_of parameters.now) }
@@ -140,7 +140,7 @@ pub(crate) fn parameters_found(
     env: &Env<'_>,
     model: Model,
     bodies: &[Text],
-    again: &[u32],
+    again: &Offsets,
     parameters: &Parameters,
 ) -> Found
     ensures { lines.found_of result ≡ a.parameters_all (seen.env_of env.now) model bodies.now again.now (v.parameters_of parameters.now) }
@@ -156,7 +156,7 @@ fn option_length(
     env: &Env<'_>,
     model: Model,
     bodies: &[Text],
-    again: &[u32],
+    again: &Offsets,
     e: &Option<Box<Expr>>,
 ) -> Found
     ensures { lines.found_of result ≡ a.option_length (seen.env_of env.now) model bodies.now again.now (v.option_expr e.now) }
@@ -167,7 +167,7 @@ fn option_length(
     }
 }
 
-fn form_found(env: &Env<'_>, model: Model, bodies: &[Text], again: &[u32], form: &Form) -> Found
+fn form_found(env: &Env<'_>, model: Model, bodies: &[Text], again: &Offsets, form: &Form) -> Found
     ensures { lines.found_of result ≡ a.form_all (seen.env_of env.now) model bodies.now again.now (v.form_of form.now) }
 {
     match form {
@@ -205,7 +205,7 @@ fn initial_found(
     env: &Env<'_>,
     model: Model,
     bodies: &[Text],
-    again: &[u32],
+    again: &Offsets,
     is_static: bool,
     form: &Form,
     initial: &Initial,
@@ -231,7 +231,7 @@ fn with_declarator(
     env: &Env<'_>,
     model: Model,
     bodies: &[Text],
-    again: &[u32],
+    again: &Offsets,
     is_static: bool,
     all: Found,
     declarator: &Declarator,
@@ -252,7 +252,7 @@ fn declarators_found(
     env: &Env<'_>,
     model: Model,
     bodies: &[Text],
-    again: &[u32],
+    again: &Offsets,
     is_static: bool,
     declarators: &[Declarator],
 ) -> Found
@@ -270,7 +270,7 @@ pub(crate) fn declaration_found(
     env: &Env<'_>,
     model: Model,
     bodies: &[Text],
-    again: &[u32],
+    again: &Offsets,
     is_static: bool,
     declaration: &Declaration,
 ) -> Found

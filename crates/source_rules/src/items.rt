@@ -13,13 +13,14 @@ use lv_base::{Kind, Memory, Model, Text};
 use std::alloc::Global;
 use type_kinds::kind_in;
 use type_scopes::{Env, words_type};
+use typing_rules::Offsets;
 
 fn body_found(
     alloc: Global,
     env: &Env<'_>,
     model: Model,
     bodies: &[Text],
-    again: &[u32],
+    again: &Offsets,
     kind: Option<Kind>,
     body: &Body,
 ) -> Result<Found, Memory>
@@ -36,7 +37,7 @@ fn function_found(
     env: &Env<'_>,
     model: Model,
     bodies: &[Text],
-    again: &[u32],
+    again: &Offsets,
     function: &Function,
 ) -> Result<Found, Memory>
     ensures { IfOk result (λ r. lines.found_of r ≡ a.function_all (seen.env_of env.now) model bodies.now again.now (v.words_of function.now.specs) (v.parameters_of function.now.parameters) (v.body_of function.now.body)) }
@@ -53,7 +54,7 @@ fn item_found(
     env: &Env<'_>,
     model: Model,
     bodies: &[Text],
-    again: &[u32],
+    again: &Offsets,
     item: &Item,
 ) -> Result<Found, Memory>
     ensures { IfOk result (λ r. lines.found_of r ≡ a.item_all (seen.env_of env.now) model bodies.now again.now (v.item_of item.now)) }
@@ -79,7 +80,7 @@ pub fn items_found(
     env: &Env<'_>,
     model: Model,
     bodies: &[Text],
-    again: &[u32],
+    again: &Offsets,
     items: &[Item],
 ) -> Result<Found, Memory>
     ensures { IfOk result (λ r. lines.found_of r ≡ a.items_all (seen.env_of env.now) model bodies.now again.now (v.items_of items.now)) }

@@ -11,13 +11,13 @@ use first_broken::{Found, both, none};
 use lv_base::{Kind, Memory, Model, Text};
 use std::alloc::Global;
 use type_scopes::Env;
-use typing_rules::expression;
+use typing_rules::{Offsets, expression};
 
 fn option_found(
     env: &Env<'_>,
     model: Model,
     bodies: &[Text],
-    again: &[u32],
+    again: &Offsets,
     e: &Option<Box<Expr>>,
 ) -> Found
     ensures { lines.found_of result ≡ a.option_all (seen.env_of env.now) model bodies.now again.now (v.option_expr e.now) }
@@ -32,7 +32,7 @@ fn test_found(
     env: &Env<'_>,
     model: Model,
     bodies: &[Text],
-    again: &[u32],
+    again: &Offsets,
     e: &Option<Box<Expr>>,
 ) -> Found
     ensures { lines.found_of result ≡ a.test_all (seen.env_of env.now) model bodies.now again.now (v.option_expr e.now) }
@@ -43,7 +43,7 @@ fn test_found(
     }
 }
 
-fn head_found(env: &Env<'_>, model: Model, bodies: &[Text], again: &[u32], head: &Head) -> Found
+fn head_found(env: &Env<'_>, model: Model, bodies: &[Text], again: &Offsets, head: &Head) -> Found
     ensures { lines.found_of result ≡ a.head_all (seen.env_of env.now) model bodies.now again.now (v.head_of head.now) }
 {
     value_found(env, model, bodies, again, &head.condition)
@@ -53,7 +53,7 @@ fn start_found(
     env: &Env<'_>,
     model: Model,
     bodies: &[Text],
-    again: &[u32],
+    again: &Offsets,
     start: &ForStart,
 ) -> Found
     ensures { lines.found_of result ≡ a.start_all (seen.env_of env.now) model bodies.now again.now (v.for_start_of start.now) }
@@ -67,7 +67,7 @@ fn start_found(
 }
 
 // What stands in the brackets of a `for`.
-fn for_found(env: &Env<'_>, model: Model, bodies: &[Text], again: &[u32], head: &ForHead) -> Found
+fn for_found(env: &Env<'_>, model: Model, bodies: &[Text], again: &Offsets, head: &ForHead) -> Found
     ensures { lines.found_of result ≡ a.for_all (seen.env_of env.now) model bodies.now again.now (v.for_head_of head.now) }
 {
     let start = start_found(env, model, bodies, again, &head.start);
@@ -81,7 +81,7 @@ fn return_found(
     env: &Env<'_>,
     model: Model,
     bodies: &[Text],
-    again: &[u32],
+    again: &Offsets,
     kind: Option<Kind>,
     e: &Option<Box<Expr>>,
 ) -> Found
@@ -115,7 +115,7 @@ fn statement_found(
     env: &Env<'_>,
     model: Model,
     bodies: &[Text],
-    again: &[u32],
+    again: &Offsets,
     kind: Option<Kind>,
     statement: &Statement,
 ) -> Result<Found, Memory>
@@ -183,7 +183,7 @@ pub(crate) fn statements_found(
     env: &Env<'_>,
     model: Model,
     bodies: &[Text],
-    again: &[u32],
+    again: &Offsets,
     kind: Option<Kind>,
     statements: &[Statement],
 ) -> Result<Found, Memory>

@@ -15,7 +15,7 @@ use Rattle.type_scopes.specs.declared.entries.Entity.TheVariants as en
 use Rattle.type_scopes.specs.declared.links.Span.{Span}
 use Rattle.type_scopes.specs.declared.linked.Row.{Row}
 use Rattle.type_scopes.specs.declared.entries.Entry.{Entry}
-use Rattle.type_scopes.specs.Seen.{entry_of, entity_of, scope_of}
+use Rattle.type_scopes.specs.Seen.{entry_of, entity_of, scope_of, what_of}
 use Rattle.type_scopes.specs.Buckets.{bucket}
 use Rattle.type_scopes.specs.Reaching.{Within}
 use Rattle.type_scopes.specs.Asked.{is_hidden, no_deeper, is_apart, is_elsewhere, has_no_number}
@@ -25,16 +25,33 @@ use Rattle.type_scopes.proofs.Joining.{some_at, es_of, at_es, es_long, taken, or
 
 -- ---- Another bucket, another name
 
-other_name : (m n : List ℕ) → (bucket m ≡ bucket n → ⊥) → bytes_eq m n ≡ false
-other_name m n h = elim (cases_Bool (bytes_eq m n)) [
-  | inl is ↦ absurd (h (ap bucket ((bytes_eq-Decides m n).0 is)))
+other_name : (tag : Bool) (m n : List ℕ) → (bucket tag m ≡ bucket tag n → ⊥) → bytes_eq m n ≡ false
+other_name tag m n h = elim (cases_Bool (bytes_eq m n)) [
+  | inl is ↦ absurd (h (ap (bucket tag) ((bytes_eq-Decides m n).0 is)))
   | inr is ↦ is
 ]
+
+-- in another bucket it is in another name space, or has another name
+other_key : (t u : Bool) (m n : List ℕ) → (bucket t m ≡ bucket u n → ⊥) → (t ≡ u → ⊥) ⊎ (bytes_eq m n ≡ false)
+other_key true true m n h = inr (other_name true m n h)
+other_key false false m n h = inr (other_name false m n h)
+other_key true false m n h = inl (both_ways true refl)
+other_key false true m n h = inl (λ e. both_ways true refl (sym e))
+
+apart_spaces : (t u : Bool) → (t ≡ u → ⊥) → (if t then u else not u) ≡ false
+apart_spaces true true h = absurd (h refl)
+apart_spaces true false h = refl
+apart_spaces false true h = refl
+apart_spaces false false h = absurd (h refl)
 
 module _ (tag : Bool) (name : List ℕ) (at : ℕ) where
   module _ (e : b.Entry) where
     unnamed : bytes_eq e.declared.name name ≡ false → is_visible tag name at e ≡ false
     unnamed h = and_right (if is_tag e.declared.what then tag else not tag) _ (and_left (bytes_eq e.declared.name name) (nat_le e.declared.from at && holds e.declared.scope at) h)
+
+    of_another : (is_tag e.declared.what ≡ tag → ⊥) ⊎ (bytes_eq e.declared.name name ≡ false) → is_visible tag name at e ≡ false
+    of_another (inl h) = and_left (if is_tag e.declared.what then tag else not tag) _ (apart_spaces (is_tag e.declared.what) tag h)
+    of_another (inr h) = unnamed h
 
     too_late : nat_le e.declared.from at ≡ false → is_visible tag name at e ≡ false
     too_late h = and_right (if is_tag e.declared.what then tag else not tag) _ (and_right (bytes_eq e.declared.name name) _ (and_left (nat_le e.declared.from at) (holds e.declared.scope at) h))
@@ -102,35 +119,35 @@ module _ (tag : Bool) (name : List ℕ) (at : ℕ) where
     seen_same : (k : ℕ) (x : Row) (best : Option b.Entry) → slice_get xs k ≡ Some x → joined (seen_one tag name at (entry_of x.entry)) best ≡ best → joined (visible_in tag name at None (take (suc k) (es_of xs))) best ≡ joined (visible_in tag name at None (take k (es_of xs))) best
     seen_same k x best h e = seen_step k x best h ∙ ap (joined (visible_in tag name at None (take k (es_of xs)))) e
 
-    other_seen : (best : Option b.Entry) (j : ℕ) (z : Row) → slice_get xs j ≡ Some z → (by_name.bucket z ≡ bucket name → ⊥) → joined (visible_in tag name at None (take (suc j) (es_of xs))) best ≡ joined (visible_in tag name at None (take j (es_of xs))) best
-    other_seen best j z h other = seen_same j z best h (nothing (entry_of z.entry) best (unnamed (entry_of z.entry) (other_name z.entry.name.now name other)))
+    other_seen : (best : Option b.Entry) (j : ℕ) (z : Row) → slice_get xs j ≡ Some z → (by_name.bucket z ≡ bucket tag name → ⊥) → joined (visible_in tag name at None (take (suc j) (es_of xs))) best ≡ joined (visible_in tag name at None (take j (es_of xs))) best
+    other_seen best j z h other = seen_same j z best h (nothing (entry_of z.entry) best (of_another (entry_of z.entry) (other_key (is_tag (what_of z.entry.what)) tag z.entry.name.now name other)))
 
     -- on the way back: what is left and the best so far make up all
     pub record IsOnWay (best : Option b.Entry) (left : ℕ) : Type 0 where
-      pub leads : Leads by_name (bucket name) xs left
+      pub leads : Leads by_name (bucket tag name) xs left
       pub rest : joined (visible_in tag name at None (take left (es_of xs))) best ≡ visible_in tag name at None (es_of xs)
 
     joined_none : (o : Option b.Entry) → joined o None ≡ o
     joined_none None = refl
     joined_none (Some e) = refl
 
-    pub leads_few : (left : ℕ) → Leads by_name (bucket name) xs left → left ≤ length xs
+    pub leads_few : (left : ℕ) → Leads by_name (bucket tag name) xs left → left ≤ length xs
     leads_few zero h = omega arith
     leads_few (suc k) h = let r = h k refl in let w = slice_get_within xs k r.0 r.1 in omega (arith, w)
 
-    pub starts : (table : List ℕ) (n left : ℕ) → IsKept xs table → n ≡ bucket name → n < 65521 → left ≡ get_or table n 0 → IsOnWay None left
+    pub starts : (table : List ℕ) (n left : ℕ) → IsKept xs table → n ≡ bucket tag name → n < 65521 → left ≡ get_or table n 0 → IsOnWay None left
     starts table n left kept is below head =
         let h = kept.heads n below in
-        let leads : Leads by_name (bucket name) xs left = subst (λ m. Leads by_name (bucket name) xs m) (sym head) (subst (λ m. Leads by_name m xs (get_or table n 0)) is h.0) in
-        let free : Free by_name (bucket name) xs left (length xs) = subst (λ m. Free by_name (bucket name) xs m (length xs)) (sym head) (subst (λ m. Free by_name m xs (get_or table n 0) (length xs)) is h.1) in record {
+        let leads : Leads by_name (bucket tag name) xs left = subst (λ m. Leads by_name (bucket tag name) xs m) (sym head) (subst (λ m. Leads by_name m xs (get_or table n 0)) is h.0) in
+        let free : Free by_name (bucket tag name) xs left (length xs) = subst (λ m. Free by_name (bucket tag name) xs m (length xs)) (sym head) (subst (λ m. Free by_name m xs (get_or table n 0) (length xs)) is h.1) in record {
           leads = leads;
           rest =
-              sym (past_free (λ k. joined (visible_in tag name at None (take k (es_of xs))) None) by_name (bucket name) xs (other_seen None) left (length xs) (leads_few left leads) (omega arith) free)
+              sym (past_free (λ k. joined (visible_in tag name at None (take k (es_of xs))) None) by_name (bucket tag name) xs (other_seen None) left (length xs) (leads_few left leads) (omega arith) free)
               ∙ joined_none (visible_in tag name at None (take (length xs) (es_of xs)))
               ∙ ap (visible_in tag name at None) (take_all (length xs) (es_of xs) (let l = es_long xs in omega (arith, l)));
         }
 
-    of_bucket : (left k : ℕ) (x : Row) → Leads by_name (bucket name) xs left → left ≡ suc k → slice_get xs k ≡ Some x → by_name.bucket x ≡ bucket name
+    of_bucket : (left k : ℕ) (x : Row) → Leads by_name (bucket tag name) xs left → left ≡ suc k → slice_get xs k ≡ Some x → by_name.bucket x ≡ bucket tag name
     of_bucket left k x h e g = let r = h k e in ap by_name.bucket (ap (or_row x) (sym g ∙ r.1)) ∙ r.2
 
     pub jumps : (best : Option b.Entry) (left k : ℕ) (x : Row) → left ≡ suc k → slice_get xs k ≡ Some x → IsLink by_name xs k x → at < 4294967296 → is_hidden x.name.span at best ≡ true → IsOnWay best left → IsOnWay best x.name.jump
@@ -138,7 +155,7 @@ module _ (tag : Bool) (name : List ℕ) (at : ℕ) where
         let of = of_bucket left k x way.leads e g in record {
           leads = subst (λ m. Leads by_name m xs x.name.jump) of is.jump;
           rest =
-              sym (past_jump (λ k. joined (visible_in tag name at None (take k (es_of xs))) best) by_name (bucket name) xs (other_seen best) k x is of g
+              sym (past_jump (λ k. joined (visible_in tag name at None (take k (es_of xs))) best) by_name (bucket tag name) xs (other_seen best) k x is of g
               (λ j z h within. seen_same j z best h (hidden_by x.name.span best z w hidden within)))
               ∙ ap (λ m. joined (visible_in tag name at None (take m (es_of xs))) best) (sym e) ∙ way.rest;
         }
@@ -149,7 +166,7 @@ module _ (tag : Bool) (name : List ℕ) (at : ℕ) where
         let within = slice_get_within xs k x g in record {
           leads = subst (λ m. Leads by_name m xs x.name.older) of is.older;
           rest =
-              sym (past_free (λ k. joined (visible_in tag name at None (take k (es_of xs))) next) by_name (bucket name) xs (other_seen next) x.name.older k is.few (omega (arith, within)) (subst (λ m. Free by_name m xs x.name.older k) of is.free))
+              sym (past_free (λ k. joined (visible_in tag name at None (take k (es_of xs))) next) by_name (bucket tag name) xs (other_seen next) x.name.older k is.few (omega (arith, within)) (subst (λ m. Free by_name m xs x.name.older k) of is.free))
               ∙ ap (joined (visible_in tag name at None (take k (es_of xs)))) new
               ∙ sym (seen_step k x best g)
               ∙ ap (λ m. joined (visible_in tag name at None (take m (es_of xs))) best) (sym e) ∙ way.rest;
@@ -188,8 +205,13 @@ not_in_file name s z h within = and_left (is_file (scope_of z.entry.scope)) _ (b
     by file l = absurd (omega (arith, l))
     by (block first last) l = refl
 
-pub other_in_file : (name : List ℕ) (z : Row) → (by_name.bucket z ≡ bucket name → ⊥) → is_in_file name (entry_of z.entry) ≡ false
-other_in_file name z other = and_right (is_file (scope_of z.entry.scope)) _ (and_right (not (is_tag (entry_of z.entry).declared.what)) (bytes_eq z.entry.name.now name) (other_name z.entry.name.now name other))
+pub other_in_file : (name : List ℕ) (z : Row) → (by_name.bucket z ≡ bucket false name → ⊥) → is_in_file name (entry_of z.entry) ≡ false
+other_in_file name z other = and_right (is_file (scope_of z.entry.scope)) _ (by (is_tag (what_of z.entry.what)) (other_key (is_tag (what_of z.entry.what)) false z.entry.name.now name other))
+  where
+    by : (t : Bool) → (t ≡ false → ⊥) ⊎ (bytes_eq z.entry.name.now name ≡ false) → (not t && bytes_eq z.entry.name.now name) ≡ false
+    by true h = refl
+    by false (inl h) = absurd (h refl)
+    by false (inr h) = h
 
 -- scopes that are one have one last token
 same_last : (x y : Scope) → is_same x y ≡ true → last_of x ≡ last_of y
@@ -206,10 +228,10 @@ same_begin file (block f l) h = absurd (both_ways false refl h)
 same_begin (block first last) file h = absurd (both_ways false refl h)
 
 pub no_twin : (d : Declared) (s : Span) (z : Row) → is_apart s d.scope ≡ true → Within (name_span z.entry) s → is_twin d (entry_of z.entry) ≡ false
-no_twin d s z h within = and_left (is_same d.scope (scope_of z.entry.scope)) _ (elim (cases_Bool (is_same d.scope (scope_of z.entry.scope))) [
+no_twin d s z h within = and_right (if is_tag d.what then is_tag (what_of z.entry.what) else not (is_tag (what_of z.entry.what))) _ (and_left (is_same d.scope (scope_of z.entry.scope)) _ (elim (cases_Bool (is_same d.scope (scope_of z.entry.scope))) [
   | inl is ↦ absurd (never is (or_cases (nat_lt s.to (last_of d.scope)) (nat_lt s.high (begin_of d.scope)) h))
   | inr is ↦ is
-])
+]))
   where
     never : is_same d.scope (scope_of z.entry.scope) ≡ true → (nat_lt s.to (last_of d.scope) ≡ true) ⊎ (nat_lt s.high (begin_of d.scope) ≡ true) → ⊥
     never is (inl p) =
@@ -223,8 +245,12 @@ no_twin d s z h within = and_left (is_same d.scope (scope_of z.entry.scope)) _ (
         let f = within.high in
         omega (arith, e, l, f)
 
-pub other_twin : (d : Declared) (z : Row) → (by_name.bucket z ≡ bucket d.name → ⊥) → is_twin d (entry_of z.entry) ≡ false
-other_twin d z other = and_right (is_same d.scope (scope_of z.entry.scope)) _ (other_name d.name z.entry.name.now (λ h. other (sym h)))
+pub other_twin : (d : Declared) (z : Row) → (by_name.bucket z ≡ bucket (is_tag d.what) d.name → ⊥) → is_twin d (entry_of z.entry) ≡ false
+other_twin d z other = by (other_key (is_tag d.what) (is_tag (what_of z.entry.what)) d.name z.entry.name.now (λ h. other (sym h)))
+  where
+    by : (is_tag d.what ≡ is_tag (what_of z.entry.what) → ⊥) ⊎ (bytes_eq d.name z.entry.name.now ≡ false) → is_twin d (entry_of z.entry) ≡ false
+    by (inl h) = and_left (if is_tag d.what then is_tag (what_of z.entry.what) else not (is_tag (what_of z.entry.what))) _ (apart_spaces (is_tag d.what) (is_tag (what_of z.entry.what)) h)
+    by (inr h) = and_right (if is_tag d.what then is_tag (what_of z.entry.what) else not (is_tag (what_of z.entry.what))) _ (and_right (is_same d.scope (scope_of z.entry.scope)) _ h)
 
 -- ---- The row that a walk reads
 
@@ -261,13 +287,13 @@ viewed_entry xs es k x e v h g =
     ap (or_entry x.entry) (sym (slice_get-map (λ (r : Row). r.entry) xs k ∙ ap (option_map (λ (r : Row). r.entry)) h) ∙ ap (λ ys. slice_get ys k) v ∙ g)
 
 -- where the table leads
-pub head_leads : (xs : List Row) (table name : List ℕ) (n left : ℕ) → IsKept xs table → n ≡ bucket name → n < 65521 → left ≡ get_or table n 0 → Leads by_name (bucket name) xs left
-head_leads xs table name n left kept is below head =
-    subst (λ m. Leads by_name (bucket name) xs m) (sym head) (subst (λ m. Leads by_name m xs (get_or table n 0)) is (kept.heads n below).0)
+pub head_leads : (xs : List Row) (table : List ℕ) (tag : Bool) (name : List ℕ) (n left : ℕ) → IsKept xs table → n ≡ bucket tag name → n < 65521 → left ≡ get_or table n 0 → Leads by_name (bucket tag name) xs left
+head_leads xs table tag name n left kept is below head =
+    subst (λ m. Leads by_name (bucket tag name) xs m) (sym head) (subst (λ m. Leads by_name m xs (get_or table n 0)) is (kept.heads n below).0)
 
-pub head_free : (xs : List Row) (table name : List ℕ) (n left : ℕ) → IsKept xs table → n ≡ bucket name → n < 65521 → left ≡ get_or table n 0 → Free by_name (bucket name) xs left (length xs)
-head_free xs table name n left kept is below head =
-    subst (λ m. Free by_name (bucket name) xs m (length xs)) (sym head) (subst (λ m. Free by_name m xs (get_or table n 0) (length xs)) is (kept.heads n below).1)
+pub head_free : (xs : List Row) (table : List ℕ) (tag : Bool) (name : List ℕ) (n left : ℕ) → IsKept xs table → n ≡ bucket tag name → n < 65521 → left ≡ get_or table n 0 → Free by_name (bucket tag name) xs left (length xs)
+head_free xs table tag name n left kept is below head =
+    subst (λ m. Free by_name (bucket tag name) xs m (length xs)) (sym head) (subst (λ m. Free by_name m xs (get_or table n 0) (length xs)) is (kept.heads n below).1)
 
 -- ---- The initial value of an object
 

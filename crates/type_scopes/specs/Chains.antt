@@ -1,7 +1,7 @@
 -- Declarations that lead back along their bucket, and along all before them.
 use Rattle.std.specs.Prelude.{◌≡◌, ℕ, zero, suc, ◌+◌, ◌<◌, ◌≤◌, true, List, [], Option, None, Some, length, map, find, slice_get, get_or, ◌⊎◌}
 use Rattle.std.specs.Option.{option_map}
-use Rattle.c_meaning.specs.Scope.{begin_of}
+use Rattle.c_meaning.specs.Scope.{begin_of, is_tag}
 use Rattle.type_scopes.specs.declared.entries.Entity.{Entity}
 use Rattle.type_scopes.specs.declared.entries.Entity.TheVariants as en
 use Rattle.type_scopes.specs.declared.entries.Entry.{Entry}
@@ -10,7 +10,7 @@ use Rattle.type_scopes.specs.declared.links.Link.{Link}
 use Rattle.type_scopes.specs.declared.linked.Row.{Row}
 use Rattle.type_scopes.specs.Buckets.{bucket}
 use Rattle.type_scopes.specs.Reaching.{Within, Reaches}
-use Rattle.type_scopes.specs.Seen.{scope_of, entry_of}
+use Rattle.type_scopes.specs.Seen.{scope_of, what_of, entry_of}
 use Rattle.type_scopes.specs.Found.{some_entry}
 use Rattle.type_scopes.specs.Walking.{last_of, is_in_file}
 
@@ -40,7 +40,7 @@ pub record Chain : Type 0 where
   pub link : Row → Link
 
 abbrev pub by_name : Chain
-by_name = record { bucket = λ r. bucket r.entry.name.now; span = λ r. name_span r.entry; link = λ r. r.name }
+by_name = record { bucket = λ r. bucket (is_tag (what_of r.entry.what)) r.entry.name.now; span = λ r. name_span r.entry; link = λ r. r.name }
 
 -- all are in one bucket
 abbrev pub by_order : Chain

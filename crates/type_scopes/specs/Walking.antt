@@ -35,9 +35,9 @@ is_placed at e = nat_eq e.declared.at at && not (is_tag e.declared.what)
 abbrev pub is_in_file : List ℕ → Entry → Bool
 is_in_file name e = is_file e.declared.scope && (not (is_tag e.declared.what) && bytes_eq e.declared.name name)
 
--- of one name and one scope
+-- of one name space, one scope and one name
 abbrev pub is_twin : Declared → Entry → Bool
-is_twin d e = is_same d.scope e.declared.scope && bytes_eq d.name e.declared.name
+is_twin d e = (if is_tag d.what then is_tag e.declared.what else not (is_tag e.declared.what)) && (is_same d.scope e.declared.scope && bytes_eq d.name e.declared.name)
 
 abbrev pub holds_at : (Entry → Bool) → Option Entry → Bool
 holds_at p None = false

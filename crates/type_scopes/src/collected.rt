@@ -137,7 +137,8 @@ fn is_in_file(name: &[u8], entry: &Entry<'_>) -> bool
 fn is_twin(entry: &Entry<'_>, earlier: &Entry<'_>) -> bool
     ensures { result ≡ walk.is_twin (seen.declared_of entry.now) (seen.entry_of earlier.now) }
 {
-    is_same(entry.scope, earlier.scope) && entry.name == earlier.name
+    is_tag(&entry.what) == is_tag(&earlier.what)
+        && (is_same(entry.scope, earlier.scope) && entry.name == earlier.name)
 }
 
 fn is_number(number: usize, entity: &Entity) -> bool
@@ -235,7 +236,7 @@ impl<'a> Declarations<'a> {
     {
         let first = self.first_with(&entry);
         open(&mut self.newest)?;
-        let bucket = bucket_of(entry.name);
+        let bucket = bucket_of(is_tag(&entry.what), entry.name);
         let row = row_behind(&self.rows, self.newest[bucket], entry, first);
         self.rows.push(row)?;
         self.newest[bucket] = self.rows.len();
@@ -248,7 +249,7 @@ impl<'a> Declarations<'a> {
         ensures { found.some_entry (option_copied result) ≡ b.visible_in tag name.now at None (map seen.entry_of self.now) }
     {
         let mut best: Option<&Entry<'a>> = None;
-        let mut left = newest_in(&self.newest, bucket_of(name));
+        let mut left = newest_in(&self.newest, bucket_of(tag, name));
         'bucket: while left > 0 {
             let row = &self.rows[left - 1];
             if is_hidden(row.name.span, at, best) {
@@ -292,7 +293,7 @@ impl<'a> Declarations<'a> {
         ensures few { result ≤ length self.now }
         ensures found { found.some_entry (slice_get self.now result) ≡ find (walk.is_in_file name.now) (map seen.entry_of self.now) }
     {
-        let mut left = newest_in(&self.newest, bucket_of(name));
+        let mut left = newest_in(&self.newest, bucket_of(false, name));
         'bucket: while left > 0 {
             let row = &self.rows[left - 1];
             if row.name.span.to < u32::MAX as u64 {
@@ -319,8 +320,8 @@ impl<'a> Declarations<'a> {
         }
     }
 
-    /// Of the declaration at a place: one more than the place of the last one before it that has its name and its scope, and 0
-    /// where there is none.
+    /// Of the declaration at a place: one more than the place of the last one before it that has its name, name space and scope,
+    /// and 0 where there is none.
     pub fn twin_before(&self, place: usize) -> usize
         ensures { (e : record_of.Entry) → slice_get self.now place ≡ Some e → result ≡ walk.last_where (walk.is_twin (seen.declared_of e)) (map seen.entry_of self.now) place }
     {

@@ -37,12 +37,12 @@ fn turn(bucket: usize, byte: u8) -> usize
     (bucket * 257 + byte as usize) % BUCKETS
 }
 
-/// The bucket of a name with these bytes.
-pub(crate) fn bucket_of(bytes: &[u8]) -> usize
-    ensures value { result ≡ bucket bytes.now }
+/// The bucket of a name with these bytes, that of a tag or of another.
+pub(crate) fn bucket_of(tag: bool, bytes: &[u8]) -> usize
+    ensures value { result ≡ bucket tag bytes.now }
     ensures below { result < 65521 }
 {
-    let mut at = 0;
+    let mut at = if tag { 1 } else { 0 };
     let mut rest = bytes;
     'bytes: while let Some((byte, behind)) = rest.split_first() {
         at = turn(at, *byte);

@@ -367,7 +367,7 @@ module _ (model : Model) (objects : List Object) where
 
     pub loops : (n at : ℕ) (test test' : Run ℤ) (body body' : Run Exit) (step step' : Run (Unit {0})) (P : ℤ → Type 0) → Alike ℤ P test test' → Alike Exit (Left result) body body' → Alike (Unit {0}) (λ v. Unit {0}) step step' →
         Alike Exit (Left result) (loop at n test body step) (loop at n test' body' step')
-    loops zero at test test' body body' step step' P a b s = stops Exit (Left result) (λ st. Rattle.c_run.specs.Run.Spent at st.store)
+    loops zero at test test' body body' step step' P a b s = stops Exit (Left result) (λ st. Rattle.c_run.specs.Run.Spent at st.store st.taken)
     loops (suc n) at test test' body body' step step' P a b s =
         binds (Unit {0}) Exit (λ v. Unit {0}) (Left result) (turn at) (turn at) _ _ (turns at)
         (λ u hu. binds ℤ Exit P (Left result) test test' _ _ a
@@ -399,5 +399,5 @@ module _ (model : Model) (objects : List Object) where
     left_alike Absent go go' l h = gives (Option ℤ) (Gave result) None tt
 
     pub enters : (n : ℕ) (f f' : From → Run Exit) (from : From) → Entered from → ((x : From) → Entered x → Alike Exit (Left result) (f x) (f' x)) → Alike (Option ℤ) (Gave result) (enter n f from) (enter n f' from)
-    enters zero f f' from e h = stops (Option ℤ) (Gave result) (λ st. Rattle.c_run.specs.Run.Spent 0 st.store)
+    enters zero f f' from e h = stops (Option ℤ) (Gave result) (λ st. Rattle.c_run.specs.Run.Spent 0 st.store st.taken)
     enters (suc n) f f' from e h = binds Exit (Option ℤ) (Left result) (Gave result) (f from) (f' from) _ _ (h from e) (λ x l. left_alike x _ _ l (λ name. enters n f f' (Seek (toLabel name)) tt h))

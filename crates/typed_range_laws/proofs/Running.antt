@@ -213,7 +213,7 @@ module _ (program : Program) (typed : IsTyped program) (inputs : List ℤ) (comp
       (λ x u. enters model objects told.result (suc n) _ _ Start tt (λ from. steps_alike model objects program.functions inputs compute compute' agrees agrees' way suits call call' hc fits.0 told.result n told.body from fits.1.body))
 
   calls_alike : (n : ℕ) → CallsAlike model objects program.functions inputs (keeping.call_at program compute way inputs n) (run.call_at program compute' inputs n)
-  calls_alike zero f at vs told there args = stops model objects (Option ℤ) (Gave model objects told.result) (λ st. Spent at st.store)
+  calls_alike zero f at vs told there args = stops model objects (Option ℤ) (Gave model objects told.result) (λ st. Spent at st.store st.taken)
   calls_alike (suc n) f at vs told there args =
       binds model objects (Unit {0}) (Option ℤ) (λ x. Unit {0}) (Gave model objects told.result) (turn at) (turn at) _ _ (turns model objects at)
       (λ x u. subst

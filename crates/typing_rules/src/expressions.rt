@@ -14,6 +14,7 @@ use crate::lines::{
     call_lines, cast_lines, cond_lines, constant_lines, declared_line, index_lines, last_line,
     prefix_lines, range_line, target_lines, value_line,
 };
+use crate::offsets::Offsets;
 use c_tree::{Enumerator, Expr, Listed, Spec};
 use first_broken::{Found, both, line, none, unless};
 use lv_base::{Model, SourceFault, Text};
@@ -52,7 +53,7 @@ fn with_enumerator(
     env: &Env<'_>,
     model: Model,
     bodies: &[Text],
-    again: &[u32],
+    again: &Offsets,
     all: Found,
     constant: &Enumerator,
 ) -> Found
@@ -77,7 +78,7 @@ fn enumerators(
     env: &Env<'_>,
     model: Model,
     bodies: &[Text],
-    again: &[u32],
+    again: &Offsets,
     constants: &[Enumerator],
 ) -> Found
     ensures { lines.found_of result ≡ s.found_of_enumerators (seen.env_of env.now) model bodies.now again.now (v.enumerators_of constants.now) }
@@ -91,7 +92,7 @@ fn enumerators(
 
 #[cycle(expression)]
 #[tactic(auto, using(crate::proofs::Views::word_Enum, crate::proofs::Views::word_TagEnum))]
-fn word(env: &Env<'_>, model: Model, bodies: &[Text], again: &[u32], word: &Spec) -> Found
+fn word(env: &Env<'_>, model: Model, bodies: &[Text], again: &Offsets, word: &Spec) -> Found
     ensures { lines.found_of result ≡ s.found_of_word (seen.env_of env.now) model bodies.now again.now (v.word word.now) }
 {
     match word {
@@ -114,7 +115,7 @@ fn word(env: &Env<'_>, model: Model, bodies: &[Text], again: &[u32], word: &Spec
 /// lists of enumerations declare.
 #[cycle(expression)]
 #[tactic(auto, using(crate::proofs::Rows::words_more, std::proofs::lemmas::List::take_all))]
-pub fn words(env: &Env<'_>, model: Model, bodies: &[Text], again: &[u32], words: &[Spec]) -> Found
+pub fn words(env: &Env<'_>, model: Model, bodies: &[Text], again: &Offsets, words: &[Spec]) -> Found
     ensures { lines.found_of result ≡ s.found_of_words (seen.env_of env.now) model bodies.now again.now (v.words_behind t.no_words words.now) }
 {
     let mut all = none();
@@ -127,7 +128,13 @@ pub fn words(env: &Env<'_>, model: Model, bodies: &[Text], again: &[u32], words:
 /// The rules that the parts of a list break, each by itself.
 #[cycle(expression)]
 #[tactic(auto, using(crate::proofs::Rows::parts_more, std::proofs::lemmas::List::take_all))]
-pub fn parts(env: &Env<'_>, model: Model, bodies: &[Text], again: &[u32], parts: &[Listed]) -> Found
+pub fn parts(
+    env: &Env<'_>,
+    model: Model,
+    bodies: &[Text],
+    again: &Offsets,
+    parts: &[Listed],
+) -> Found
     ensures { lines.found_of result ≡ s.found_of_parts (seen.env_of env.now) model bodies.now again.now (v.parts_of parts.now) }
 {
     let mut all = none();
@@ -142,7 +149,7 @@ pub fn parts(env: &Env<'_>, model: Model, bodies: &[Text], again: &[u32], parts:
 /// around parts that break such a rule are not tried.
 #[cycle(expression)]
 #[tactic(auto, using(crate::proofs::Views::expr_Call, crate::proofs::Views::expr_Comma, crate::proofs::Views::expr_Cast, crate::proofs::Views::expr_SizeofType))]
-pub fn expression(env: &Env<'_>, model: Model, bodies: &[Text], again: &[u32], e: &Expr) -> Found
+pub fn expression(env: &Env<'_>, model: Model, bodies: &[Text], again: &Offsets, e: &Expr) -> Found
     ensures { lines.found_of result ≡ s.found (seen.env_of env.now) model bodies.now again.now (v.expr e.now) }
 {
     match e {

@@ -6,6 +6,7 @@ ghost use Rattle.type_scopes.specs.Seen as seen;
 ghost use Rattle.typing_rules.specs.Summed as s;
 
 use crate::entities::{is_callable, is_const_target, is_target, takes};
+use crate::offsets::Offsets;
 use c_tree::{Expr, Listed, PrefixOp, Specs};
 use first_broken::{Found, both, line, none};
 use lv_base::{Kind, Model, SourceFault, Text, in_range};
@@ -45,16 +46,10 @@ fn value_or_void(env: &Env<'_>, model: Model, e: &Expr) -> Found
 }
 
 /// The name is declared a second time in its scope (C11 6.7 p3).
-pub fn declared_line(again: &[u32], at: u32) -> Found
+pub fn declared_line(again: &Offsets, at: u32) -> Found
     ensures { lines.found_of result ≡ s.declared_found again.now at }
 {
-    line(is_again(again, at), SourceFault::Redeclared, at)
-}
-
-fn is_again(again: &[u32], at: u32) -> bool
-    ensures { result ≡ s.is_again again.now at }
-{
-    again.iter().any(|a| *a == at)
+    line(again.holds(at), SourceFault::Redeclared, at)
 }
 
 /// What is assigned to is an object or an element (C11 6.5.16 p2), and not `const`.

@@ -122,8 +122,8 @@ module _ (items : Items) (model : Model) (cells : List Cell) (m : Formulas) (l :
 -- a visit of the source is one of its typed tree
 typed-visit : (items : Items) (t : Parts) (inputs : List ℤ) (at : ℕ) (values : List (List ℤ)) → tree_of t ≡ elaborated items t.model → SourceFits items t.model
     → IsVisited items t.model inputs at values → Visits (tree_of t) inputs at values
-typed-visit items t inputs at values tree fits (turns, run) =
-    (turns, ap (λ (p : typed_tree.Program). typed.run turns p inputs) tree ∙ same_run items t.model fits turns inputs ∙ run)
+typed-visit items t inputs at values tree fits (turns, taken, run) =
+    (turns, taken, ap (λ (p : typed_tree.Program). typed.run turns p inputs) tree ∙ same_run items t.model fits turns inputs ∙ run)
 
 typed-objects : (items : Items) (t : Parts) → tree_of t ≡ elaborated items t.model → map object_of t.objects ≡ objects_from (env_of items t.model) t.model 0 (env_of items t.model).objects
 typed-objects items t tree = ap (λ (p : typed_tree.Program). p.objects) tree

@@ -27,7 +27,7 @@ use Rattle.witness_truth_laws.specs.Telling.{meant, IsTrueIn}
 
 -- the run of the source visits the loop with this keyword: a turn is wanted there behind so many turns, with these values of the objects
 abbrev pub IsVisited : Items → Model → List ℤ → ℕ → List (List ℤ) → Type 0
-IsVisited items model inputs keyword values = (turns : ℕ) × (run turns items model inputs ≡ Spent keyword values)
+IsVisited items model inputs keyword values = (turns : ℕ) × (taken : ℕ) × (run turns items model inputs ≡ Spent keyword values taken)
 
 -- The text is that of expressions whose conjunction, its names meaning what they mean at the loop's keyword or where its condition begins, has
 -- a value other than 0 in each state that holds the values of a visit.

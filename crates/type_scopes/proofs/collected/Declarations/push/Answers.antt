@@ -1,9 +1,10 @@
-use Rattle.std.proofs.Common.{◌≡◌, ◌∙◌, ◌≤◌, ◌++◌, ◌∷◌, [], ℕ, suc, true, List, length, map, find, slice_get, arith, ap, sym, subst, set, get_or}
+use Rattle.std.proofs.Common.{◌≡◌, ◌∙◌, ◌≤◌, ◌++◌, ◌∷◌, [], ℕ, suc, Bool, true, List, length, map, find, slice_get, arith, ap, sym, subst, set, get_or}
 use Rattle.std.proofs.lemmas.Grind.{get_or_default_zero}
 use Rattle.std.proofs.lemmas.List.{length-append}
 use Rattle.type_scopes.specs.declared.entries.Entry.{Entry}
 use Rattle.type_scopes.specs.declared.linked.Row.{Row}
-use Rattle.type_scopes.specs.Seen.{entry_of}
+use Rattle.c_meaning.specs.Scope.{is_tag}
+use Rattle.type_scopes.specs.Seen.{entry_of, what_of}
 use Rattle.type_scopes.specs.Found.{some_entry}
 use Rattle.type_scopes.specs.Walking.{is_in_file}
 use Rattle.type_scopes.specs.Buckets.{bucket}
@@ -47,5 +48,5 @@ invariant_of-self-2 c =
     let items : c.push.new.self.items ≡ xs ++ row ∷ [] = c.in_ok-push.ensures.items in
     let longer = length-append xs (row ∷ []) in
     let counted : c.len.result ≡ suc (length xs) = c.len.ensures ∙ c.push.new.self.ok.0 ∙ ap length items ∙ omega (arith, longer) in
-    let is : b ≡ by_name.bucket row = c.bucket_of-bucket.ensures.value ∙ ap (λ (e : Entry). bucket e.name.now) (sym same) in
+    let is : b ≡ by_name.bucket row = c.bucket_of-bucket.ensures.value ∙ ap (λ (t : Bool). bucket t c.args.entry.name.now) c.is_tag.ensures ∙ ap (λ (e : Entry). bucket (is_tag (what_of e.what)) e.name.now) (sym same) in
     subst (λ ys. IsKept ys (set table b c.len.result)) (sym items) (added xs table row b c.len.result kept c.in_ok-open.ensures.taken is c.bucket_of-bucket.ensures.below counted name order few first)

@@ -16,12 +16,12 @@ bucket-init c =
 
 pub index-row-requires : goal.index-row-requires
 index-row-requires c =
-    let few = name_few (bucket c.args.name.now) c.self.inside.rows.items c.bucket.left c.bucket.invariant.leads in
+    let few = name_few (bucket c.args.tag c.args.name.now) c.self.inside.rows.items c.bucket.left c.bucket.invariant.leads in
     omega (arith, few, c.bucket-test.true)
 
 pub bucket-smaller-then-is_hidden : goal.bucket-smaller-then-is_hidden
 bucket-smaller-then-is_hidden c =
-    let few = name_few (bucket c.args.name.now) c.self.inside.rows.items c.bucket.left c.bucket.invariant.leads in
+    let few = name_few (bucket c.args.tag c.args.name.now) c.self.inside.rows.items c.bucket.left c.bucket.invariant.leads in
     let at = read c.self.inside.rows.items c.bucket.left c.index-row.result.now c.bucket-test.true few c.index-row.ensures in
     jump_less by_name c.self.inside.rows.items c.bucket.left c.index-row.result.now c.self.invariant.names c.bucket-test.true at
 
@@ -30,7 +30,7 @@ bucket-preserved-then-is_hidden c =
     let xs = c.self.inside.rows.items in
     let x = c.index-row.result.now in
     let k = c.bucket.left - 1 in
-    let few = name_few (bucket c.args.name.now) xs c.bucket.left c.bucket.invariant.leads in
+    let few = name_few (bucket c.args.tag c.args.name.now) xs c.bucket.left c.bucket.invariant.leads in
     let at = read xs c.bucket.left x c.bucket-test.true few c.index-row.ensures in
     let small : c.args.at < 4294967296 = omega (arith, c.ranges.at.fits) in
     jumps c.args.tag c.args.name.now c.args.at xs (some_entry (option_copied c.bucket.best)) c.bucket.left k x (omega (arith, c.bucket-test.true)) at (c.self.invariant.names k x at) small
@@ -38,7 +38,7 @@ bucket-preserved-then-is_hidden c =
 
 pub bucket-smaller : goal.bucket-smaller
 bucket-smaller c =
-    let few = name_few (bucket c.args.name.now) c.self.inside.rows.items c.bucket.left c.bucket.invariant.leads in
+    let few = name_few (bucket c.args.tag c.args.name.now) c.self.inside.rows.items c.bucket.left c.bucket.invariant.leads in
     let at = read c.self.inside.rows.items c.bucket.left c.index-row.result.now c.bucket-test.true few c.index-row.ensures in
     older_less by_name c.self.inside.rows.items c.bucket.left c.index-row.result.now c.self.invariant.names c.bucket-test.true at
 
@@ -47,7 +47,7 @@ bucket-preserved c =
     let xs = c.self.inside.rows.items in
     let x = c.index-row.result.now in
     let k = c.bucket.left - 1 in
-    let few = name_few (bucket c.args.name.now) xs c.bucket.left c.bucket.invariant.leads in
+    let few = name_few (bucket c.args.tag c.args.name.now) xs c.bucket.left c.bucket.invariant.leads in
     let at = read xs c.bucket.left x c.bucket-test.true few c.index-row.ensures in
     goes c.args.tag c.args.name.now c.args.at xs (some_entry (option_copied c.bucket.best)) (some_entry (option_copied c.with_entry-best.result)) c.bucket.left k x (omega (arith, c.bucket-test.true)) at (c.self.invariant.names k x at) c.with_entry-best.ensures c.bucket.invariant
 
