@@ -51,12 +51,12 @@ kept_by : (b : Bool) (v : Verdict) (values : List ℤ) → (if b then kept.Nothi
 kept_by true v values e = absurd (cc)
 kept_by false v values e = kept_verdict v values e
 
--- ---- the source breaks no rule, and is secure
+-- ---- the source breaks no rule, passes no limit, and is secure
 
 secure_in : (model : Model) (source : List ℕ) → IsCertified model source → IsSecureIn model source
 secure_in model source c =
     let r = read_tree model source c.replay.tree c.replay.read in
-    record { tree = c.replay.tree; has = r.0; good = r.1; secure = c.secure }
+    record { tree = c.replay.tree; has = r.0; accepted = r.1; secure = c.secure }
 
 secure_for : (asked : Asked) (file : List ℕ → List ℕ) → IsCertifiedFor asked file → IsSecureFor asked file
 secure_for (Check c) file h = secure_in c.model (file c.source) h
@@ -69,7 +69,7 @@ reached_in : (before behind : ℕ) (model : Model) (units learn : ℕ) (source :
 reached_in before behind model units learn source v values h u =
     let r = unsafe_reached before behind model units learn source u.0 u.1 values u.2 (subst (λ (x : Verdict). IsVerifyAnswer (Rose before behind) model units learn source x) u.3 h) in
     let t = read_tree model source r.0 r.1 in
-    record { tree = r.0; has = t.0; good = t.1; kind = u.0; at = r.2.0; reaches = r.2.2 }
+    record { tree = r.0; has = t.0; accepted = t.1; kind = u.0; at = r.2.0; reaches = r.2.2 }
 
 reached : (before behind : ℕ) (asked : Asked) (file : List ℕ → List ℕ) (v : Verdict) (values : List ℤ) → IsAnswer (Rose before behind) asked file v → IsUnsafe v values → IsReachedFor asked file values
 reached before behind (Check c) file v values h u =

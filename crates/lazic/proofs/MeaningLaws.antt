@@ -23,7 +23,6 @@ use Rattle.first_token_laws.specs.Laws.{IsFirstRefused}
 use Rattle.first_token_laws.proofs.FirstRefused.{one_first}
 use Rattle.c_parser.specs.Reading.{IsEnded, IsReading, IsStopped}
 use Rattle.c_parser.proofs.ReadingLaws.{reading}
-use Rattle.c_meaning.specs.Good.{Good}
 use Rattle.source_checks.specs.Refusals.{source_refusal}
 use Rattle.stored_text.specs.declared.StoredFail.{StoredFail}
 use Rattle.stored_text.specs.Reading.{read_run_of}
@@ -70,7 +69,7 @@ stopped_at source tokens at unsupported read stop =
 pub tree_is : (tokens : List SymbolAt) (tree : Items) → ma.parse_of tokens ≡ ma.Tree tree → IsSpelled tokens tree → IsTreeOf tokens tree
 tree_is tokens tree read spelled = let w = the_only tokens tree read in record { spelled = spelled; low = w.0; only = w.1 }
 
--- ---- a source that is read has a tree, which breaks no rule
+-- ---- a source that is read has a tree, which breaks no rule and passes no limit
 
 checked_free : (model : Model) (read tree : Items) → checked model (Ok read) ≡ Ok tree → (read ≡ tree) × (source_refusal tree model ≡ None)
 checked_free model read tree is = by_refusal (source_refusal read model) refl is
@@ -79,19 +78,19 @@ checked_free model read tree is = by_refusal (source_refusal read model) refl is
     by_refusal None free e = let same : read ≡ tree = cc in (same, subst (λ (t : Items). source_refusal t model ≡ None) same free)
     by_refusal (Some f) refused e = absurd (cc)
 
-pub read_tree : (model : Model) (source : List ℕ) (tree : Items) → source_read model source ≡ Ok tree → HasTree source tree × Good tree model
+pub read_tree : (model : Model) (source : List ℕ) (tree : Items) → source_read model source ≡ Ok tree → HasTree source tree × IsAccepted tree model
 read_tree model source tree read = by_tokens (lexed source) refl read
   where
-    by_parsed : (tokens : List Token) → HasTokens source tokens → (r : ma.Result) → ma.parse_of (signs_of tokens) ≡ r → checked model (parsed_of r) ≡ Ok tree → HasTree source tree × Good tree model
+    by_parsed : (tokens : List Token) → HasTokens source tokens → (r : ma.Result) → ma.parse_of (signs_of tokens) ≡ r → checked model (parsed_of r) ≡ Ok tree → HasTree source tree × IsAccepted tree model
     by_parsed tokens has (ma.Tree found) is e =
         let free = checked_free model found tree e in
         let same : ma.parse_of (signs_of tokens) ≡ ma.Tree tree = is ∙ ap (λ (t : Items). ma.Tree t) free.0 in
-        (record { tokens = tokens; has = has; tree_of = tree_is (signs_of tokens) tree same (reading (signs_of tokens) (ma.Tree tree) same).0 }, good_of tree model free.1)
+        (record { tokens = tokens; has = has; tree_of = tree_is (signs_of tokens) tree same (reading (signs_of tokens) (ma.Tree tree) same).0 }, record { good = good_of tree model free.1; free = free.1 })
     by_parsed tokens has (ma.Syntax at) is e = absurd (cc)
     by_parsed tokens has (ma.Unsupported at) is e = absurd (cc)
     by_parsed tokens has ma.TooHigh is e = absurd (cc)
 
-    by_tokens : (r : Result (List Token) SourceFail) → lexed source ≡ r → checked model (tokens_read r) ≡ Ok tree → HasTree source tree × Good tree model
+    by_tokens : (r : Result (List Token) SourceFail) → lexed source ≡ r → checked model (tokens_read r) ≡ Ok tree → HasTree source tree × IsAccepted tree model
     by_tokens (Err f) is e = absurd (cc)
     by_tokens (Ok tokens) is e = by_parsed tokens ((is_lexed_of source (Ok tokens)).0 is) (ma.parse_of (signs_of tokens)) refl e
 

@@ -3,21 +3,20 @@ use Rattle.std.specs.Prelude.{ℕ, ℤ, ◌≡◌, List}
 use Rattle.lv_base.specs.declared.kind.Model.{Model}
 use Rattle.lv_base.specs.declared.fault.ErrorKind.{ErrorKind}
 use Rattle.c_tree.specs.Tree.{Items}
-use Rattle.c_meaning.specs.Good.{Good}
 use Rattle.c_meaning.specs.Program.{Reaches, Secure}
 use Rattle.task_gen.specs.Generated.{generated}
 use Rattle.request_words.specs.Asked.{Asked, Check, Verify, Generate, plain_model}
 use Rattle.request_answers.specs.Answers.{IsKnown}
 use Rattle.request_answers.specs.Laws.{IsCertifiedFor}
-use Rattle.lazic.specs.Meaning.{HasTree}
+use Rattle.lazic.specs.Meaning.{HasTree, IsAccepted}
 use Rattle.lazic.specs.declared.report.Kept.{Kept}
 use Rattle.lazic.specs.declared.report.Kept.TheVariants.{Unsafe}
 
--- The source has a tree, the only one with its tokens, that breaks no rule of C, and no inputs lead it to an error.
+-- The source has a tree, the only one with its tokens, that breaks no rule of C and passes no limit, and no inputs lead it to an error.
 pub record IsSecureIn (model : Model) (source : List ℕ) : Type 0 where
   pub tree : Items
   pub has : HasTree source tree
-  pub good : Good tree model
+  pub accepted : IsAccepted tree model
   pub secure : Secure tree model
 
 -- so it is of the source that is asked about
@@ -26,11 +25,11 @@ IsSecureFor (Check c) file = IsSecureIn c.model (file c.source)
 IsSecureFor (Verify w) file = IsSecureIn w.model (file w.source)
 IsSecureFor (Generate seed) file = IsSecureIn plain_model (generated seed)
 
--- The source has a tree that breaks no rule, and these values lead it to an error, all of them being drawn.
+-- The source has a tree that breaks no rule and passes no limit, and these values lead it to an error, all of them being drawn.
 pub record IsReachedIn (model : Model) (source : List ℕ) (values : List ℤ) : Type 0 where
   pub tree : Items
   pub has : HasTree source tree
-  pub good : Good tree model
+  pub accepted : IsAccepted tree model
   pub kind : ErrorKind
   pub at : ℕ
   pub reaches : Reaches tree model values kind at
