@@ -28,7 +28,8 @@ use Rattle.elaboration_body_laws.proofs.Tokens.{tokens_held}
 use Rattle.source_refusals.specs.Cells.{passed}
 use Rattle.source_refusals.specs.Refusals.{faults_in, refusal_in}
 use Rattle.elaboration_laws.specs.Read.{IsRead}
-use Rattle.elaboration_laws.specs.Laws.{SourcesRead, IsFree, TypedKept, RunsKept}
+use Rattle.error_call_laws.specs.Laws.{CallsKept}
+use Rattle.elaboration_laws.specs.Laws.{SourcesRead, IsFree, TypedKept, RunsKept, PlacesKept}
 use Rattle.elaboration_laws.proofs.Limits.{no_broken, no_passed, none_broken, AllSmall, all_small}
 use Rattle.elaboration_laws.proofs.Numbers.{objects_short}
 
@@ -60,3 +61,6 @@ pub runs_kept_are : SourcesRun → SourcesBreak → RunsKept
 runs_kept_are runs breaks items model read h =
     let g = free (env_of items model) model items h in
     (runs read.tokens items model read.spelled read.rises g.right, breaks read.tokens items model read.spelled read.rises g.right)
+
+pub places_kept_are : CallsKept → PlacesKept
+places_kept_are calls items model read h = calls read.tokens items model read.spelled read.rises (free (env_of items model) model items h).right

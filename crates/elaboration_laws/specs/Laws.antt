@@ -12,6 +12,7 @@ use Rattle.c_typed.specs.Facts.{IsTyped}
 use Rattle.c_typed.specs.Rules.{broken}
 use Rattle.c_typed.specs.Run as typed
 use Rattle.c_types.specs.Elaborated.{elaborated}
+use Rattle.error_call_laws.specs.Laws.{KeepsCalls}
 use Rattle.source_refusals.specs.Refusals.{refusal}
 use Rattle.elaboration_laws.specs.Read.{IsRead}
 
@@ -30,3 +31,7 @@ abbrev pub RunsKept : Type 0
 RunsKept = (items : Items) → (model : Model) → IsRead items model → IsFree items model →
     ((turns : ℕ) → (inputs : List ℤ) → typed.run turns (elaborated items model) inputs ≡ run turns items model inputs)
     × (broken (elaborated items model) ≡ control_faults (env_of items model) (functions_of (env_of items model) items))
+
+-- each call of `reach_error` keeps its place, in the function of the same name
+abbrev pub PlacesKept : Type 0
+PlacesKept = (items : Items) → (model : Model) → IsRead items model → IsFree items model → KeepsCalls items model

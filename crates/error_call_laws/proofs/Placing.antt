@@ -27,7 +27,7 @@ use Rattle.elaboration_fit_laws.specs.Whole.{SourcesFit}
 use Rattle.elaboration_offset_laws.specs.Laws.{SourcesHold}
 use Rattle.elaboration_source_laws.specs.Laws.{TokensRise}
 use Rattle.error_call_laws.specs.Reaches.{place_of, place_in, places, places_in, place_by, places_of, reached_in, value_places, list_places, goal_places, values_places, typed_reached}
-use Rattle.error_call_laws.specs.Laws.{ReachesKept}
+use Rattle.error_call_laws.specs.Laws.{CallsKept, ReachesKept}
 
 both : {A : Type 0} (xs ys us vs : List A) → xs ≡ ys → us ≡ vs → xs ++ us ≡ ys ++ vs
 both xs ys us vs h k = ap (λ z. z ++ us) h ∙ ap (λ z. ys ++ z) k
@@ -264,10 +264,12 @@ or_left : (xs ys : List Broken) → or_control xs ys ≡ [] → xs ≡ []
 or_left [] ys h = refl
 or_left (x ∷ xs) ys h = cc
 
+pub calls_kept_are : SourcesHold → SourcesFit → CallsKept
+calls_kept_are holds fits tokens items model spelled rises right =
+    let env = env_of items model in
+    let fit = fits items model (holds tokens items model spelled rises right) right in
+    functions_same env model (map (λ f. f.name) (functions_of env items)) (functions_of env items) fit.1.fits fit.1.aims
+
 pub reaches_kept_are : TokensRise → SourcesHold → SourcesFit → ReachesKept
 reaches_kept_are rise holds fits text list tree model tokens denotes good =
-    let items = tree_of tree in
-    let env = env_of items model in
-    let right = or_left _ _ good in
-    let fit = fits items model (holds (signs_of list) items model denotes (rise text list tokens) right) right in
-    functions_same env model (map (λ f. f.name) (functions_of env items)) (functions_of env items) fit.1.fits fit.1.aims
+    calls_kept_are holds fits (signs_of list) (tree_of tree) model denotes (rise text list tokens) (or_left _ _ good)

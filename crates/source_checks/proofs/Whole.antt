@@ -22,7 +22,7 @@ control items model = control_faults (env_of items model) (functions_of (env_of 
 typing_none : (items : Items) (model : Model) → refusal items model ≡ None → faults_in (env_of items model) model items ≡ []
 typing_none items model h =
     let env = env_of items model in
-    none_broken (faults_in env model items) (no_broken (first_broken (faults_in env model items)) (passed env 0 env.objects) h)
+    none_broken (faults_in env model items) (no_broken (first_broken (faults_in env model items)) (passed 0 env.objects) h)
 
 pub good_from : (items : Items) (model : Model) (program : Program) → refusal items model ≡ None → broken program ≡ control items model → broken program ≡ [] → Good items model
 good_from items model program h c b = ap (λ bs. or_control bs (control items model)) (typing_none items model h) ∙ sym c ∙ b
