@@ -2,9 +2,8 @@ ghost use Rattle.std.specs.Prelude.{◌≡◌, ◌≢◌, ◌≤◌, ℕ, List, 
 ghost use Rattle.lv_outside.specs.Counts.{Rose, counted, raised};
 ghost use Rattle.lv_outside.specs.Got.{IsAtMost, is_failed};
 
-use crate::{Failed, FileFail, Folder, Gate, Got, Sink};
+use crate::{Failed, FileFail, Folder, Gate, Got, Sink, read_whole, write_whole};
 use std::alloc::Global;
-use std::io::{Read, Write};
 use std::rt::{Clock, Files};
 use std::time::Instant;
 use std::{fs, io};
@@ -74,23 +73,13 @@ impl<R: Files + Drop> Folder for HostFolder<R> {
     }
 }
 
-// A read that gives no byte is the file's end. No more memory is taken than the bytes that were read.
 fn read_file<R: Files>(alloc: Global, rt: &R, name: &str, most: usize) -> Result<Got, FileFail>
     ensures { IfOk result (IsAtMost most) }
 {
     let Ok(mut file) = fs::open(rt, name) else {
         return Err(FileFail::Failed);
     };
-    let mut bytes = Vec::new(alloc);
-    let mut part = [0u8; 16384];
-    while bytes.len() <= most {
-        match file.read(&mut part) {
-            Ok(0) => return Ok(Got::Bytes(bytes)),
-            Ok(n) => bytes.extend_from_slice(&part[..n])?,
-            Err(_) => return Err(FileFail::Failed),
-        }
-    }
-    Ok(Got::Longer)
+    read_whole(alloc, &mut file, most)
 }
 
 fn write_file<R: Files>(rt: &R, name: &str, bytes: &[u8]) -> Result<(), Failed> {
@@ -98,19 +87,6 @@ fn write_file<R: Files>(rt: &R, name: &str, bytes: &[u8]) -> Result<(), Failed> 
         Ok(mut file) => write_whole(&mut file, bytes),
         Err(_) => Err(Failed),
     }
-}
-
-// A write that takes no byte is a failure; one that takes some is followed by one of the rest.
-fn write_whole<W: Write>(to: &mut W, bytes: &[u8]) -> Result<(), Failed> {
-    let mut done = 0;
-    while done < bytes.len() {
-        match to.write(&bytes[done..]) {
-            Ok(0) => return Err(Failed),
-            Ok(n) => done += n,
-            Err(_) => return Err(Failed),
-        }
-    }
-    Ok(())
 }
 
 /// The host's standard output. It tells nothing of what was printed.

@@ -11,6 +11,7 @@ mod mem_sink;
 mod no_fault_folder;
 mod no_fault_sink;
 mod sink;
+mod streams;
 
 pub use files::names_differ;
 pub use folder::{FileFail, Folder, Got};
@@ -21,3 +22,4 @@ pub use mem_sink::MemSink;
 pub use no_fault_folder::NoFaultFolder;
 pub use no_fault_sink::NoFaultSink;
 pub use sink::{Failed, Sink};
+pub use streams::{read_whole, write_whole};
