@@ -1,9 +1,10 @@
 //! The host's folder and sink.
 
 use crate::memory::read;
-use lv_outside::{Failed, FileFail, Folder, HostFolder, HostSink, Sink};
+use lv_outside::{Failed, FileFail, Folder, Got, HostFolder, HostSink, Sink, read_whole};
 use std::fmt::Display;
 use std::io;
+use std::io::Read;
 use std::sync::atomic::{AtomicU64, Ordering};
 use std::test::Fail;
 
@@ -71,6 +72,36 @@ fn short_writes_are_gone_on_with(rt: HostRuntime) {
     let mut sink = HostSink::new(&full);
     assert_eq!(rt; sink.put(b"abcde"), Err(Failed));
     assert_eq!(rt; full.text.load(Ordering::SeqCst), 0x61_62_63_64);
+}
+
+// Gives two bytes a read at most.
+#[derive(Drop)]
+struct Drip<'a> {
+    left: &'a [u8],
+}
+
+impl Read for Drip<'_> {
+    fn read(&mut self, buf: &mut [u8]) -> io::Result<usize> {
+        let given = self.left.len().min(2).min(buf.len());
+        for (to, from) in buf.iter_mut().zip(&self.left[..given]) {
+            *to = *from;
+        }
+        self.left = &self.left[given..];
+        Ok(given)
+    }
+}
+
+#[test]
+fn short_reads_are_put_together(rt: HostRuntime) -> Result<(), Fail> {
+    let text: &[u8] = b"abcde";
+    match read_whole(rt.alloc(), &mut Drip { left: text }, 5) {
+        Ok(Got::Bytes(bytes)) => assert_eq!(rt; bytes.as_slice(), text),
+        Ok(Got::Longer) => return Err("no more than five bytes".into()),
+        Err(_) => return Err("not read".into()),
+    }
+    let longer = read_whole(rt.alloc(), &mut Drip { left: text }, 4);
+    assert!(rt; matches!(longer, Ok(Got::Longer)));
+    Ok(())
 }
 
 #[test]

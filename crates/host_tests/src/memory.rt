@@ -55,6 +55,9 @@ fn a_folder_in_memory_fails_where_it_is_told(rt: HostRuntime) -> Result<(), Fail
     read(&rt, &mut folder, "a", 9, Ok("one"));
     assert_eq!(rt; folder.write(alloc, "a", b""), Ok(()));
     read(&rt, &mut folder, "a", 0, Ok(""));
+    assert_eq!(rt; folder.calls(), 10);
+    assert_eq!(rt; folder.fails(), [1, 5].as_slice());
+    assert_eq!(rt; folder.files().len(), 3);
     Ok(())
 }
 
@@ -68,6 +71,7 @@ fn a_folder_without_faults_reads_what_is_missing_as_empty(rt: HostRuntime) -> Re
         assert_eq!(rt; folder.write(alloc, "b", b"two"), Ok(()));
         read(&rt, &mut folder, "b", 3, Ok("two"));
         read(&rt, &mut folder, "a", 2, Ok("longer"));
+        assert_eq!(rt; folder.files().len(), 2);
     } else {
         assert!(rt; false);
     }
@@ -86,6 +90,9 @@ fn a_sink_in_memory_fails_past_its_room_and_where_it_is_told(rt: HostRuntime) ->
     assert_eq!(rt; sink.put(b"def"), Err(Failed));
     assert_eq!(rt; sink.put(b"de"), Ok(()));
     assert_eq!(rt; sink.text(), b"abcde".as_slice());
+    assert_eq!(rt; sink.room(), 5);
+    assert_eq!(rt; sink.fails(), [1].as_slice());
+    assert_eq!(rt; sink.calls(), 4);
     Ok(())
 }
 
@@ -98,5 +105,6 @@ fn a_sink_without_faults_drops_what_passes_its_room(rt: HostRuntime) -> Result<(
     assert_eq!(rt; sink.text(), b"abc".as_slice());
     assert_eq!(rt; sink.put(b"def"), Ok(()));
     assert_eq!(rt; sink.text(), b"abcd".as_slice());
+    assert_eq!(rt; sink.room(), 4);
     Ok(())
 }

@@ -38,6 +38,27 @@ impl MemFolder {
             write_faults: 0,
         }
     }
+
+    /// The files with their names.
+    pub fn files(&self) -> &[(Text, Vec<u8>)]
+        ensures { result.now ≡ folder_files self.now }
+    {
+        &self.files
+    }
+
+    /// The numbers, from 0, of the calls that fail.
+    pub fn fails(&self) -> &[u32]
+        ensures { result.now ≡ folder_fails self.now }
+    {
+        &self.fails
+    }
+
+    /// How many calls there were, as far as a count of 64 bits goes.
+    pub fn calls(&self) -> u64
+        ensures { result ≡ folder_calls self.now }
+    {
+        self.calls
+    }
 }
 
 impl Folder for MemFolder {

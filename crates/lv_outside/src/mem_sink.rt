@@ -45,6 +45,27 @@ impl MemSink {
     {
         &self.text
     }
+
+    /// How many bytes fit in.
+    pub fn room(&self) -> usize
+        ensures { result ≡ sink_room self.now }
+    {
+        self.room
+    }
+
+    /// The numbers, from 0, of the puts that fail.
+    pub fn fails(&self) -> &[u32]
+        ensures { result.now ≡ sink_fails self.now }
+    {
+        &self.fails
+    }
+
+    /// How many puts there were, as far as a count of 64 bits goes.
+    pub fn calls(&self) -> u64
+        ensures { result ≡ sink_calls self.now }
+    {
+        self.calls
+    }
 }
 
 impl Sink for MemSink {

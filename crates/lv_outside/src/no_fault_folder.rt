@@ -22,6 +22,13 @@ impl NoFaultFolder {
     {
         NoFaultFolder { files }
     }
+
+    /// The files with their names.
+    pub fn files(&self) -> &[(Text, Vec<u8>)]
+        ensures { result.now ≡ no_fault_files self.now }
+    {
+        &self.files
+    }
 }
 
 impl Folder for NoFaultFolder {

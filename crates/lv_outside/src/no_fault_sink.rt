@@ -39,6 +39,13 @@ impl NoFaultSink {
     {
         &self.text
     }
+
+    /// How many bytes fit in.
+    pub fn room(&self) -> usize
+        ensures { result ≡ no_fault_room self.now }
+    {
+        self.room
+    }
 }
 
 impl Sink for NoFaultSink {

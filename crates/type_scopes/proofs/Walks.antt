@@ -35,8 +35,8 @@ other_name tag m n h = elim (cases_Bool (bytes_eq m n)) [
 other_key : (t u : Bool) (m n : List ℕ) → (bucket t m ≡ bucket u n → ⊥) → (t ≡ u → ⊥) ⊎ (bytes_eq m n ≡ false)
 other_key true true m n h = inr (other_name true m n h)
 other_key false false m n h = inr (other_name false m n h)
-other_key true false m n h = inl (both_ways true refl)
-other_key false true m n h = inl (λ e. both_ways true refl (sym e))
+other_key true false m n h = inl (λ e. both_ways true e refl)
+other_key false true m n h = inl (λ e. both_ways false refl e)
 
 apart_spaces : (t u : Bool) → (t ≡ u → ⊥) → (if t then u else not u) ≡ false
 apart_spaces true true h = absurd (h refl)

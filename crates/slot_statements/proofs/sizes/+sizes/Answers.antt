@@ -8,7 +8,7 @@ use Rattle.slot_statements.proofs.sizes.+sizes.Goals as goal
 pub measured_all-loop-step-preserved : goal.measured_all-loop-step-preserved
 measured_all-loop-step-preserved t c = record {
   size = size_step c.args.frame.now c.args.steps.now c.loop-step.step-index c.step-item.result c.loop-step.size _ c.in_ok-size.size
-      (omega arith) c.step-item.is c.loop-step.invariant.size (ap (λ (z : me.Measure). z.size) c.in_ok-own.ensures) c.in_ok-size.ensures;
+      (omega arith) c.step-item.is c.loop-step.invariant.size (ap (λ (z : me.Measure). z.size) c.in_ok-own.ensures) c.in_ok-size.ensures.value;
   marks = marks_step c.args.frame.now c.args.steps.now c.loop-step.step-index c.step-item.result c.loop-step.size (measure_of c.in_ok-own.own) (marks_of c.loop-step.marks.items) (marks_of c.add_moved.new.all.items)
       (omega arith) c.step-item.is c.loop-step.invariant.size c.loop-step.invariant.marks c.in_ok-own.ensures (c.in_ok-add_moved.ensures ∙ ap (λ z. marks_of c.loop-step.marks.items ++ moved c.loop-step.size (marks_of z)) c.deref.ensures.value);
 }

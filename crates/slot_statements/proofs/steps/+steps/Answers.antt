@@ -7,7 +7,7 @@ steps_code-loop-step-preserved t c = record {
   code = code_step c.args.frame.now c.args.exits.now c.args.aims c.args.steps.now c.loop-step.step-index c.step-item.result c.loop-step.size c.in_ok-beyond.field-0 c.loop-step.code.items c.in_ok-own.own.items c.in_ok-code.code.items
       (omega arith) c.step-item.is c.loop-step.invariant.size c.loop-step.invariant.code c.in_ok-beyond.ensures c.in_ok-own.ensures (c.in_ok-code.ensures ∙ ap (λ z. c.loop-step.code.items ++ z) c.deref.ensures.value);
   size = size_step c.args.frame.now c.args.steps.now c.loop-step.step-index c.step-item.result c.loop-step.size c.in_ok-size_of.field-0 c.in_ok-size.size
-      (omega arith) c.step-item.is c.loop-step.invariant.size c.in_ok-size_of.ensures c.in_ok-size.ensures;
+      (omega arith) c.step-item.is c.loop-step.invariant.size c.in_ok-size_of.ensures c.in_ok-size.ensures.value;
 }
 
 pub step_code-returns-in-Block : goal.step_code-returns-in-Block

@@ -8,4 +8,4 @@ returns-then-left-eq0 c = no_slots _ _ _ _ _ c.if-left-eq0.true c.loop-object.in
 pub loop-object-preserved : goal.loop-object-preserved
 loop-object-preserved c =
     bind_step c.args.parameters.now c.loop-object.object-index 0 c.loop-object.place c.in_ok-place.place c.loop-object.left _ c.loop-object.code.items c.add.new.code.items _
-    (omega arith) (omega arith) refl c.in_ok-place.ensures c.in_ok-add.ensures c.loop-object.invariant
+    (omega arith) (omega arith) refl c.in_ok-place.ensures.value c.in_ok-add.ensures c.loop-object.invariant

@@ -8,7 +8,7 @@ add_values-loop-value-preserved t c = record {
   code = values_step c.args.scene.now c.args.slot c.args.values.now c.loop-value.value-index c.value-item.result c.loop-value.place c.args.code.now.items c.loop-value.code.items c.add_value.new.code.items
       (omega arith) c.value-item.is c.loop-value.invariant.place c.loop-value.invariant.code c.in_ok-add_value.ensures;
   place = place_step c.args.scene.now c.args.slot c.args.values.now c.loop-value.value-index c.value-item.result c.loop-value.place c.in_ok-place.place
-      (omega arith) c.loop-value.invariant.place c.in_ok-place.ensures;
+      (omega arith) c.loop-value.invariant.place c.in_ok-place.ensures.value;
 }
 
 pub add_dropped-loop-value-preserved : goal.add_dropped-loop-value-preserved

@@ -1,4 +1,4 @@
-use Rattle.std.proofs.Common.{None}
+use Rattle.std.proofs.Common.{None, false}
 use Rattle.type_scopes.specs.Buckets.{bucket}
 use Rattle.type_scopes.specs.Chains.{by_name}
 use Rattle.type_scopes.specs.Walking.{is_in_file}
