@@ -1,7 +1,7 @@
--- What was read of a reader whose bytes are known.
-use Rattle.std.proofs.Common.{◌≡◌, ℕ, ◌+◌, ◌<◌, ◌≤◌, List, [], ◌++◌, length, take, Option, None, Some, refl, sym, ap, ◌∙◌, subst, arith, IfSome, append_assoc, append-nil}
+-- What was read of a reader, and written to a writer, whose bytes are known.
+use Rattle.std.proofs.Common.{◌≡◌, ℕ, ◌+◌, ◌<◌, ◌≤◌, zero, suc, List, [], ◌∷◌, ◌++◌, length, take, drop, Option, None, Some, refl, sym, ap, ◌∙◌, subst, arith, IfSome, append_assoc, append-nil}
 use Rattle.std.proofs.lemmas.List.{length-append}
-use Rattle.std.specs.Io.KnownBytes.{Consumes, IsAtEnd}
+use Rattle.std.specs.Io.KnownBytes.{Appends, Consumes, IsAtEnd}
 
 -- at first nothing was
 pub nothing : (o : Option (List ℕ)) → Consumes o o []
@@ -30,3 +30,25 @@ pub longer : (a b : Option (List ℕ)) (xs : List ℕ) (most : ℕ) → Consumes
 longer None b xs most h l = tt
 longer (Some us) (Some bs) xs most h l = let long = length-append xs bs in let same = ap length h in omega (arith, long, same, l)
 longer (Some us) None xs most h l = absurd h
+
+-- ---- Written
+
+pub unwritten : (o : Option (List ℕ)) → Appends o o []
+unwritten None = tt
+unwritten (Some xs) = sym (append-nil xs)
+
+take_none : (n : ℕ) → take {A = ℕ} n [] ≡ []
+take_none zero = refl
+take_none (suc n) = refl
+
+take_further : (k n : ℕ) (xs : List ℕ) → take k xs ++ take n (drop k xs) ≡ take (k + n) xs
+take_further zero n xs = let same : n ≡ 0 + n = omega arith in ap (λ (m : ℕ). take m xs) same
+take_further (suc k) n [] = take_none n ∙ sym (take_none (suc k + n))
+take_further (suc k) n (x ∷ xs) = let same : suc (k + n) ≡ suc k + n = omega arith in ap (λ t. x ∷ t) (take_further k n xs) ∙ ap (λ (m : ℕ). take m (x ∷ xs)) same
+
+pub further : (a b c : Option (List ℕ)) (k n : ℕ) (xs : List ℕ) → Appends a b (take k xs) → Appends b c (take n (drop k xs)) → Appends a c (take (k + n) xs)
+further None b c k n xs h g = tt
+further (Some us) (Some vs) (Some ws) k n xs h g =
+    g ∙ ap (λ t. t ++ take n (drop k xs)) h ∙ append_assoc us (take k xs) (take n (drop k xs)) ∙ ap (λ t. us ++ t) (take_further k n xs)
+further (Some us) (Some vs) None k n xs h g = absurd g
+further (Some us) None c k n xs h g = absurd h

@@ -28,8 +28,13 @@ pub fn read_whole<R: Read>(alloc: Global, from: &mut R, most: usize) -> Result<G
 pub fn write_whole<W: Write>(to: &mut W, bytes: &[u8]) -> Result<(), Failed>
     ensures { OnOk result (Appends (W.contents to.old) (W.contents to.new) bytes.now) }
 {
-    match to.write_all(bytes) {
-        Ok(()) => Ok(()),
-        Err(_) => Err(Failed),
+    let mut done = 0;
+    'parts: while done < bytes.len() {
+        match to.write(&bytes[done..]) {
+            Ok(0) => return Err(Failed),
+            Ok(n) => done += n,
+            Err(_) => return Err(Failed),
+        }
     }
+    Ok(())
 }
