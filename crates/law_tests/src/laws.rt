@@ -12,13 +12,13 @@ use control_laws::{same_control, same_jumps};
 use effect_rules::effects_summed;
 use elaboration_body_laws::{programs_typed, sources_typed, values_typed};
 use elaboration_fit_laws::{expressions_fit, known_hold, sources_fit};
-use elaboration_laws::{runs_kept, sources_read, typed_kept};
+use elaboration_laws::{places_kept, runs_kept, sources_read, typed_kept};
 use elaboration_main_laws::main_found;
 use elaboration_offset_laws::{
     good_sources, objects_typed, parameters_typed, sources_break, sources_hold, sources_run,
 };
 use elaboration_source_laws::{calls_found, good_programs, objects_kept, tokens_rise};
-use error_call_laws::reaches_kept;
+use error_call_laws::{calls_kept, reaches_kept};
 use fault_examples::broken_lines;
 use first_token_laws::{first_refusals, limits, one_first, one_tree, viable_tokens};
 use good_run_laws::{bodies_left, labels_found};
@@ -99,6 +99,8 @@ fn bodies_keep_their_facts() {
 #[test]
 fn calls_of_reach_error() {
     reaches_kept();
+    calls_kept();
+    places_kept();
 }
 
 #[test]
