@@ -131,16 +131,25 @@ pub fn variables(alloc: Global, clauses: &Clauses) -> Result<Vec<u32>, AllocErro
     Ok(vars)
 }
 
-/// The number of a variable, where it occurs. It is found at once where no smaller variable is missing, and else by
-/// binary search.
+// Where a variable stands if it is listed and none is missing between the first one and it.
+#[inline]
+fn guess(vars: &[u32], var: u32) -> usize {
+    if vars.is_empty() {
+        return 0;
+    }
+    var.saturating_sub(vars[0]) as usize
+}
+
+/// The number of a variable, where it occurs. It is found at once where none is missing between the first variable and it,
+/// and else by binary search.
 pub fn number_of(vars: &[u32], var: u32) -> Option<u32>
     requires rising { IsStrictlyIncreasing vars.now }
     requires few { length vars.now ≤ 67108864 }
     ensures { MatchOption result (listed vars.now var ≡ false) (λ k. (listed vars.now var ≡ true) × (k ≡ place vars.now var) × (k < length vars.now)) }
 {
-    let at = var as usize;
+    let at = guess(vars, var);
     if at < vars.len() && vars[at] == var {
-        return Some(var);
+        return Some(at as u32);
     }
     match vars.binary_search(&var) {
         Ok(k) => Some(k as u32),

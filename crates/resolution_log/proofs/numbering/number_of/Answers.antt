@@ -6,9 +6,9 @@ use Rattle.resolution_log.proofs.numbering.number_of.Goals as goal
 
 pub returns-then-vars-at : goal.returns-then-vars-at
 returns-then-vars-at c =
-    let lt : c.args.var < length c.args.vars.now = search rules in
-    let e : get_or c.args.vars.now c.args.var 0 ≡ c.args.var = search rules in
-    (listed_at c.args.vars.now c.args.var c.args.var lt e, sym (place_at c.args.vars.now c.requires.rising c.args.var c.args.var lt e), lt)
+    let lt : c.guess-at.result < length c.args.vars.now = search rules in
+    let e : get_or c.args.vars.now c.guess-at.result 0 ≡ c.args.var = search rules in
+    (listed_at c.args.vars.now c.args.var c.guess-at.result lt e, sym (place_at c.args.vars.now c.requires.rising c.guess-at.result c.args.var lt e), lt)
 
 pub returns-in-Ok : goal.returns-in-Ok
 returns-in-Ok c =
