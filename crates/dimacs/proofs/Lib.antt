@@ -1,1 +1,2 @@
 pub mod Refutes
+mod Counting

@@ -1,19 +1,25 @@
 -- What an answer means, and its lines.
-use Rattle.std.specs.Prelude.{◌≡◌, ℕ, Bool, true, cond, List, [], ◌∷◌, ◌++◌, codes}
+use Rattle.std.specs.Prelude.{◌≡◌, ◌⊎◌, ℕ, min, Bool, true, cond, List, [], ◌∷◌, ◌++◌, length, codes}
 use Rattle.std.specs.Fmt.{decimal}
 use Rattle.prop.specs.declared.Lit.{Lit}
 use Rattle.prop.specs.Logic.{all_hold}
 use Rattle.prop.specs.Trues.{listed}
 use Rattle.resolution_log.specs.declared.Chain.{Chain}
 use Rattle.resolution_log.specs.Chains.{IsRefutation}
+use Rattle.clause_learning.specs.Solve.{IsHeavy, IsSpent, pairs_of}
 use Rattle.dimacs.specs.declared.answering.Told.{Told}
 use Rattle.dimacs.specs.declared.answering.Told.TheVariants.{Satisfiable, Unsatisfiable, Unknown}
 
--- SATISFIABLE is said with a satisfying assignment, UNSATISFIABLE where there is a refutation.
-abbrev pub IsTold : List (List Lit) → Told → Type 0
-IsTold clauses (Satisfiable a) = all_hold (listed a) clauses ≡ true
-IsTold clauses (Unsatisfiable chains pairs) = (log : List Chain) × IsRefutation clauses log
-IsTold clauses (Unknown chains pairs) = Unit {0}
+-- the counts are those of the log, as far as 64 bits go
+abbrev pub AreCounts : List Chain → ℕ → ℕ → Type 0
+AreCounts log chains pairs = (chains ≡ length log) × (pairs ≡ min (pairs_of log) 18446744073709551615)
+
+-- SATISFIABLE is said with a satisfying assignment, UNSATISFIABLE where there is a refutation, UNKNOWN where a new log has as many chains as may
+-- be learned, or its pairs reach the limit.
+abbrev pub IsTold : List (List Lit) → ℕ → Told → Type 0
+IsTold clauses learn (Satisfiable a) = all_hold (listed a) clauses ≡ true
+IsTold clauses learn (Unsatisfiable chains pairs) = (log : List Chain) × IsRefutation clauses log × AreCounts log chains pairs
+IsTold clauses learn (Unknown chains pairs) = (log : List Chain) × (IsSpent clauses learn log ⊎ IsHeavy clauses learn 134217728 log) × AreCounts log chains pairs
 
 abbrev pub status_of : Told → ℕ
 status_of (Satisfiable a) = 10

@@ -1,6 +1,7 @@
 //! Asks the solver, and lets the checker read each refutation.
 
-ghost use Rattle.std.specs.Prelude.{◌≡◌, ◌<◌, IfOk};
+ghost use Rattle.std.specs.Prelude.{ℕ, ◌≡◌, ◌<◌, min, IfOk};
+ghost use Rattle.clause_learning.specs.Solve.{pairs_of};
 ghost use Rattle.resolution_log.specs.Chains.{IsRefutation};
 ghost use Rattle.dimacs.specs.Dimacs.{IsTold, status_of};
 
@@ -33,10 +34,13 @@ impl Told {
     }
 }
 
-// How many pairs a log has.
-fn pairs(log: &Log) -> u64 {
+// How many pairs a log has, as far as a count of 64 bits goes.
+fn pairs(log: &Log) -> u64
+    ensures { result ≡ min (pairs_of log.now) 18446744073709551615 }
+{
     let mut pairs = 0u64;
-    for chain in log.chains() {
+    let chains = log.chains();
+    for chain in chains {
         pairs = pairs.saturating_add(chain.pairs.len() as u64);
     }
     pairs
@@ -45,7 +49,7 @@ fn pairs(log: &Log) -> u64 {
 // What the checker says of a refutation.
 fn refuted(alloc: Global, clauses: &Clauses, log: &Log) -> Result<Told, AllocError>
     requires { IsRefutation clauses.now log.now }
-    ensures { IfOk result (IsTold clauses.now) }
+    ensures { IfOk result (λ t. (learn : ℕ) → IsTold clauses.now learn t) }
 {
     match check_log(alloc, clauses, log) {
         Ok(()) => Ok(Told::Unsatisfiable(log.len() as u64, pairs(log))),
@@ -58,7 +62,7 @@ fn refuted(alloc: Global, clauses: &Clauses, log: &Log) -> Result<Told, AllocErr
 /// Solves clauses with a budget of learned clauses.
 pub fn tell(alloc: Global, clauses: &Clauses, learn: u64) -> Result<Told, AllocError>
     requires { 0 < learn }
-    ensures told { IfOk result (IsTold clauses.now) }
+    ensures told { IfOk result (IsTold clauses.now learn) }
 {
     laws::lean_refutes();
     match solve(alloc, clauses, learn) {
