@@ -32,7 +32,7 @@ finish_line neg false val g = by_value (line_value (line_of neg false val)) refl
         none_not false e = cc e
     by_value (Some v) e = let r = value_reads (line_of neg false val) v g e in (10 ∷ [], v ∷ [], ap (λ (t : List ℕ). t ++ 10 ∷ []) (sym r.0), (r.1, tt))
 
-lines_append : (xs ys : List ℤ) → lines_text (xs ++ ys) ≡ lines_text xs ++ lines_text ys
+pub lines_append : (xs ys : List ℤ) → lines_text (xs ++ ys) ≡ lines_text xs ++ lines_text ys
 lines_append [] ys = refl
 lines_append (x ∷ xs) ys = ap (λ (l : List ℕ). value_text x ++ 10 ∷ l) (lines_append xs ys) ∙ sym (append_assoc (value_text x) (10 ∷ lines_text xs) (lines_text ys))
 

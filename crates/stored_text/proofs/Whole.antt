@@ -2,16 +2,17 @@
 use Rattle.std.proofs.Common.{◌≡◌, ℕ, ◌+◌, ◌<◌, ◌≤◌, ℤ, Bool, true, false, not, ◌&&◌, List, [], ◌∷◌, ◌++◌, length, take, drop, Option, Some, None, Ok, Err, ◌⊎◌, inl, inr, refl, sym, ap, ◌∙◌, subst, zero, suc, arith, ◌==◌, nat_le, nat_lt, if◌then◌else◌, append_assoc, append-nil, take-append-drop}
 use Rattle.std.proofs.lemmas.Bool.{cases_Bool, and_parts, eqb-true, eq-eqb, leb-true, cases_lt, both_ways}
 use Rattle.std.proofs.lemmas.Bool.Decides.{nat_tests}
-use Rattle.std.proofs.lemmas.List.{take_all, length-drop}
+use Rattle.std.proofs.lemmas.List.{take_all, length-drop, length-take}
 use Rattle.stored_text.specs.declared.StoredFail.TheVariants.{Format, Over, Memory}
 use Rattle.stored_text.specs.declared.line.Line.{Line}
 use Rattle.stored_text.specs.Line.{fresh_line, is_fresh}
 use Rattle.stored_text.specs.RunText.{number_text, lines_text, AreShort, run_text, Spells, GoesOn}
 use Rattle.stored_text.specs.Reading.{Reading, is_full, read_from, head_line, head_fault, read_behind, read_run_of}
-use Rattle.stored_text.specs.Laws.{RunTextIsRead, RefusedAtTheFirstByte, OverIsNamed}
+use Rattle.stored_text.specs.Laws.{RunTextIsRead, RefusedAtTheFirstByte, HasOneMore, OverIsNamed}
 use Rattle.stored_text.proofs.Lines.{line_text, lines_length}
 use Rattle.stored_text.proofs.Walks.{Place, place, step, walk, Told, reads, text, walk_stands, walk_append, walk_stops, lines_walk}
 use Rattle.stored_text.proofs.Exact.{begin, begin_stands, goes_on_from, few, begun, some_step, count_walk, fresh_step}
+use Rattle.stored_text.proofs.Passing.{read_along, passes, cut_lines, short_front, begins, one_behind}
 
 -- The first line.
 
@@ -271,8 +272,7 @@ unfolding Refused
 refused_first file n e = refused file (read_run_of file) n (how_read file) e
 
 over : (file : List ℕ) (r : Reading) (m c : ℕ) → Read file r → r ≡ Err (Over m c)
-    → (m ≡ 9) × (((22000006 < length file) × (c ≡ 22000007))
-    ⊎ ((c ≡ 1000001) × ((values : List ℤ) × (b : ℕ) × (rest : List ℕ) × (file ≡ run_text values ++ b ∷ rest) × AreShort values × (1000000 ≤ length values) × GoesOn (run_text values ++ b ∷ []))))
+    → (m ≡ 9) × (((22000006 < length file) × (c ≡ 22000007)) ⊎ ((length file ≤ 22000006) × (c ≡ 1000001) × HasOneMore file))
 over file r m c (too_long l) e = let a : 9 ≡ m = cc e in let b : 22000007 ≡ c = cc e in (sym a, inl (l, sym b))
 over file r m c (no_head k le d) e = absurd (cc e)
 over file r m c (headed rest le is) e =
@@ -283,7 +283,7 @@ over file r m c (headed rest le is) e =
     let (x, wx) = last in
     let p = and_parts (is_fresh q.line) (nat_le 1000000 (length q.values)) f in
     let s = walked_lines (take k rest) q w p.0 in
-    (nine, inr (count, by_rest (drop k rest) q k refl lt s (leb-true 1000000 (length q.values) p.1) x wx))
+    (nine, inr (le, count, by_rest (drop k rest) q k refl lt s (leb-true 1000000 (length q.values) p.1) x wx))
   where
     take_one : (ys : List ℕ) (k b : ℕ) (zs : List ℕ) → drop k ys ≡ b ∷ zs → take (suc k) ys ≡ take k ys ++ b ∷ []
     take_one [] zero b zs e = absurd (cc e)
@@ -292,12 +292,63 @@ over file r m c (headed rest le is) e =
     take_one (y ∷ ys) (suc k) b zs e = ap (λ (l : List ℕ). y ∷ l) (take_one ys k b zs e)
 
     by_rest : (d : List ℕ) (q : Place) (k : ℕ) → drop k rest ≡ d → k < length rest → (take k rest ≡ lines_text q.values) × AreShort q.values → 1000000 ≤ length q.values → (x : Place) → walk begin (take (suc k) rest) ≡ Some x
-        → (values : List ℤ) × (b : ℕ) × (after : List ℕ) × (file ≡ run_text values ++ b ∷ after) × AreShort values × (1000000 ≤ length values) × GoesOn (run_text values ++ b ∷ [])
+        → HasOneMore file
     by_rest [] q k e lt s le x wx = absurd (let z = ap length e in omega (arith, z, lt, length-drop k rest))
     by_rest (b ∷ zs) q k e lt s le x wx =
         let parts : rest ≡ lines_text q.values ++ b ∷ zs = sym (take-append-drop k rest) ∙ ap (λ (l : List ℕ). take k rest ++ l) e ∙ ap (λ (l : List ℕ). l ++ b ∷ zs) s.0 in
         let one : take (suc k) rest ≡ lines_text q.values ++ b ∷ [] = take_one rest k b zs e ∙ ap (λ (l : List ℕ). l ++ b ∷ []) s.0 in
         (q.values, b, zs, is ∙ ap (λ (l : List ℕ). head_line ++ l) parts, s.1, le, subst (λ (l : List ℕ). GoesOn (head_line ++ l)) one (walked_goes_on (take (suc k) rest) x wx))
 
+-- a file of too many bytes is refused for them
+too_long_refused : (file : List ℕ) → 22000006 < length file → read_run_of file ≡ Err (Over 9 22000007)
+too_long_refused file long =
+    let test : nat_lt 22000006 (length file) ≡ true = grind (arith, nat_tests) in
+    ap (λ (t : Bool). if t then Err (Over 9 22000007) else read_behind (head_fault head_line 0 file) file) test
+
+-- no more values than these, and none is begun
+fits_all : (vs : List ℤ) → length vs ≤ 1000000 → length vs + begun fresh_line ≤ 1000000
+fits_all vs h = omega (arith, h)
+
+over_there : (file rest : List ℕ) → file ≡ head_line ++ rest → HasOneMore file → read_from [] fresh_line 6 rest ≡ Err (Over 9 1000001)
+over_there file rest is (vs, b, more, spelled, short, many, on) =
+    let whole : AreShort (take 1000000 vs ++ drop 1000000 vs) = subst AreShort (sym (take-append-drop 1000000 vs)) short in
+    let million : length (take 1000000 vs) ≡ 1000000 = length-take 1000000 vs ∙ omega (arith, many) in
+    let lines_are : rest ≡ lines_text vs ++ b ∷ more = same_front head_line rest (lines_text vs ++ b ∷ more) (sym is ∙ spelled) in
+    let cut : rest ≡ lines_text (take 1000000 vs) ++ (lines_text (drop 1000000 vs) ++ b ∷ more) = lines_are ∙ cut_lines vs b more in
+    let front = lines_walk (take 1000000 vs) [] (short_front (take 1000000 vs) (drop 1000000 vs) whole) in
+    let (q, to_one) = walks_one vs b on in
+    let behind : walk (place (take 1000000 vs) fresh_line) (lines_text (drop 1000000 vs) ++ b ∷ []) ≡ Some q =
+    sym (walk_append (lines_text (take 1000000 vs)) (lines_text (drop 1000000 vs) ++ b ∷ []) begin (place (take 1000000 vs) fresh_line) front) ∙ ap (walk begin) (sym (cut_lines vs b [])) ∙ to_one in
+    let (c, ys, starts) = begins (lines_text (drop 1000000 vs)) b in
+    let goes : walk (place (take 1000000 vs) fresh_line) (c ∷ ys) ≡ Some q = ap (walk (place (take 1000000 vs) fresh_line)) (sym starts) ∙ behind in
+    let further : lines_text (drop 1000000 vs) ++ b ∷ more ≡ (c ∷ ys) ++ more = one_behind (lines_text (drop 1000000 vs)) b more ∙ ap (λ (l : List ℕ). l ++ more) starts in
+    ap (read_from [] fresh_line 6) (cut ∙ ap (λ (l : List ℕ). lines_text (take 1000000 vs) ++ l) further)
+    ∙ read_along (c ∷ (ys ++ more)) (lines_text (take 1000000 vs)) begin (place (take 1000000 vs) fresh_line) 6 front (fits_all (take 1000000 vs) (omega (arith, million)))
+    ∙ (let (r, s, go) = some_step (step (place (take 1000000 vs) fresh_line) c) ys q goes in passes (take 1000000 vs) (6 + length (lines_text (take 1000000 vs))) c (ys ++ more) r million s)
+  where
+    -- run text that goes on is walked
+    walks_one : (vs : List ℤ) (b : ℕ) → GoesOn (run_text vs ++ b ∷ []) → (q : Place) × (walk begin (lines_text vs ++ b ∷ []) ≡ Some q)
+    walks_one vs b on = by_walk (walk begin (lines_text vs ++ b ∷ [])) refl
+      where
+        by_walk : (o : Option Place) → walk begin (lines_text vs ++ b ∷ []) ≡ o → (q : Place) × (walk begin (lines_text vs ++ b ∷ []) ≡ Some q)
+        by_walk (Some q) w = (q, w)
+        by_walk None w = absurd (stopped_goes_on_not (lines_text vs ++ b ∷ []) w on)
+
 pub over_named : OverIsNamed
-over_named file m c e = over file (read_run_of file) m c (how_read file) e
+over_named file m c = (over file (read_run_of file) m c (how_read file), back)
+  where
+    over_is : {A : Type 0} (r : Reading) (n k : ℕ) → r ≡ Err (Over n k) → m ≡ n → c ≡ k → r ≡ Err (Over m c)
+    over_is r n k e a b = e ∙ ap (λ (x : ℕ). Err (Over x k)) (sym a) ∙ ap (λ (x : ℕ). Err (Over m x)) (sym b)
+
+    back : (m ≡ 9) × (((22000006 < length file) × (c ≡ 22000007)) ⊎ ((length file ≤ 22000006) × (c ≡ 1000001) × HasOneMore file)) → read_run_of file ≡ Err (Over m c)
+    back (nine, inl (long, count)) = over_is {A = ℕ} (read_run_of file) 9 22000007 (too_long_refused file long) nine count
+    back (nine, inr (few, count, more)) = over_is {A = ℕ} (read_run_of file) 9 1000001 (by_read (read_run_of file) (how_read file)) nine count
+      where
+        by_read : (r : Reading) → Read file r → r ≡ Err (Over 9 1000001)
+        by_read r (too_long l) = absurd (omega (arith, l, few))
+        by_read r (no_head k le d) = absurd (let (vs, b, rest, spelled, tail) = more in by_end spelled (cases_lt k (length file)))
+          where
+            by_end : {vs : List ℤ} {b : ℕ} {rest : List ℕ} → file ≡ run_text vs ++ b ∷ rest → (k < length file) ⊎ (length file ≤ k) → ⊥
+            by_end {vs} {b} {rest} spelled (inl lt) = d.apart lt (drop (suc k) file) (lines_text vs ++ b ∷ rest) (take-append-drop (suc k) file ∙ spelled)
+            by_end {vs} {b} {rest} spelled (inr ge) = let e = ap length spelled in let i = d.inside in omega (arith, e, ge, i)
+        by_read r (headed rest le is) = over_there file rest is more

@@ -17,12 +17,16 @@ RefusedAtTheFirstByte =
     × (n < length file → GoesOn (take (n + 1) file) → ⊥)
     × (n ≡ length file → (values : List ℤ) → Spells values file → ⊥)
 
--- the limit is passed by a file of more than 22,000,006 bytes, or by the first byte of the line of one value more
+-- a million values stand in the file, and behind them the first byte of a line more
+abbrev pub HasOneMore : List ℕ → Type 0
+HasOneMore file =
+    (values : List ℤ) × (b : ℕ) × (rest : List ℕ) × (file ≡ run_text values ++ b ∷ rest) × AreShort values × (1000000 ≤ length values) × GoesOn (run_text values ++ b ∷ [])
+
+-- the limit is passed exactly by a file of more than 22,000,006 bytes, and by the first byte of the line of one value more in one that is no longer
 abbrev pub OverIsNamed : Type 0
 OverIsNamed =
-    (file : List ℕ) (number count : ℕ) → read_run_of file ≡ Err (Over number count)
-    → (number ≡ 9) × (((22000006 < length file) × (count ≡ 22000007))
-    ⊎ ((count ≡ 1000001) × ((values : List ℤ) × (b : ℕ) × (rest : List ℕ) × (file ≡ run_text values ++ b ∷ rest) × AreShort values × (1000000 ≤ length values) × GoesOn (run_text values ++ b ∷ []))))
+    (file : List ℕ) (number count : ℕ) → (read_run_of file ≡ Err (Over number count))
+    ↔ ((number ≡ 9) × (((22000006 < length file) × (count ≡ 22000007)) ⊎ ((length file ≤ 22000006) × (count ≡ 1000001) × HasOneMore file)))
 
 -- what is written of values is read back as these values
 abbrev pub WrittenIsRead : Type 0

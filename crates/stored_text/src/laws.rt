@@ -12,7 +12,7 @@ pub fn refused_at_the_first_byte()
     ensures { RefusedAtTheFirstByte }
 {}
 
-/// A refusal by the limit means that the file has too many bytes, or that a million values stand before one more.
+/// A file is refused by the limit exactly where it has too many bytes, or where a million values stand before one more.
 pub fn over_is_named()
     ensures { OverIsNamed }
 {}
