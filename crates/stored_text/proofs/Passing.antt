@@ -47,7 +47,7 @@ module _ (ys : List ℕ) where
       by_case n (goes l e f g to) r s go ih = ap answer e ∙ moved_on (place p.values l) r to s go ih
 
 full_there : (vs : List ℤ) → length vs ≡ 1000000 → is_full vs fresh_line ≡ true
-pub full_there vs h = let test : nat_le 1000000 (length vs) ≡ true = grind (arith, nat_tests) in test
+full_there vs h = let test : nat_le 1000000 (length vs) ≡ true = grind (arith, nat_tests) in test
 
 -- behind a million values a byte with which the walk goes on passes the limit
 pub passes : (vs : List ℤ) (at b : ℕ) (bytes : List ℕ) (r : Place) → length vs ≡ 1000000 → step (place vs fresh_line) b ≡ Some r → read_from vs fresh_line at (b ∷ bytes) ≡ Err (Over 9 1000001)
@@ -74,10 +74,6 @@ cut_lines vs b rest =
 pub short_front : (xs ys : List ℤ) → AreShort (xs ++ ys) → AreShort xs
 short_front [] ys h = tt
 short_front (x ∷ xs) ys h = (h.0, short_front xs ys h.1)
-
-pub short_back : (xs ys : List ℤ) → AreShort (xs ++ ys) → AreShort ys
-short_back [] ys h = h
-short_back (x ∷ xs) ys h = short_back xs ys h.1
 
 -- a list with a byte behind it begins with some byte
 pub begins : (xs : List ℕ) (b : ℕ) → (c : ℕ) × (ys : List ℕ) × (xs ++ b ∷ [] ≡ c ∷ ys)

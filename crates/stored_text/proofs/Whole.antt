@@ -337,15 +337,15 @@ over_there file rest is (vs, b, more, spelled, short, many, on) =
 pub over_named : OverIsNamed
 over_named file m c = (over file (read_run_of file) m c (how_read file), back)
   where
-    over_is : {A : Type 0} (r : Reading) (n k : ℕ) → r ≡ Err (Over n k) → m ≡ n → c ≡ k → r ≡ Err (Over m c)
+    over_is : (r : Reading) (n k : ℕ) → r ≡ Err (Over n k) → m ≡ n → c ≡ k → r ≡ Err (Over m c)
     over_is r n k e a b = e ∙ ap (λ (x : ℕ). Err (Over x k)) (sym a) ∙ ap (λ (x : ℕ). Err (Over m x)) (sym b)
 
     back : (m ≡ 9) × (((22000006 < length file) × (c ≡ 22000007)) ⊎ ((length file ≤ 22000006) × (c ≡ 1000001) × HasOneMore file)) → read_run_of file ≡ Err (Over m c)
-    back (nine, inl (long, count)) = over_is {A = ℕ} (read_run_of file) 9 22000007 (too_long_refused file long) nine count
-    back (nine, inr (few, count, more)) = over_is {A = ℕ} (read_run_of file) 9 1000001 (by_read (read_run_of file) (how_read file)) nine count
+    back (nine, inl (long, count)) = over_is (read_run_of file) 9 22000007 (too_long_refused file long) nine count
+    back (nine, inr (short, count, more)) = over_is (read_run_of file) 9 1000001 (by_read (read_run_of file) (how_read file)) nine count
       where
         by_read : (r : Reading) → Read file r → r ≡ Err (Over 9 1000001)
-        by_read r (too_long l) = absurd (omega (arith, l, few))
+        by_read r (too_long l) = absurd (omega (arith, l, short))
         by_read r (no_head k le d) = absurd (let (vs, b, rest, spelled, tail) = more in by_end spelled (cases_lt k (length file)))
           where
             by_end : {vs : List ℤ} {b : ℕ} {rest : List ℕ} → file ≡ run_text vs ++ b ∷ rest → (k < length file) ⊎ (length file ≤ k) → ⊥
