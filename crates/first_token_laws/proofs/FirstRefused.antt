@@ -43,7 +43,7 @@ stop_of (t ∷ ts) s r h = behind (λ z e. stop_of ts z r e) (ma.advance t (Goin
 pub run_to_stop : (tokens : List SymbolAt) (r : Result) (w : Stop ma.start tokens r) → ma.run (w.before ++ w.token ∷ []) (Going ma.start) ≡ Over r
 run_to_stop tokens r w = run_append w.before (w.token ∷ []) (Going ma.start) ∙ ap (ma.run (w.token ∷ [])) w.goes ∙ w.stops
 
-reason : (t : SymbolAt) (a : Answer) (r : Result) → ma.course t a ≡ Over r → r ≢ TooHigh → ma.refusal t ≡ r
+pub reason : (t : SymbolAt) (a : Answer) (r : Result) → ma.course t a ≡ Over r → r ≢ TooHigh → ma.refusal t ≡ r
 reason t (Goes s) r h n = cc
 reason t Refused r h n = over_same (ma.refusal t) r h
 reason t High r h n = absurd (n (sym (over_same TooHigh r h)))

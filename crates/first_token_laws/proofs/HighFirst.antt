@@ -111,7 +111,7 @@ refusal_not_high t h = pick (is_unsupported t.symbol) h
 over_same : (r q : Result) → Over r ≡ Over q → r ≡ q
 over_same r q h = cc
 
-halted : (tokens : List SymbolAt) (t : SymbolAt) (s : State) (o : Option State) → GoodState (λ r. tokens ++ r) s → ma.step t s ≡ o → ma.course t (ma.limited o) ≡ Over TooHigh → Begins (tokens ++ t ∷ [])
+pub halted : (tokens : List SymbolAt) (t : SymbolAt) (s : State) (o : Option State) → GoodState (λ r. tokens ++ r) s → ma.step t s ≡ o → ma.course t (ma.limited o) ≡ Over TooHigh → Begins (tokens ++ t ∷ [])
 halted tokens t s None g e h = absurd (refusal_not_high t (over_same (ma.refusal t) TooHigh h))
 halted tokens t s (Some z) g e h = pick (leb (ma.phase_low z.phase) 200) refl h
   where

@@ -1,11 +1,11 @@
-mod Fillers
+pub mod Fillers
 mod EndSt
-mod EndDecl
+pub mod EndDecl
 mod EndEx
-mod EndMode
+pub mod EndMode
 mod SureEx
 mod SureSteps
-mod SureRun
+pub mod SureRun
 mod Viable
 pub mod FirstRefused
 mod Full
@@ -20,7 +20,7 @@ mod FullReadDeclaration
 mod FullReadSt
 mod FullWholeSt
 mod FullReadItem
-mod UniqueItem
+pub mod UniqueItem
 pub mod UniqueFile
 mod FullGood
 mod FullSoundEx

@@ -24,6 +24,7 @@ use first_token_laws::{first_refusals, limits, one_first, one_tree, viable_token
 use good_run_laws::{bodies_left, labels_found};
 use high_tree_laws::{faults, too_high};
 use jump_rules::bodies_walked;
+use low_beginning_laws::{first_stops, low_beginnings, one_stop};
 use name_bindings::part_by_part;
 use parser_symbols::words_are;
 use resolution_log::laws::{
@@ -222,6 +223,13 @@ fn the_first_token_that_is_refused() {
     one_first();
     limits();
     one_tree();
+}
+
+#[test]
+fn the_first_token_without_a_low_tree() {
+    low_beginnings();
+    first_stops();
+    one_stop();
 }
 
 #[test]
