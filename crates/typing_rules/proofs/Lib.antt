@@ -2,3 +2,4 @@ pub mod Views
 pub mod Summing
 mod Rows
 mod Arms
+mod AgainLists

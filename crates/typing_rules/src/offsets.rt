@@ -1,5 +1,5 @@
 //! Offsets of tokens in a list, of which each is found at once.
-ghost use Rattle.std.specs.Prelude.{◌≡◌, ℕ, ◌||◌, nat_eq, take, IfOk};
+ghost use Rattle.std.specs.Prelude.{◌≡◌, ℕ, cond, true, nat_eq, IfOk};
 ghost use Rattle.std.specs.HashSet.{contains};
 ghost use Rattle.typing_rules.specs.Summed.{is_again};
 
@@ -28,7 +28,7 @@ impl Model for Offsets {
 }
 
 fn put(set: &mut HashSet<u32>, at: u32) -> Result<(), Memory>
-    ensures { IfOk result (λ _. (k : ℕ) → contains nat_eq set.new k ≡ (nat_eq at k || contains nat_eq set.old k)) }
+    ensures { IfOk result (λ _. (k : ℕ) → contains nat_eq set.new k ≡ cond (nat_eq at k) true (contains nat_eq set.old k)) }
 {
     set.insert(at)?;
     Ok(())
