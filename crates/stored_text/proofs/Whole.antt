@@ -346,7 +346,7 @@ over_named file m c = (over file (read_run_of file) m c (how_read file), back)
       where
         by_read : (r : Reading) → Read file r → r ≡ Err (Over 9 1000001)
         by_read r (too_long l) = absurd (omega (arith, l, short))
-        by_read r (no_head k le d) = absurd (let (vs, b, rest, spelled, tail) = more in by_end vs b rest spelled (cases_lt k (length file)))
+        by_read r (no_head k le d) = absurd (let (vs, b, rest, spelled, few_digits, many, on) = more in by_end vs b rest spelled (cases_lt k (length file)))
           where
             by_end : (vs : List ℤ) (b : ℕ) (rest : List ℕ) → file ≡ run_text vs ++ b ∷ rest → (k < length file) ⊎ (length file ≤ k) → ⊥
             by_end vs b rest spelled (inl lt) = d.apart lt (drop (suc k) file) (lines_text vs ++ b ∷ rest) (take-append-drop (suc k) file ∙ spelled)
