@@ -13,13 +13,13 @@ pub trait Table {
     fn is_so(&mut self, alloc: Global, row: &str) -> Result<bool, RowFail>;
 }
 
-// A table of statements as one of which is told what came: the row itself, where it is not so.
+/// A table of statements as one of which is told what came: the row itself, where it is not so.
 #[derive(Drop)]
-struct Stated<'a, T> {
-    table: &'a mut T,
+pub struct Stated<T> {
+    pub table: T,
 }
 
-impl<T: Table> table_rows::Table for Stated<'_, T> {
+impl<T: Table> table_rows::Table for Stated<T> {
     fn other(&mut self, alloc: Global, row: &str) -> Result<Option<String>, Flaw> {
         match self.table.is_so(alloc, row) {
             Ok(true) => Ok(None),
@@ -30,6 +30,18 @@ impl<T: Table> table_rows::Table for Stated<'_, T> {
     }
 }
 
+// A table that is lent.
+#[derive(Drop)]
+struct Lent<'a, T> {
+    table: &'a mut T,
+}
+
+impl<T: Table> Table for Lent<'_, T> {
+    fn is_so(&mut self, alloc: Global, row: &str) -> Result<bool, RowFail> {
+        self.table.is_so(alloc, row)
+    }
+}
+
 /// Tries the rows of the table in the file of this name. It prints each row that is not so, and how many rows there are; how many are
 /// not so.
 pub fn try_table<R, T>(rt: &R, table: &mut T, name: &str) -> Result<u64, Refusal>
@@ -37,5 +49,6 @@ where
     R: AllocGlobal + Files + Print + Clone + Drop,
     T: Table,
 {
+    let table = Lent { table };
     table_rows::try_table(rt, &mut Stated { table }, name)
 }
