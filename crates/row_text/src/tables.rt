@@ -2,8 +2,7 @@
 
 use crate::fails::RowFail;
 use std::alloc::Global;
-use std::rt::Files;
-use table_rows::{Flaw, Refusal};
+use table_rows::Flaw;
 
 /// What tries a row.
 pub trait Table {
@@ -28,27 +27,4 @@ impl<T: Table> table_rows::Table for Stated<T> {
             Err(RowFail::Memory) => Err(Flaw::Memory),
         }
     }
-}
-
-// A table that is lent.
-#[derive(Drop)]
-struct Lent<'a, T> {
-    table: &'a mut T,
-}
-
-impl<T: Table> Table for Lent<'_, T> {
-    fn is_so(&mut self, alloc: Global, row: &str) -> Result<bool, RowFail> {
-        self.table.is_so(alloc, row)
-    }
-}
-
-/// Tries the rows of the table in the file of this name. It prints each row that is not so, and how many rows there are; how many are
-/// not so.
-pub fn try_table<R, T>(rt: &R, table: &mut T, name: &str) -> Result<u64, Refusal>
-where
-    R: AllocGlobal + Files + Print + Clone + Drop,
-    T: Table,
-{
-    let table = Lent { table };
-    table_rows::try_table(rt, &mut Stated { table }, name)
 }

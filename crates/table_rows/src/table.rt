@@ -98,22 +98,12 @@ impl<T: Table> Library for Rows<T> {
     where
         R: AllocGlobal + Files + Print + Clone + Drop,
     {
-        try_table(rt, &mut self.table, name)
-    }
-}
-
-/// Tries the rows of the table in the file of this name. It prints what came of each row that is not so, and how many rows there
-/// are; how many are not so.
-pub fn try_table<R, T>(rt: &R, table: &mut T, name: &str) -> Result<u64, Refusal>
-where
-    R: AllocGlobal + Files + Print + Clone + Drop,
-    T: Table,
-{
-    let alloc = rt.alloc();
-    let bytes = load(alloc, rt, name)?;
-    let Tried { rows, others } = try_all(alloc, rt, table, &bytes)?;
-    match println!(rt; "{name}: {rows} rows") {
-        Ok(()) => Ok(others),
-        Err(_) => Err(Refusal::Output),
+        let alloc = rt.alloc();
+        let bytes = load(alloc, rt, name)?;
+        let Tried { rows, others } = try_all(alloc, rt, &mut self.table, &bytes)?;
+        match println!(rt; "{name}: {rows} rows") {
+            Ok(()) => Ok(others),
+            Err(_) => Err(Refusal::Output),
+        }
     }
 }
