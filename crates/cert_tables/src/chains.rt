@@ -1,9 +1,9 @@
 //! The lines of chains.
 
-use crate::frames::{failed, framed, line_other, written_other};
+use crate::{failed, framed, line_other, written_other};
 use cert_text::{Cert, read_cert};
 use std::alloc::Global;
-use table_rows::{Fields, Flaw, list_of, text_of};
+use table_rows::{Fields, Flaw, Table, list_of, text_of};
 
 const BEFORE: &[u8] = b"1\nterms 0\nmap 0\nlogs 1\nlog 1\n";
 
@@ -24,8 +24,8 @@ fn chain_numbers(alloc: Global, cert: &Cert) -> Result<Vec<i128>, Flaw> {
     Ok(numbers)
 }
 
-/// What came of a chain's line that is read and written back, where it is another chain.
-pub fn chain_other(alloc: Global, mut columns: Fields<'_>) -> Result<Option<String>, Flaw> {
+// What came of a chain's line that is read and written back, where it is another chain.
+fn chain_other(alloc: Global, mut columns: Fields<'_>) -> Result<Option<String>, Flaw> {
     let line = text_of(alloc, columns.next()?)?;
     let wanted = text_of(alloc, columns.next()?)?;
     let wanted = list_of(alloc, &wanted)?;
@@ -41,10 +41,25 @@ pub fn chain_other(alloc: Global, mut columns: Fields<'_>) -> Result<Option<Stri
     written_other(alloc, &cert, &text)
 }
 
-/// What came of a line that is no chain's, where it is refused at another byte.
-pub fn no_chain_other(alloc: Global, mut columns: Fields<'_>) -> Result<Option<String>, Flaw> {
+// What came of a line that is no chain's, where it is refused at another byte.
+fn no_chain_other(alloc: Global, mut columns: Fields<'_>) -> Result<Option<String>, Flaw> {
     let line = text_of(alloc, columns.next()?)?;
     let at = columns.count()?;
     columns.end()?;
     line_other(alloc, BEFORE, &line, BEHIND, at)
+}
+
+/// Rows of chains' lines.
+#[derive(Clone, Copy)]
+pub(crate) struct ChainRows;
+
+impl Table for ChainRows {
+    fn other(&mut self, alloc: Global, row: &str) -> Result<Option<String>, Flaw> {
+        let mut columns = Fields::columns(row);
+        match columns.next()? {
+            "chain" => chain_other(alloc, columns),
+            "no_chain" => no_chain_other(alloc, columns),
+            _ => Err(Flaw::Form),
+        }
+    }
 }

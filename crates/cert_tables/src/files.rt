@@ -1,12 +1,12 @@
 //! Whole certificates.
 
-use crate::frames::{failed, line_other, refusal_other, with_digits, written_other};
+use crate::{failed, line_other, refusal_other, with_digits, written_other};
 use bv_term::Term;
 use cert_text::{Cert, read_cert, write_cert};
 use lv_base::Model;
 use resolution_log::Log;
 use std::alloc::Global;
-use table_rows::{Fields, Flaw, list_of, other_than, text_of};
+use table_rows::{Fields, Flaw, Table, list_of, other_than, text_of};
 
 // The numbers of the next column.
 fn numbers(alloc: Global, columns: &mut Fields<'_>) -> Result<Vec<i128>, Flaw> {
@@ -37,8 +37,8 @@ fn said(alloc: Global, cert: &Cert) -> Result<String, Flaw> {
     Ok(format!(in alloc; "{model} {layout} {terms}")?)
 }
 
-/// What came of a certificate that is read and written back, where it is something else.
-pub fn says_other(alloc: Global, mut columns: Fields<'_>) -> Result<Option<String>, Flaw> {
+// What came of a certificate that is read and written back, where it is something else.
+fn says_other(alloc: Global, mut columns: Fields<'_>) -> Result<Option<String>, Flaw> {
     let text = text_of(alloc, columns.next()?)?;
     let wanted = columns.next()?;
     let formulas = numbers(alloc, &mut columns)?;
@@ -59,8 +59,8 @@ pub fn says_other(alloc: Global, mut columns: Fields<'_>) -> Result<Option<Strin
     written_other(alloc, &cert, &text)
 }
 
-/// What came of a hash that is read and written back, where it is another one.
-pub fn hash_other(alloc: Global, mut columns: Fields<'_>) -> Result<Option<String>, Flaw> {
+// What came of a hash that is read and written back, where it is another one.
+fn hash_other(alloc: Global, mut columns: Fields<'_>) -> Result<Option<String>, Flaw> {
     let digits = text_of(alloc, columns.next()?)?;
     let wanted = numbers(alloc, &mut columns)?;
     columns.end()?;
@@ -79,24 +79,24 @@ pub fn hash_other(alloc: Global, mut columns: Fields<'_>) -> Result<Option<Strin
     written_other(alloc, &cert, &text)
 }
 
-/// What came of a text that is no certificate, where it is refused in another way.
-pub fn refused_other(alloc: Global, mut columns: Fields<'_>) -> Result<Option<String>, Flaw> {
+// What came of a text that is no certificate, where it is refused in another way.
+fn refused_other(alloc: Global, mut columns: Fields<'_>) -> Result<Option<String>, Flaw> {
     let text = text_of(alloc, columns.next()?)?;
     let wanted = columns.next()?;
     columns.end()?;
     refusal_other(alloc, &text, wanted)
 }
 
-/// What came of a layout's line that is none, where it is refused at another byte.
-pub fn layout_other(alloc: Global, mut columns: Fields<'_>) -> Result<Option<String>, Flaw> {
+// What came of a layout's line that is none, where it is refused at another byte.
+fn layout_other(alloc: Global, mut columns: Fields<'_>) -> Result<Option<String>, Flaw> {
     let line = text_of(alloc, columns.next()?)?;
     let at = columns.count()?;
     columns.end()?;
     line_other(alloc, b"", &line, b"terms 0\nmap 0\nlogs 0\nend\n", at)
 }
 
-/// What came of a certificate with so many terms, where it is not refused as the row says.
-pub fn unwritten_other(alloc: Global, mut columns: Fields<'_>) -> Result<Option<String>, Flaw> {
+// What came of a certificate with so many terms, where it is not refused as the row says.
+fn unwritten_other(alloc: Global, mut columns: Fields<'_>) -> Result<Option<String>, Flaw> {
     let count = columns.count()?;
     let wanted = columns.next()?;
     columns.end()?;
@@ -119,5 +119,23 @@ pub fn unwritten_other(alloc: Global, mut columns: Fields<'_>) -> Result<Option<
             Ok(other_than(wanted, came))
         }
         Err(fail) => Ok(other_than(wanted, failed(alloc, fail)?)),
+    }
+}
+
+/// Rows of whole certificates, of hashes and of layouts.
+#[derive(Clone, Copy)]
+pub(crate) struct FileRows;
+
+impl Table for FileRows {
+    fn other(&mut self, alloc: Global, row: &str) -> Result<Option<String>, Flaw> {
+        let mut columns = Fields::columns(row);
+        match columns.next()? {
+            "says" => says_other(alloc, columns),
+            "hash" => hash_other(alloc, columns),
+            "refused" => refused_other(alloc, columns),
+            "layout" => layout_other(alloc, columns),
+            "unwritten" => unwritten_other(alloc, columns),
+            _ => Err(Flaw::Form),
+        }
     }
 }

@@ -1,10 +1,10 @@
 //! The lines of terms.
 
-use crate::frames::{failed, framed, line_other, written_other};
+use crate::{failed, framed, line_other, written_other};
 use bv_term::{Term, TermId};
 use cert_text::read_cert;
 use std::alloc::Global;
-use table_rows::{Fields, Flaw, text_of};
+use table_rows::{Fields, Flaw, Table, text_of};
 
 const BEFORE: &[u8] = b"1\nterms 1\n";
 
@@ -85,8 +85,8 @@ fn term_of(told: &str) -> Result<Term, Flaw> {
     }
 }
 
-/// What came of a term's line that is read and written back, where it is another term.
-pub fn term_other(alloc: Global, mut columns: Fields<'_>) -> Result<Option<String>, Flaw> {
+// What came of a term's line that is read and written back, where it is another term.
+fn term_other(alloc: Global, mut columns: Fields<'_>) -> Result<Option<String>, Flaw> {
     let line = text_of(alloc, columns.next()?)?;
     let wanted = term_of(columns.next()?)?;
     columns.end()?;
@@ -101,10 +101,25 @@ pub fn term_other(alloc: Global, mut columns: Fields<'_>) -> Result<Option<Strin
     written_other(alloc, &cert, &text)
 }
 
-/// What came of a line that is no term's, where it is refused at another byte.
-pub fn no_term_other(alloc: Global, mut columns: Fields<'_>) -> Result<Option<String>, Flaw> {
+// What came of a line that is no term's, where it is refused at another byte.
+fn no_term_other(alloc: Global, mut columns: Fields<'_>) -> Result<Option<String>, Flaw> {
     let line = text_of(alloc, columns.next()?)?;
     let at = columns.count()?;
     columns.end()?;
     line_other(alloc, BEFORE, &line, BEHIND, at)
+}
+
+/// Rows of terms' lines.
+#[derive(Clone, Copy)]
+pub(crate) struct TermRows;
+
+impl Table for TermRows {
+    fn other(&mut self, alloc: Global, row: &str) -> Result<Option<String>, Flaw> {
+        let mut columns = Fields::columns(row);
+        match columns.next()? {
+            "term" => term_other(alloc, columns),
+            "no_term" => no_term_other(alloc, columns),
+            _ => Err(Flaw::Form),
+        }
+    }
 }

@@ -7,37 +7,60 @@
 #![tactic(auto)]
 
 mod code;
-mod listing;
-mod names;
 mod runs;
-mod sources;
 
-use crate::code::code_other;
-use crate::runs::runs_other;
+use crate::code::CodeRows;
+use crate::runs::RunRows;
+use c_parser::parse;
+use c_rules::Examined;
+use c_tokens::tokens_of;
+use elaboration_laws::sources_read;
+use lv_base::{Model, SourceFail};
+use source_checks::accepted;
 use std::alloc::Global;
 use std::rt::Files;
-use table_rows::{Fields, Flaw, Refusal, Table, try_table};
+use table_rows::{Fields, Flaw, Library, Refusal, Rows, Table, text_of};
 
-/// Tables of code and runs.
+// The tree of a source that breaks no rule.
+fn examined(alloc: Global, source: &[u8], model: Model) -> Result<Examined, SourceFail> {
+    sources_read();
+    let tokens = tokens_of(alloc, source)?;
+    let unit = parse(alloc, &tokens)?;
+    accepted(alloc, &unit, model)
+}
+
+// The tree of the source in the next columns, which are its data model and its text.
+//
+// Fails with `Form` where it is none, or with `Memory`.
+fn next_source(alloc: Global, columns: &mut Fields<'_>) -> Result<Examined, Flaw> {
+    let model = columns.model()?;
+    let source = text_of(alloc, columns.next()?)?;
+    Ok(examined(alloc, &source, model)?)
+}
+
+// All kinds of rows.
 #[derive(Clone, Copy)]
-struct CodeRows;
+struct AllRows;
 
-impl Table for CodeRows {
+impl Table for AllRows {
     fn other(&mut self, alloc: Global, row: &str) -> Result<Option<String>, Flaw> {
-        let mut columns = Fields::columns(row);
-        match columns.next()? {
-            "code" => code_other(alloc, columns),
-            "runs" => runs_other(alloc, columns),
+        match Fields::columns(row).next()? {
+            "code" => CodeRows.other(alloc, row),
+            "runs" => RunRows.other(alloc, row),
             _ => Err(Flaw::Form),
         }
     }
 }
 
-/// Tries the rows of the table in the file of this name. It prints what came of each row that is not so, and how many rows there
-/// are; how many are not so.
-pub fn try_rows<R>(rt: &R, name: &str) -> Result<u64, Refusal>
-where
-    R: AllocGlobal + Files + Print + Clone + Drop,
-{
-    try_table(rt, &mut CodeRows, name)
+/// Tables of code and runs.
+#[derive(Clone, Copy)]
+pub struct CodeTables;
+
+impl Library for CodeTables {
+    fn try_rows<R>(&mut self, rt: &R, name: &str) -> Result<u64, Refusal>
+    where
+        R: AllocGlobal + Files + Print + Clone + Drop,
+    {
+        Rows { table: AllRows }.try_rows(rt, name)
+    }
 }

@@ -1,9 +1,9 @@
 //! Runs of one machine, again and again.
 
-use crate::sources::next_source;
+use crate::next_source;
 use run_replay::{Ending, Replay};
 use std::alloc::Global;
-use table_rows::{Fields, Flaw, list_of, other_than};
+use table_rows::{Fields, Flaw, Table, list_of, other_than};
 
 // How a run ended.
 fn ended(alloc: Global, ending: Ending) -> Result<String, Flaw> {
@@ -31,8 +31,8 @@ fn run_other(alloc: Global, replay: &mut Replay, run: &str) -> Result<Option<Str
     Ok(other_than(wanted, came))
 }
 
-/// What came of the first run of a source that ended in another way, where there is one. All are runs of one machine.
-pub fn runs_other(alloc: Global, mut columns: Fields<'_>) -> Result<Option<String>, Flaw> {
+// What came of the first run of a source that ended in another way, where there is one. All are runs of one machine.
+fn runs_other(alloc: Global, mut columns: Fields<'_>) -> Result<Option<String>, Flaw> {
     let examined = next_source(alloc, &mut columns)?;
     let mut replay = Replay::new(alloc, &examined)?;
     let runs = columns.left().ok_or(Flaw::Form)?;
@@ -42,4 +42,16 @@ pub fn runs_other(alloc: Global, mut columns: Fields<'_>) -> Result<Option<Strin
         }
     }
     Ok(None)
+}
+
+/// Rows of runs.
+#[derive(Clone, Copy)]
+pub(crate) struct RunRows;
+
+impl Table for RunRows {
+    fn other(&mut self, alloc: Global, row: &str) -> Result<Option<String>, Flaw> {
+        let mut columns = Fields::columns(row);
+        columns.next()?;
+        runs_other(alloc, columns)
+    }
 }

@@ -117,7 +117,7 @@ fn joined_on(
 }
 
 // The formula of a word, whose operands are the last items.
-fn formula_of(
+fn formula_at(
     alloc: Global,
     diagrams: &mut Diagrams,
     items: &mut Vec<Item>,
@@ -132,24 +132,27 @@ fn formula_of(
     }
 }
 
-/// The number of the formula of a text.
-pub(crate) fn formula_in(
-    alloc: Global,
-    diagrams: &mut Diagrams,
-    text: &str,
-) -> Result<NodeId, BuildFail> {
-    let mut items = Vec::new(alloc);
-    for word in text.split_ascii_whitespace().rev() {
-        let item = match number(Some(word)) {
-            Ok(n) => Item::Number(n),
-            Err(_) => Item::Formula(formula_of(alloc, diagrams, &mut items, word)?),
-        };
-        items.push(item)?;
-    }
-    let id = formula_on(&mut items)?;
-    if items.is_empty() {
-        Ok(id)
-    } else {
-        Err(BuildFail::Bad)
+/// Formulas that texts build.
+pub(crate) trait Formulas {
+    /// The number of the formula of a text.
+    fn formula_of(&mut self, alloc: Global, text: &str) -> Result<NodeId, BuildFail>;
+}
+
+impl Formulas for Diagrams {
+    fn formula_of(&mut self, alloc: Global, text: &str) -> Result<NodeId, BuildFail> {
+        let mut items = Vec::new(alloc);
+        for word in text.split_ascii_whitespace().rev() {
+            let item = match number(Some(word)) {
+                Ok(n) => Item::Number(n),
+                Err(_) => Item::Formula(formula_at(alloc, self, &mut items, word)?),
+            };
+            items.push(item)?;
+        }
+        let id = formula_on(&mut items)?;
+        if items.is_empty() {
+            Ok(id)
+        } else {
+            Err(BuildFail::Bad)
+        }
     }
 }

@@ -8,38 +8,25 @@
 
 mod formulas;
 mod rows;
-mod stores;
 mod truths;
 
-use row_text::{Refusal, RowFail, Table, fields, try_table};
-use std::alloc::Global;
+use crate::rows::DiagramRows;
+use row_text::{Library, Refusal, Rows, Stated};
 use std::rt::Files;
 
-// What tries the rows.
-#[derive(Drop)]
-struct DiagramTable;
+/// Tables of formulas.
+#[derive(Clone, Copy)]
+pub struct DiagramTables;
 
-impl Table for DiagramTable {
-    fn is_so(&mut self, alloc: Global, row: &str) -> Result<bool, RowFail> {
-        let (kind, rest) = fields(row);
-        match kind {
-            "table" => rows::has_truths(alloc, rest),
-            "same" => rows::are_same(alloc, rest),
-            "other" => Ok(!rows::are_same(alloc, rest)?),
-            "end" => rows::is_end(alloc, rest),
-            "large" => rows::is_large(alloc, rest),
-            "small" => Ok(!rows::is_large(alloc, rest)?),
-            _ => Err(RowFail::Bad),
+impl Library for DiagramTables {
+    fn try_rows<R>(&mut self, rt: &R, name: &str) -> Result<u64, Refusal>
+    where
+        R: AllocGlobal + Files + Print + Clone + Drop,
+    {
+        let table = DiagramRows;
+        Rows {
+            table: Stated { table },
         }
+        .try_rows(rt, name)
     }
-}
-
-/// Tries the rows of the table in the file of this name. It prints each row that is not so, and how many rows there are; how many are
-/// not so.
-pub fn try_rows<R>(rt: &R, name: &str) -> Result<u64, Refusal>
-where
-    R: AllocGlobal + Files + Print + Clone + Drop,
-{
-    let mut table = DiagramTable;
-    try_table(rt, &mut table, name)
 }

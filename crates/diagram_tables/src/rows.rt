@@ -1,17 +1,52 @@
-//! What the rows state.
+//! What the rows state, and the stores of some cells, by their numbers.
 
-use crate::formulas::{BuildFail, formula_in};
-use crate::stores::{bits_of, store_of};
-use crate::truths::truth_in;
+use crate::formulas::{BuildFail, Formulas};
+use crate::truths::Truths;
 use bv_term::{TermId, Terms, are_widths};
 use formula_diagrams::{Diagrams, NodeId};
-use row_text::{RowFail, half, halves, number, numbers};
+use row_text::{RowFail, Table, fields, half, halves, number, numbers};
 use std::alloc::Global;
 
 // Rows with more bits than this are not tried in all stores.
 const MOST_BITS: u32 = 8;
 
 const MOST_NODES: u32 = 100_000;
+
+// How many bits the cells have.
+fn bits_of(cells: &[u32]) -> u32 {
+    let mut bits = 0u32;
+    for width in cells {
+        bits = bits.saturating_add(*width);
+    }
+    bits
+}
+
+// The lowest bits of a number as a value, and what is left of the number.
+fn take(number: u32, width: u32) -> (u128, u32) {
+    let mut rest = number;
+    let mut value = 0u128;
+    let mut weight = 1u128;
+    for _ in 0..width {
+        if rest % 2 == 1 {
+            value = value.saturating_add(weight);
+        }
+        weight = weight.saturating_mul(2);
+        rest /= 2;
+    }
+    (value, rest)
+}
+
+// The store of a number, whose low bits are the first cell's.
+fn store_of(alloc: Global, cells: &[u32], number: u32) -> Result<Vec<u128>, RowFail> {
+    let mut rest = number;
+    let mut store = Vec::new(alloc);
+    for width in cells {
+        let (value, left) = take(rest, *width);
+        store.push(value)?;
+        rest = left;
+    }
+    Ok(store)
+}
 
 // No formulas over the cells of a text.
 fn diagrams_in(alloc: Global, cells: &str, most: u32) -> Result<Diagrams, RowFail> {
@@ -34,7 +69,7 @@ fn has_truth(
         return Err(RowFail::Bad);
     }
     let values = terms.values(alloc, store)?;
-    let wanted = truth_in(alloc, text, store)?;
+    let wanted = store.truth_of(alloc, text)?;
     Ok(values.get(id.0 as usize).copied() == Some(wanted as u128))
 }
 
@@ -66,7 +101,7 @@ fn are_truths(alloc: Global, cells: &[u32], formula: &str, truths: &str) -> Resu
     let mut number = 0u32;
     for wanted in truths.as_bytes() {
         let store = store_of(alloc, cells, number)?;
-        if truth_in(alloc, formula, &store)? != (*wanted == b'1') {
+        if store.as_slice().truth_of(alloc, formula)? != (*wanted == b'1') {
             return Ok(false);
         }
         number = number.saturating_add(1);
@@ -74,23 +109,23 @@ fn are_truths(alloc: Global, cells: &[u32], formula: &str, truths: &str) -> Resu
     Ok(number == 1u32 << bits)
 }
 
-/// `CELLS ; FORMULA = TRUTHS`: the truths in all stores.
-pub(crate) fn has_truths(alloc: Global, rest: &str) -> Result<bool, RowFail> {
+// `CELLS ; FORMULA = TRUTHS`: the truths in all stores.
+fn has_truths(alloc: Global, rest: &str) -> Result<bool, RowFail> {
     let mut parts = rest.split(';');
     let mut diagrams = diagrams_in(alloc, half(parts.next())?, MOST_NODES)?;
     let (formula, truths) = halves(half(parts.next())?)?;
-    let id = formula_in(alloc, &mut diagrams, formula)?;
+    let id = diagrams.formula_of(alloc, formula)?;
     let is_so = are_truths(alloc, diagrams.cells(), formula, truths)?;
     Ok(is_so && is_written(alloc, &diagrams, id, formula)?)
 }
 
-/// `CELLS ; FORMULA = FORMULA`: both get one number.
-pub(crate) fn are_same(alloc: Global, rest: &str) -> Result<bool, RowFail> {
+// `CELLS ; FORMULA = FORMULA`: both get one number.
+fn are_same(alloc: Global, rest: &str) -> Result<bool, RowFail> {
     let mut parts = rest.split(';');
     let mut diagrams = diagrams_in(alloc, half(parts.next())?, MOST_NODES)?;
     let (left, right) = halves(half(parts.next())?)?;
-    let first = formula_in(alloc, &mut diagrams, left)?;
-    let second = formula_in(alloc, &mut diagrams, right)?;
+    let first = diagrams.formula_of(alloc, left)?;
+    let second = diagrams.formula_of(alloc, right)?;
     if bits_of(diagrams.cells()) <= MOST_BITS
         && (!is_written(alloc, &diagrams, first, left)?
             || !is_written(alloc, &diagrams, second, right)?)
@@ -100,24 +135,43 @@ pub(crate) fn are_same(alloc: Global, rest: &str) -> Result<bool, RowFail> {
     Ok(first.0 == second.0)
 }
 
-/// `CELLS ; FORMULA = 0`: it is false; with 1, it is true.
-pub(crate) fn is_end(alloc: Global, rest: &str) -> Result<bool, RowFail> {
+// `CELLS ; FORMULA = 0`: it is false; with 1, it is true.
+fn is_end(alloc: Global, rest: &str) -> Result<bool, RowFail> {
     let mut parts = rest.split(';');
     let mut diagrams = diagrams_in(alloc, half(parts.next())?, MOST_NODES)?;
     let (formula, wanted) = halves(half(parts.next())?)?;
-    let id = formula_in(alloc, &mut diagrams, formula)?;
+    let id = diagrams.formula_of(alloc, formula)?;
     let end = diagrams.end(wanted == "1");
     Ok(id.0 == end.0)
 }
 
-/// `MOST ; CELLS ; FORMULA`: it needs more than that many nodes.
-pub(crate) fn is_large(alloc: Global, rest: &str) -> Result<bool, RowFail> {
+// `MOST ; CELLS ; FORMULA`: it needs more than that many nodes.
+fn is_large(alloc: Global, rest: &str) -> Result<bool, RowFail> {
     let mut parts = rest.split(';');
     let most = number(Some(half(parts.next())?))?;
     let mut diagrams = diagrams_in(alloc, half(parts.next())?, most)?;
-    match formula_in(alloc, &mut diagrams, half(parts.next())?) {
+    match diagrams.formula_of(alloc, half(parts.next())?) {
         Ok(_) => Ok(false),
         Err(BuildFail::TooLarge) => Ok(true),
         Err(fail) => Err(RowFail::from(fail)),
+    }
+}
+
+/// Rows of formulas.
+#[derive(Drop)]
+pub(crate) struct DiagramRows;
+
+impl Table for DiagramRows {
+    fn is_so(&mut self, alloc: Global, row: &str) -> Result<bool, RowFail> {
+        let (kind, rest) = fields(row);
+        match kind {
+            "table" => has_truths(alloc, rest),
+            "same" => are_same(alloc, rest),
+            "other" => Ok(!are_same(alloc, rest)?),
+            "end" => is_end(alloc, rest),
+            "large" => is_large(alloc, rest),
+            "small" => Ok(!is_large(alloc, rest)?),
+            _ => Err(RowFail::Bad),
+        }
     }
 }

@@ -43,7 +43,7 @@ fn joined_on(items: &mut Vec<Item>, how: &str) -> Result<bool, RowFail> {
     }
 }
 
-fn truth_of(store: &[u128], items: &mut Vec<Item>, word: &str) -> Result<bool, RowFail> {
+fn truth_at(store: &[u128], items: &mut Vec<Item>, word: &str) -> Result<bool, RowFail> {
     match word {
         "true" => Ok(true),
         "false" => Ok(false),
@@ -53,15 +53,22 @@ fn truth_of(store: &[u128], items: &mut Vec<Item>, word: &str) -> Result<bool, R
     }
 }
 
-/// The truth of the formula of a text in a store.
-pub(crate) fn truth_in(alloc: Global, text: &str, store: &[u128]) -> Result<bool, RowFail> {
-    let mut items = Vec::new(alloc);
-    for word in text.split_ascii_whitespace().rev() {
-        let item = match number(Some(word)) {
-            Ok(n) => Item::Number(n),
-            Err(_) => Item::Truth(truth_of(store, &mut items, word)?),
-        };
-        items.push(item)?;
+/// What formulas are in a store.
+pub(crate) trait Truths {
+    /// The truth of the formula of a text.
+    fn truth_of(&self, alloc: Global, text: &str) -> Result<bool, RowFail>;
+}
+
+impl Truths for &[u128] {
+    fn truth_of(&self, alloc: Global, text: &str) -> Result<bool, RowFail> {
+        let mut items = Vec::new(alloc);
+        for word in text.split_ascii_whitespace().rev() {
+            let item = match number(Some(word)) {
+                Ok(n) => Item::Number(n),
+                Err(_) => Item::Truth(truth_at(self, &mut items, word)?),
+            };
+            items.push(item)?;
+        }
+        truth_on(&mut items)
     }
-    truth_on(&mut items)
 }

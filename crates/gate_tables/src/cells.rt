@@ -7,13 +7,12 @@ ghost use Rattle.std.specs.Prelude.{◌≡◌, ◌<◌, length, All, IfOk};
 ghost use Rattle.bv_term.specs.WellFormed.{IsWidth};
 ghost use Rattle.bit_blast.specs.Held.{IsOver};
 
-use crate::reading::term_in;
-use crate::settling::{number_of, push_bits, settle};
 use crate::values::begin;
+use crate::{number_of, push_bits, settle, term_in};
 use bit_blast::{Bits, blast_all};
 use bv_term::{TermId, Terms, are_widths};
 use prop::{Clauses, Lit};
-use row_text::{RowFail, half, number, wides};
+use row_text::{RowFail, Table, fields, half, number, wides};
 use std::alloc::Global;
 
 // Two numbers.
@@ -98,8 +97,8 @@ fn inputs_of(alloc: Global, words: &[(u128, u128)]) -> Result<Vec<bool>, RowFail
     Ok(inputs)
 }
 
-/// Tries the row of a value that is stored.
-pub(crate) fn stores(alloc: Global, rest: &str) -> Result<bool, RowFail> {
+// Tries the row of a value that is stored.
+fn stores(alloc: Global, rest: &str) -> Result<bool, RowFail> {
     let mut parts = rest.split(';');
     let before = two_in(alloc, parts.next())?;
     let open = two_in(alloc, parts.next())?;
@@ -167,8 +166,8 @@ fn takes(
     hold(clauses, &bits, inputs, wanted)
 }
 
-/// Tries the row of a cell that takes other literals.
-pub(crate) fn rebinds(alloc: Global, rest: &str) -> Result<bool, RowFail> {
+// Tries the row of a cell that takes other literals.
+fn rebinds(alloc: Global, rest: &str) -> Result<bool, RowFail> {
     let mut parts = rest.split(';');
     let before = two_in(alloc, parts.next())?;
     let mut terms = Terms::new(alloc, two_bytes(alloc)?);
@@ -178,4 +177,19 @@ pub(crate) fn rebinds(alloc: Global, rest: &str) -> Result<bool, RowFail> {
     let mut clauses = Clauses::new(alloc);
     let mut inputs = inputs_of(alloc, &[before])?;
     takes(alloc, &terms, id, times, &mut clauses, &mut inputs, after)
+}
+
+/// Rows of cells that are stored into, or that take other literals.
+#[derive(Drop)]
+pub(crate) struct CellRows;
+
+impl Table for CellRows {
+    fn is_so(&mut self, alloc: Global, row: &str) -> Result<bool, RowFail> {
+        let (kind, rest) = fields(row);
+        match kind {
+            "store" => stores(alloc, rest),
+            "rebind" => rebinds(alloc, rest),
+            _ => Err(RowFail::Bad),
+        }
+    }
 }

@@ -6,12 +6,12 @@
 //! are; what is held begins anew then.
 ghost use Rattle.bit_blast.specs.Held.{IsOver};
 
-use crate::reading::{table_in, term_in};
 use crate::values::begin;
+use crate::{table_in, term_in};
 use bit_blast::blast_all;
 use bv_term::{TermId, Terms};
 use prop::Clauses;
-use row_text::{RowFail, half, halves, number};
+use row_text::{RowFail, Table, fields, half, halves, number};
 use std::alloc::Global;
 
 // How many literals there are after a term was blasted so often.
@@ -27,8 +27,8 @@ fn literals_after(alloc: Global, terms: &Terms, id: TermId, times: u32) -> Resul
     Ok(clauses.literals())
 }
 
-/// Tries the row of a term that is blasted again.
-pub(crate) fn costs_once(alloc: Global, rest: &str) -> Result<bool, RowFail> {
+// Tries the row of a term that is blasted again.
+fn costs_once(alloc: Global, rest: &str) -> Result<bool, RowFail> {
     let mut parts = rest.split(';');
     let mut terms = table_in(alloc, parts.next())?;
     let id = term_in(alloc, &mut terms, TermId(0), parts.next())?;
@@ -46,8 +46,8 @@ fn round(alloc: Global, terms: &mut Terms, it: TermId, steps: &str) -> Result<Te
     Ok(last)
 }
 
-/// Tries the row of a chain.
-pub(crate) fn costs(alloc: Global, rest: &str) -> Result<bool, RowFail> {
+// Tries the row of a chain.
+fn costs(alloc: Global, rest: &str) -> Result<bool, RowFail> {
     let mut parts = rest.split(';');
     let mut terms = table_in(alloc, parts.next())?;
     let first = term_in(alloc, &mut terms, TermId(0), parts.next())?;
@@ -62,8 +62,8 @@ pub(crate) fn costs(alloc: Global, rest: &str) -> Result<bool, RowFail> {
     Ok(after.checked_sub(before) == Some(u64::from(number(Some(literals))?)))
 }
 
-/// Tries the row of a beginning anew.
-pub(crate) fn renews(alloc: Global, rest: &str) -> Result<bool, RowFail> {
+// Tries the row of a beginning anew.
+fn renews(alloc: Global, rest: &str) -> Result<bool, RowFail> {
     let (parts, wanted) = halves(rest)?;
     let mut parts = parts.split(';');
     let mut terms = table_in(alloc, parts.next())?;
@@ -87,4 +87,20 @@ fn is_pair(text: &str, first: u32, second: u64) -> Result<bool, RowFail> {
     let left = number(words.next())?;
     let right = number(words.next())?;
     Ok(left == first && u64::from(right) == second && words.next().is_none())
+}
+
+/// Rows of terms that are blasted again.
+#[derive(Drop)]
+pub(crate) struct ChainRows;
+
+impl Table for ChainRows {
+    fn is_so(&mut self, alloc: Global, row: &str) -> Result<bool, RowFail> {
+        let (kind, rest) = fields(row);
+        match kind {
+            "again" => costs_once(alloc, rest),
+            "chain" => costs(alloc, rest),
+            "renew" => renews(alloc, rest),
+            _ => Err(RowFail::Bad),
+        }
+    }
 }

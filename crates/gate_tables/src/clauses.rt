@@ -9,7 +9,9 @@
 //! so many blocks.
 
 use prop::{Assignment, BlastFail, Clauses, Lit, contains, resolve_on};
-use row_text::{RowFail, clauses_in, fields, half, halves, literal_rows, lits_in, number, numbers};
+use row_text::{
+    RowFail, Table, clauses_in, fields, half, halves, literal_rows, lits_in, number, numbers,
+};
 use std::alloc::Global;
 
 // Whether each clause is the row of its number.
@@ -24,8 +26,8 @@ fn are_rows(clauses: &Clauses, rows: &[Vec<Lit>]) -> bool {
     number == clauses.len()
 }
 
-/// Tries the row of a count.
-pub(crate) fn has_counts(alloc: Global, rest: &str) -> Result<bool, RowFail> {
+// Tries the row of a count.
+fn has_counts(alloc: Global, rest: &str) -> Result<bool, RowFail> {
     let (text, counts) = halves(rest)?;
     let counts = numbers(alloc, counts)?;
     let clauses = clauses_in(alloc, text)?;
@@ -39,8 +41,8 @@ pub(crate) fn has_counts(alloc: Global, rest: &str) -> Result<bool, RowFail> {
     )
 }
 
-/// Tries the row of a step.
-pub(crate) fn resolves(alloc: Global, rest: &str) -> Result<bool, RowFail> {
+// Tries the row of a step.
+fn resolves(alloc: Global, rest: &str) -> Result<bool, RowFail> {
     let (words, wanted) = halves(rest)?;
     let mut parts = words.split(';');
     let var = number(Some(half(parts.next())?))?;
@@ -67,8 +69,8 @@ fn are_true(assignment: &Assignment, lits: &[Lit]) -> bool {
     true
 }
 
-/// Tries the row of an assignment.
-pub(crate) fn assigns(alloc: Global, rest: &str) -> Result<bool, RowFail> {
+// Tries the row of an assignment.
+fn assigns(alloc: Global, rest: &str) -> Result<bool, RowFail> {
     let mut parts = rest.split(';');
     let assignment = Assignment::from_trues(numbers(alloc, half(parts.next())?)?);
     let order = numbers(alloc, half(parts.next())?)?;
@@ -87,8 +89,8 @@ fn is_met(alloc: Global, assignment: &Assignment, part: &str) -> Result<bool, Ro
     Ok(assignment.satisfies(&clauses) == wanted)
 }
 
-/// Tries the row of sets that an assignment meets.
-pub(crate) fn meets(alloc: Global, rest: &str) -> Result<bool, RowFail> {
+// Tries the row of sets that an assignment meets.
+fn meets(alloc: Global, rest: &str) -> Result<bool, RowFail> {
     let Some((trues, sets)) = rest.split_once(';') else {
         return Err(RowFail::Bad);
     };
@@ -106,8 +108,8 @@ pub(crate) fn meets(alloc: Global, rest: &str) -> Result<bool, RowFail> {
     Ok(true)
 }
 
-/// Tries the row of literals of a clause.
-pub(crate) fn has_literals(alloc: Global, rest: &str) -> Result<bool, RowFail> {
+// Tries the row of literals of a clause.
+fn has_literals(alloc: Global, rest: &str) -> Result<bool, RowFail> {
     let mut parts = rest.split(';');
     let clause = lits_in(alloc, half(parts.next())?)?;
     let there = lits_in(alloc, half(parts.next())?)?;
@@ -154,8 +156,8 @@ fn is_pushed(alloc: Global, clauses: &mut Clauses, part: &str) -> Result<bool, R
     }
 }
 
-/// Tries the row of the limit.
-pub(crate) fn is_limit(alloc: Global, rest: &str) -> Result<bool, RowFail> {
+// Tries the row of the limit.
+fn is_limit(alloc: Global, rest: &str) -> Result<bool, RowFail> {
     let Some((head, cases)) = rest.split_once(';') else {
         return Err(RowFail::Bad);
     };
@@ -167,4 +169,23 @@ pub(crate) fn is_limit(alloc: Global, rest: &str) -> Result<bool, RowFail> {
         }
     }
     Ok(true)
+}
+
+/// Rows of clauses and assignments.
+#[derive(Drop)]
+pub(crate) struct ClauseRows;
+
+impl Table for ClauseRows {
+    fn is_so(&mut self, alloc: Global, row: &str) -> Result<bool, RowFail> {
+        let (kind, rest) = fields(row);
+        match kind {
+            "clauses" => has_counts(alloc, rest),
+            "resolve" => resolves(alloc, rest),
+            "assignment" => assigns(alloc, rest),
+            "meets" => meets(alloc, rest),
+            "contains" => has_literals(alloc, rest),
+            "limit" => is_limit(alloc, rest),
+            _ => Err(RowFail::Bad),
+        }
+    }
 }

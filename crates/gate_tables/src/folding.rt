@@ -7,7 +7,7 @@
 use bit_gates::{Def, Net, NoRoom};
 use bit_words::{copies, numeral, put_def, spelled};
 use prop::Lit;
-use row_text::{RowFail, fields, halves, lit_in, lits_in, number, wide};
+use row_text::{RowFail, Table, fields, halves, lit_in, lits_in, number, wide};
 use std::alloc::Global;
 
 const ONE: Lit = Lit {
@@ -49,8 +49,8 @@ fn def_in(kind: &str, lits: &[Lit]) -> Result<Def, RowFail> {
     }
 }
 
-/// Tries the row of a definition.
-pub(crate) fn folds(alloc: Global, rest: &str) -> Result<bool, RowFail> {
+// Tries the row of a definition.
+fn folds(alloc: Global, rest: &str) -> Result<bool, RowFail> {
     let (words, wanted) = halves(rest)?;
     let (kind, lits) = fields(words);
     let def = def_in(kind, &lits_in(alloc, lits)?)?;
@@ -60,8 +60,8 @@ pub(crate) fn folds(alloc: Global, rest: &str) -> Result<bool, RowFail> {
     Ok(out == lit_in(lit)? && net.defs.len() == number(Some(count))? as usize)
 }
 
-/// Tries the row of a number.
-pub(crate) fn is_numeral(alloc: Global, rest: &str) -> Result<bool, RowFail> {
+// Tries the row of a number.
+fn is_numeral(alloc: Global, rest: &str) -> Result<bool, RowFail> {
     let (words, wanted) = halves(rest)?;
     let (width, value) = fields(words);
     let value = wide(Some(value))?;
@@ -74,8 +74,8 @@ pub(crate) fn is_numeral(alloc: Global, rest: &str) -> Result<bool, RowFail> {
     )
 }
 
-/// Tries the row of copies.
-pub(crate) fn is_copies(alloc: Global, rest: &str) -> Result<bool, RowFail> {
+// Tries the row of copies.
+fn is_copies(alloc: Global, rest: &str) -> Result<bool, RowFail> {
     let (words, wanted) = halves(rest)?;
     let (lit, count) = fields(words);
     let count = number(Some(count))? as usize;
@@ -84,8 +84,8 @@ pub(crate) fn is_copies(alloc: Global, rest: &str) -> Result<bool, RowFail> {
     Ok(made.as_slice() == wanted.as_slice())
 }
 
-/// Tries the row of literals that are spelled.
-pub(crate) fn is_spelled(alloc: Global, rest: &str) -> Result<bool, RowFail> {
+// Tries the row of literals that are spelled.
+fn is_spelled(alloc: Global, rest: &str) -> Result<bool, RowFail> {
     let (words, wanted) = halves(rest)?;
     let lits = lits_in(alloc, words)?;
     if lits.len() > 128 {
@@ -96,4 +96,21 @@ pub(crate) fn is_spelled(alloc: Global, rest: &str) -> Result<bool, RowFail> {
         return Ok(found.is_none());
     }
     Ok(found == Some(wide(Some(wanted))?))
+}
+
+/// Rows of words of literals.
+#[derive(Drop)]
+pub(crate) struct WordRows;
+
+impl Table for WordRows {
+    fn is_so(&mut self, alloc: Global, row: &str) -> Result<bool, RowFail> {
+        let (kind, rest) = fields(row);
+        match kind {
+            "fold" => folds(alloc, rest),
+            "numeral" => is_numeral(alloc, rest),
+            "copies" => is_copies(alloc, rest),
+            "spelled" => is_spelled(alloc, rest),
+            _ => Err(RowFail::Bad),
+        }
+    }
 }

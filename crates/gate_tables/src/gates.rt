@@ -4,10 +4,10 @@
 ghost use Rattle.std.specs.Prelude.{◌≡◌, ◌≤◌, ◌<◌, length};
 ghost use Rattle.prop.specs.Logic.{LitsBelow};
 
-use crate::settling::{are_met, number_of, push_bits, settle};
+use crate::{are_met, number_of, push_bits, settle};
 use bit_gates::{Shift, adder, are_below, divider, equal, less, multiplier, shifter};
 use prop::{Clauses, Lit};
-use row_text::{RowFail, fields, halves, number, wides};
+use row_text::{RowFail, Table, fields, halves, number, wides};
 use std::alloc::Global;
 
 #[derive(Clone, Copy, Debug, PartialEq)]
@@ -159,8 +159,8 @@ fn gives(alloc: Global, made: &Made, width: u32, part: &str) -> Result<bool, Row
     )
 }
 
-/// Tries the row of a gate's outputs.
-pub(crate) fn has_outs(alloc: Global, rest: &str) -> Result<bool, RowFail> {
+// Tries the row of a gate's outputs.
+fn has_outs(alloc: Global, rest: &str) -> Result<bool, RowFail> {
     let Some((head, cases)) = rest.split_once(';') else {
         return Err(RowFail::Bad);
     };
@@ -174,8 +174,8 @@ pub(crate) fn has_outs(alloc: Global, rest: &str) -> Result<bool, RowFail> {
     Ok(true)
 }
 
-/// Tries the row of a gate's size.
-pub(crate) fn has_size(alloc: Global, rest: &str) -> Result<bool, RowFail> {
+// Tries the row of a gate's size.
+fn has_size(alloc: Global, rest: &str) -> Result<bool, RowFail> {
     let (head, sizes) = halves(rest)?;
     let (gate, width) = gate_and_width(head)?;
     let sizes = wides(alloc, sizes)?;
@@ -188,4 +188,19 @@ pub(crate) fn has_size(alloc: Global, rest: &str) -> Result<bool, RowFail> {
             && sizes[1] == u128::from(made.clauses.len())
             && sizes[2] == u128::from(made.next.saturating_sub(made.inputs)),
     )
+}
+
+/// Rows of gates over words.
+#[derive(Drop)]
+pub(crate) struct GateRows;
+
+impl Table for GateRows {
+    fn is_so(&mut self, alloc: Global, row: &str) -> Result<bool, RowFail> {
+        let (kind, rest) = fields(row);
+        match kind {
+            "gate" => has_outs(alloc, rest),
+            "size" => has_size(alloc, rest),
+            _ => Err(RowFail::Bad),
+        }
+    }
 }

@@ -8,69 +8,163 @@ mod clauses;
 mod folding;
 mod gates;
 mod numbering;
-mod reading;
-mod settling;
 mod singles;
 mod values;
 
-use row_text::{Refusal, RowFail, Table, fields, try_table};
+use crate::cells::CellRows;
+use crate::chains::ChainRows;
+use crate::clauses::ClauseRows;
+use crate::folding::WordRows;
+use crate::gates::GateRows;
+use crate::numbering::NumberRows;
+use crate::singles::SingleRows;
+use crate::values::ValueRows;
+use bv_term::{TermId, Terms, are_widths};
+use prop::{Assignment, Clauses, Lit};
+use row_text::{Library, Refusal, RowFail, Rows, Stated, Table, fields, half, numbers, one_term};
 use std::alloc::Global;
 use std::rt::Files;
 
-// What tries the rows.
+// A table of terms over cells of these widths.
+fn table_in(alloc: Global, part: Option<&str>) -> Result<Terms, RowFail> {
+    let widths = numbers(alloc, half(part)?)?;
+    if are_widths(&widths) {
+        Ok(Terms::new(alloc, widths))
+    } else {
+        Err(RowFail::Bad)
+    }
+}
+
+// The number of a term that has to be there; `it` stands for a given one.
+fn term_in(
+    alloc: Global,
+    terms: &mut Terms,
+    it: TermId,
+    part: Option<&str>,
+) -> Result<TermId, RowFail> {
+    match one_term(alloc, terms, it, half(part)?)? {
+        Some(id) => Ok(id),
+        None => Err(RowFail::Bad),
+    }
+}
+
+// Whether a literal is true; variables past the end are false.
+fn value_of(values: &[bool], l: Lit) -> bool {
+    values.get(l.var as usize).copied().unwrap_or(false) == l.positive
+}
+
+// What a clause says of the first variable that has no value.
+enum Demand {
+    // A literal is true already.
+    Nothing,
+    // All literals but this one, which has no value, are false.
+    One(Lit),
+    // All literals are false.
+    Contradiction,
+}
+
+fn demand_of(values: &[bool], clause: &[Lit]) -> Demand {
+    let mut open = None;
+    for l in clause {
+        if l.var as usize >= values.len() {
+            open = Some(*l);
+        } else if value_of(values, *l) {
+            return Demand::Nothing;
+        }
+    }
+    match open {
+        Some(l) => Demand::One(l),
+        None => Demand::Contradiction,
+    }
+}
+
+// Gives each variable from `values.len()` on the value that a clause over it and earlier variables forces: the clauses of
+// definitions come in the order of the variables that they define. It answers whether no clause stands against the values,
+// and each was about the next variable.
+fn settle(clauses: &Clauses, values: &mut Vec<bool>) -> Result<bool, RowFail> {
+    for number in 0..clauses.len() {
+        match demand_of(values, clauses.clause(number)) {
+            Demand::Nothing => {}
+            Demand::Contradiction => return Ok(false),
+            Demand::One(l) => {
+                if l.var as usize != values.len() {
+                    return Ok(false);
+                }
+                values.push(l.positive)?;
+            }
+        }
+    }
+    Ok(true)
+}
+
+// Whether the values meet all clauses.
+fn are_met(alloc: Global, clauses: &Clauses, values: &[bool]) -> Result<bool, RowFail> {
+    let mut trues = Vec::new(alloc);
+    let mut var = 0u32;
+    for value in values {
+        if *value {
+            trues.push(var)?;
+        }
+        var = var.saturating_add(1);
+    }
+    Ok(Assignment::from_trues(trues).satisfies(clauses))
+}
+
+// The number whose bits, lowest first, are these literals.
+fn number_of(values: &[bool], lits: &[Lit]) -> u128 {
+    let mut sum = 0u128;
+    let mut weight = 1u128;
+    for l in lits {
+        if value_of(values, *l) {
+            sum |= weight;
+        }
+        weight = weight.wrapping_mul(2);
+    }
+    sum
+}
+
+// Appends so many bits of a number, lowest first.
+fn push_bits(values: &mut Vec<bool>, width: u32, value: u128) -> Result<(), RowFail> {
+    let mut rest = value;
+    for _ in 0..width {
+        values.push(rest % 2 == 1)?;
+        rest /= 2;
+    }
+    Ok(())
+}
+
+// All kinds of rows.
 #[derive(Drop)]
-struct GateTable;
+struct AllRows;
 
-// Rows of terms, and of what they are blasted to.
-fn of_terms(alloc: Global, kind: &str, rest: &str) -> Result<bool, RowFail> {
-    match kind {
-        "value" => values::has_values(alloc, rest),
-        "unfit" => numbering::is_unfit(alloc, rest),
-        "numbers" => numbering::has_numbers(alloc, rest),
-        "again" => chains::costs_once(alloc, rest),
-        "chain" => chains::costs(alloc, rest),
-        "renew" => chains::renews(alloc, rest),
-        "store" => cells::stores(alloc, rest),
-        "rebind" => cells::rebinds(alloc, rest),
-        _ => Err(RowFail::Bad),
-    }
-}
-
-// Rows of gates, and of words of literals.
-fn of_gates(alloc: Global, kind: &str, rest: &str) -> Result<bool, RowFail> {
-    match kind {
-        "gate" => gates::has_outs(alloc, rest),
-        "size" => gates::has_size(alloc, rest),
-        "single" => singles::has_truths(alloc, rest),
-        "fold" => folding::folds(alloc, rest),
-        "numeral" => folding::is_numeral(alloc, rest),
-        "copies" => folding::is_copies(alloc, rest),
-        "spelled" => folding::is_spelled(alloc, rest),
-        _ => of_terms(alloc, kind, rest),
-    }
-}
-
-impl Table for GateTable {
+impl Table for AllRows {
     fn is_so(&mut self, alloc: Global, row: &str) -> Result<bool, RowFail> {
-        let (kind, rest) = fields(row);
-        match kind {
-            "clauses" => clauses::has_counts(alloc, rest),
-            "resolve" => clauses::resolves(alloc, rest),
-            "assignment" => clauses::assigns(alloc, rest),
-            "meets" => clauses::meets(alloc, rest),
-            "contains" => clauses::has_literals(alloc, rest),
-            "limit" => clauses::is_limit(alloc, rest),
-            _ => of_gates(alloc, kind, rest),
+        match fields(row).0 {
+            "value" => ValueRows.is_so(alloc, row),
+            "unfit" | "numbers" => NumberRows.is_so(alloc, row),
+            "again" | "chain" | "renew" => ChainRows.is_so(alloc, row),
+            "store" | "rebind" => CellRows.is_so(alloc, row),
+            "gate" | "size" => GateRows.is_so(alloc, row),
+            "single" => SingleRows.is_so(alloc, row),
+            "fold" | "numeral" | "copies" | "spelled" => WordRows.is_so(alloc, row),
+            _ => ClauseRows.is_so(alloc, row),
         }
     }
 }
 
-/// Tries the rows of the table in the file of this name. It prints each row that is not so, and how many rows there are; how many are
-/// not so.
-pub fn try_rows<R>(rt: &R, name: &str) -> Result<u64, Refusal>
-where
-    R: AllocGlobal + Files + Print + Clone + Drop,
-{
-    let mut table = GateTable;
-    try_table(rt, &mut table, name)
+/// Tables of terms, gates, words of literals and clauses.
+#[derive(Clone, Copy)]
+pub struct GateTables;
+
+impl Library for GateTables {
+    fn try_rows<R>(&mut self, rt: &R, name: &str) -> Result<u64, Refusal>
+    where
+        R: AllocGlobal + Files + Print + Clone + Drop,
+    {
+        let table = AllRows;
+        Rows {
+            table: Stated { table },
+        }
+        .try_rows(rt, name)
+    }
 }

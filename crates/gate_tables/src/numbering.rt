@@ -2,9 +2,9 @@
 //! last of them is then appended once more, to a copy of the table.
 //! `unfit WIDTHS ; TERM ; .. ; TERM`: the last term is not well formed over the others.
 
-use crate::reading::{table_in, term_in};
+use crate::{table_in, term_in};
 use bv_term::{TermId, Terms};
-use row_text::{RowFail, halves, numbers, one_term};
+use row_text::{RowFail, Table, fields, halves, numbers, one_term};
 use std::alloc::Global;
 
 // Whether the term has this number and width.
@@ -37,8 +37,8 @@ fn is_appended(terms: &Terms) -> Result<bool, RowFail> {
     Ok(next.0 == count && copy.cells() == terms.cells())
 }
 
-/// Tries the row of numbers.
-pub(crate) fn has_numbers(alloc: Global, rest: &str) -> Result<bool, RowFail> {
+// Tries the row of numbers.
+fn has_numbers(alloc: Global, rest: &str) -> Result<bool, RowFail> {
     let mut parts = rest.split(';');
     let mut terms = table_in(alloc, parts.next())?;
     for part in parts {
@@ -49,8 +49,8 @@ pub(crate) fn has_numbers(alloc: Global, rest: &str) -> Result<bool, RowFail> {
     is_appended(&terms)
 }
 
-/// Tries the row of a term that is not well formed.
-pub(crate) fn is_unfit(alloc: Global, rest: &str) -> Result<bool, RowFail> {
+// Tries the row of a term that is not well formed.
+fn is_unfit(alloc: Global, rest: &str) -> Result<bool, RowFail> {
     let mut parts = rest.split(';');
     let mut terms = table_in(alloc, parts.next())?;
     let mut is_last = false;
@@ -61,4 +61,19 @@ pub(crate) fn is_unfit(alloc: Global, rest: &str) -> Result<bool, RowFail> {
         is_last = one_term(alloc, &mut terms, TermId(0), part)?.is_none();
     }
     Ok(is_last)
+}
+
+/// Rows of the numbers of terms.
+#[derive(Drop)]
+pub(crate) struct NumberRows;
+
+impl Table for NumberRows {
+    fn is_so(&mut self, alloc: Global, row: &str) -> Result<bool, RowFail> {
+        let (kind, rest) = fields(row);
+        match kind {
+            "numbers" => has_numbers(alloc, rest),
+            "unfit" => is_unfit(alloc, rest),
+            _ => Err(RowFail::Bad),
+        }
+    }
 }

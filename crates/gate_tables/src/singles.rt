@@ -1,10 +1,10 @@
 //! `single KIND ; LITERALS = TRUTHS ; ..`: a gate over single literals of the variables 1 to 3, and whether it holds, 0 or 1,
 //! at each of their eight values, that of variable 1 going round first.
 
-use crate::settling::{settle, value_of};
+use crate::{settle, value_of};
 use bit_gates::{and_gate, select_gate, xor_gate};
 use prop::{Clauses, Lit};
-use row_text::{RowFail, halves, lits_in};
+use row_text::{RowFail, Table, fields, halves, lits_in};
 use std::alloc::Global;
 
 // The gate over two literals, which a selecting one has a third before.
@@ -48,8 +48,8 @@ fn has_all(alloc: Global, clauses: &Clauses, out: Lit, truths: &str) -> Result<b
     Ok(number == 8)
 }
 
-/// Tries the row.
-pub(crate) fn has_truths(alloc: Global, rest: &str) -> Result<bool, RowFail> {
+// Tries the row.
+fn has_truths(alloc: Global, rest: &str) -> Result<bool, RowFail> {
     let Some((kind, cases)) = rest.split_once(';') else {
         return Err(RowFail::Bad);
     };
@@ -63,4 +63,18 @@ pub(crate) fn has_truths(alloc: Global, rest: &str) -> Result<bool, RowFail> {
         }
     }
     Ok(true)
+}
+
+/// Rows of gates over single literals.
+#[derive(Drop)]
+pub(crate) struct SingleRows;
+
+impl Table for SingleRows {
+    fn is_so(&mut self, alloc: Global, row: &str) -> Result<bool, RowFail> {
+        let (kind, rest) = fields(row);
+        match kind {
+            "single" => has_truths(alloc, rest),
+            _ => Err(RowFail::Bad),
+        }
+    }
 }

@@ -3,12 +3,11 @@
 ghost use Rattle.std.specs.Prelude.{IfOk};
 ghost use Rattle.bit_blast.specs.Held.{IsOver};
 
-use crate::reading::{table_in, term_in};
-use crate::settling::{number_of, push_bits, settle};
+use crate::{number_of, push_bits, settle, table_in, term_in};
 use bit_blast::{Bits, blast, blast_all};
 use bv_term::{TermId, Terms};
 use prop::{BlastFail, Clauses, Lit};
-use row_text::{RowFail, halves, wide, wides};
+use row_text::{RowFail, Table, fields, halves, wide, wides};
 use std::alloc::Global;
 
 /// Literals for the cells of a table.
@@ -80,8 +79,8 @@ fn have_value(
     Ok(settle(clauses, &mut values)? && number_of(&values, lits) == wanted)
 }
 
-/// Tries the row.
-pub(crate) fn has_values(alloc: Global, rest: &str) -> Result<bool, RowFail> {
+// Tries the row.
+fn has_values(alloc: Global, rest: &str) -> Result<bool, RowFail> {
     let mut parts = rest.split(';');
     let mut terms = table_in(alloc, parts.next())?;
     let id = term_in(alloc, &mut terms, TermId(0), parts.next())?;
@@ -98,4 +97,18 @@ pub(crate) fn has_values(alloc: Global, rest: &str) -> Result<bool, RowFail> {
         }
     }
     Ok(true)
+}
+
+/// Rows of the values of terms.
+#[derive(Drop)]
+pub(crate) struct ValueRows;
+
+impl Table for ValueRows {
+    fn is_so(&mut self, alloc: Global, row: &str) -> Result<bool, RowFail> {
+        let (kind, rest) = fields(row);
+        match kind {
+            "value" => has_values(alloc, rest),
+            _ => Err(RowFail::Bad),
+        }
+    }
 }

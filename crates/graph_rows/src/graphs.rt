@@ -1,11 +1,154 @@
-//! Graphs of their parts.
+//! Graphs of their parts: cells and nodes by their words, edges with their operations, and loops.
 
-use crate::edges::{edge_in, loop_in};
-use crate::nodes::{cells_in, nodes_in, widths_of};
-use bv_term::{Terms, are_widths};
-use c_graph::{Cell, Edge, Graph, LoopAt, Node, NodeId, is_graph};
-use row_text::{RowFail, fields, half, number};
+ghost use Rattle.std.specs.Prelude.{◌≡◌, IfOk};
+ghost use Rattle.lv_base.specs.Names.{error_name};
+
+use bv_term::{TermId, Terms, are_widths};
+use c_graph::{Cell, Edge, Graph, LoopAt, Node, NodeId, Operation, Operations, Origin, is_graph};
+use lv_base::ErrorKind;
+use row_text::{RowFail, fields, half, number, one_term, terms_in};
 use std::alloc::Global;
+
+// The offset of an error whose node has none in its word.
+const ERROR_OFFSET: u32 = 71;
+
+/// The error of this name.
+pub fn kind_in(word: &str) -> Result<ErrorKind, RowFail>
+    ensures { IfOk result (λ kind. word.now ≡ error_name kind) }
+{
+    match word {
+        "reach" => Ok(ErrorKind::Reach),
+        "overflow" => Ok(ErrorKind::Overflow),
+        "zero" => Ok(ErrorKind::Zero),
+        "shift" => Ok(ErrorKind::Shift),
+        "index" => Ok(ErrorKind::Index),
+        "missing" => Ok(ErrorKind::Missing),
+        _ => Err(RowFail::Bad),
+    }
+}
+
+// Adds the cells of an object, whose number is that of its first cell.
+fn add_object(cells: &mut Vec<Cell>, width: u32, count: u32) -> Result<(), RowFail> {
+    let Ok(object) = u32::try_from(cells.len()) else {
+        return Err(RowFail::Bad);
+    };
+    for element in 0..count {
+        cells.push(Cell {
+            width,
+            origin: Origin::Element(object, element),
+        })?;
+    }
+    Ok(())
+}
+
+// The cells of these widths, each an object of its own, or an array behind whose width the number of elements stands.
+fn cells_in(alloc: Global, words: &str) -> Result<Vec<Cell>, RowFail> {
+    let mut cells = Vec::new(alloc);
+    for word in words.split_ascii_whitespace() {
+        let (width, count) = match word.split_once('x') {
+            Some((width, count)) => (width, number(Some(count))?),
+            None => (word, 1),
+        };
+        add_object(&mut cells, number(Some(width))?, count)?;
+    }
+    Ok(cells)
+}
+
+// The widths of cells, which the terms are to have.
+fn widths_of(alloc: Global, cells: &[Cell]) -> Result<Vec<u32>, RowFail> {
+    let mut widths = Vec::new(alloc);
+    for cell in cells {
+        widths.push(cell.width)?;
+    }
+    Ok(widths)
+}
+
+fn node_in(word: &str) -> Result<Node, RowFail> {
+    match word.split_once(':') {
+        Some((kind, at)) => Ok(Node::Error(kind_in(kind)?, number(Some(at))?)),
+        None if word == "plain" => Ok(Node::Plain),
+        None if word == "error" => Ok(Node::Error(ErrorKind::Reach, ERROR_OFFSET)),
+        None if word == "end" => Ok(Node::End),
+        None => Err(RowFail::Bad),
+    }
+}
+
+// The nodes that are the words of a text.
+fn nodes_in(alloc: Global, words: &str) -> Result<Vec<Node>, RowFail> {
+    let mut nodes = Vec::new(alloc);
+    for word in words.split_ascii_whitespace() {
+        nodes.push(node_in(word)?)?;
+    }
+    Ok(nodes)
+}
+
+fn term_in(alloc: Global, terms: &mut Terms, text: &str) -> Result<TermId, RowFail> {
+    match one_term(alloc, terms, TermId(0), text)? {
+        Some(id) => Ok(id),
+        None => Err(RowFail::Bad),
+    }
+}
+
+fn set_in(alloc: Global, terms: &mut Terms, text: &str) -> Result<Operation, RowFail> {
+    let (cell, term) = fields(text);
+    let cell = number(Some(cell))?;
+    Ok(Operation::Set(cell, term_in(alloc, terms, term)?))
+}
+
+fn set_at_in(alloc: Global, terms: &mut Terms, text: &str) -> Result<Operation, RowFail> {
+    let (first, rest) = fields(text);
+    let (count, both) = fields(rest);
+    let (first, count) = (number(Some(first))?, number(Some(count))?);
+    let Some(found) = terms_in(alloc, terms, TermId(0), both)? else {
+        return Err(RowFail::Bad);
+    };
+    if found.len() != 2 {
+        return Err(RowFail::Bad);
+    }
+    Ok(Operation::SetAt(first, count, found[0], found[1]))
+}
+
+fn operation_in(alloc: Global, terms: &mut Terms, text: &str) -> Result<Operation, RowFail> {
+    let (word, rest) = fields(text);
+    match word {
+        "assume" => Ok(Operation::Assume(term_in(alloc, terms, rest)?)),
+        "set" => set_in(alloc, terms, rest),
+        "set_at" => set_at_in(alloc, terms, rest),
+        "draw" => Ok(Operation::Draw(number(Some(rest))?, false)),
+        "draw_signed" => Ok(Operation::Draw(number(Some(rest))?, true)),
+        _ => Err(RowFail::Bad),
+    }
+}
+
+fn operations_in(alloc: Global, terms: &mut Terms, text: &str) -> Result<Operations, RowFail> {
+    let mut items = Vec::new(alloc);
+    if !text.is_empty() {
+        for part in text.split(',') {
+            items.push(operation_in(alloc, terms, part)?)?;
+        }
+    }
+    Ok(Operations::new(items))
+}
+
+// The edge of a text, whose terms are put into the table.
+fn edge_in(alloc: Global, terms: &mut Terms, text: &str) -> Result<Edge, RowFail> {
+    let (from, rest) = fields(text);
+    let (to, ops) = fields(rest);
+    Ok(Edge {
+        from: NodeId(number(Some(from))?),
+        to: NodeId(number(Some(to))?),
+        ops: operations_in(alloc, terms, ops)?,
+    })
+}
+
+// The loop of an offset and a node.
+fn loop_in(text: &str) -> Result<LoopAt, RowFail> {
+    let (at, node) = fields(text);
+    Ok(LoopAt {
+        at: number(Some(at))?,
+        node: NodeId(number(Some(node))?),
+    })
+}
 
 // The parts of a graph.
 #[derive(Drop)]

@@ -7,13 +7,10 @@
 //! `draw CELL`, or `draw_signed CELL`.
 #![tactic(auto)]
 
-mod edges;
 mod graphs;
 mod listed;
-mod nodes;
 mod walking;
 
-pub use graphs::{graph_of, whole_graph};
+pub use graphs::{graph_of, kind_in, whole_graph};
 pub use listed::{ListedWalk, walk_listed};
-pub use nodes::kind_in;
 pub use walking::{Inputs, Stop, walk_on};

@@ -10,7 +10,9 @@ use lv_base::{Model, Place, SourceFail, place_of};
 use row_text::RowFail;
 use source_graphs::{examined, whole_graph};
 use std::alloc::Global;
-use table_rows::{Fields, Flaw, list_of, other_than, text_of};
+use std::rt::Files;
+use std::str;
+use table_rows::{Fields, Flaw, Library, Refusal, list_of, load, other_than, text_of};
 
 // The most bytes of a source.
 const MOST_BYTES: usize = 1 << 20;
@@ -18,10 +20,10 @@ const MOST_BYTES: usize = 1 << 20;
 // What every saved cell holds before a walk, which none is to read.
 const SAVED: u128 = 1;
 
-/// What came under a data model where it is not as the row says; none where it is.
-///
-/// Fails with `Form` where it is no row, and with `Memory`.
-pub fn other_of(alloc: Global, row: &str, model: Model) -> Result<Option<String>, Flaw> {
+// What came under a data model where it is not as the row says; none where it is.
+//
+// Fails with `Form` where it is no row, and with `Memory`.
+fn other_of(alloc: Global, row: &str, model: Model) -> Result<Option<String>, Flaw> {
     let mut columns = Fields::columns(row);
     let kind = columns.next()?;
     let source = text_of(alloc, columns.next()?)?;
@@ -94,5 +96,60 @@ fn walked(alloc: Global, graph: &Graph, source: &[u8], values: &str) -> Result<S
             Ok(format!(in alloc; "{kind} at {line}:{column} behind {drawn}")?)
         }
         stop => Ok(format!(in alloc; "{stop:?} behind {drawn}")?),
+    }
+}
+
+// Tries a row under a data model; whether it is so.
+fn is_so<R: Print>(alloc: Global, rt: &R, row: &str, model: Model) -> Result<bool, Refusal> {
+    let under = model.name();
+    let printed = match other_of(alloc, row, model) {
+        Ok(None) => return Ok(true),
+        Ok(Some(came)) => {
+            let came = came.as_str();
+            println!(rt; "{under}: {came}, and not as here: {row}")
+        }
+        Err(Flaw::Form) => println!(rt; "{under}: no row: {row}"),
+        Err(Flaw::Memory) => return Err(Refusal::Memory),
+    };
+    match printed {
+        Ok(()) => Ok(false),
+        Err(_) => Err(Refusal::Output),
+    }
+}
+
+// Tries the rows of a table, and prints how many there are; how many are not so. Lines that begin with `#`, and empty ones, are left out.
+fn try_all<R: Print>(alloc: Global, rt: &R, name: &str, bytes: &[u8]) -> Result<u64, Refusal> {
+    let Ok(text) = str::from_utf8(bytes) else {
+        return Err(Refusal::Text);
+    };
+    let mut rows = 0u64;
+    let mut others = 0u64;
+    for row in text.lines() {
+        if row.is_empty() || row.starts_with('#') {
+            continue;
+        }
+        rows = rows.saturating_add(1);
+        let narrow = is_so(alloc, rt, row, Model::Ilp32)?;
+        let wide = is_so(alloc, rt, row, Model::Lp64)?;
+        others = others.saturating_add(u64::from(!(narrow && wide)));
+    }
+    match println!(rt; "{name}: {rows} rows") {
+        Ok(()) => Ok(others),
+        Err(_) => Err(Refusal::Output),
+    }
+}
+
+/// Tables of rows about the graphs of single sources.
+#[derive(Clone, Copy)]
+pub(crate) struct SourceRows;
+
+impl Library for SourceRows {
+    fn try_rows<R>(&mut self, rt: &R, name: &str) -> Result<u64, Refusal>
+    where
+        R: AllocGlobal + Files + Print + Clone + Drop,
+    {
+        let alloc = rt.alloc();
+        let bytes = load(alloc, rt, name)?;
+        try_all(alloc, rt, name, &bytes)
     }
 }

@@ -10,43 +10,41 @@
 //! - `source`: a seed and the source that it makes.
 #![tactic(auto)]
 
-mod names;
 mod numbers;
 mod runfiles;
 mod sources;
 
-use crate::numbers::{arith_other, convert_other, range_other};
-use crate::runfiles::{file_other, refused_other, unwritten_other};
-use crate::sources::source_other;
+use crate::numbers::IntegerRows;
+use crate::runfiles::RunFileRows;
+use crate::sources::SeedRows;
 use std::alloc::Global;
 use std::rt::Files;
-use table_rows::{Fields, Flaw, Refusal, Table, try_table};
+use table_rows::{Fields, Flaw, Library, Refusal, Rows, Table};
 
-/// Tables of numbers, run files and sources.
+// All kinds of rows.
 #[derive(Clone, Copy)]
-struct NumberRows;
+struct AllRows;
 
-impl Table for NumberRows {
+impl Table for AllRows {
     fn other(&mut self, alloc: Global, row: &str) -> Result<Option<String>, Flaw> {
-        let mut columns = Fields::columns(row);
-        match columns.next()? {
-            "arith" => arith_other(alloc, columns),
-            "convert" => convert_other(alloc, columns),
-            "range" => range_other(alloc, columns),
-            "file" => file_other(alloc, columns),
-            "refused" => refused_other(alloc, columns),
-            "unwritten" => unwritten_other(alloc, columns),
-            "source" => source_other(alloc, columns),
+        match Fields::columns(row).next()? {
+            "arith" | "convert" | "range" => IntegerRows.other(alloc, row),
+            "file" | "refused" | "unwritten" => RunFileRows.other(alloc, row),
+            "source" => SeedRows.other(alloc, row),
             _ => Err(Flaw::Form),
         }
     }
 }
 
-/// Tries the rows of the table in the file of this name. It prints what came of each row that is not so, and how many rows there
-/// are; how many are not so.
-pub fn try_rows<R>(rt: &R, name: &str) -> Result<u64, Refusal>
-where
-    R: AllocGlobal + Files + Print + Clone + Drop,
-{
-    try_table(rt, &mut NumberRows, name)
+/// Tables of numbers, run files and sources.
+#[derive(Clone, Copy)]
+pub struct NumberTables;
+
+impl Library for NumberTables {
+    fn try_rows<R>(&mut self, rt: &R, name: &str) -> Result<u64, Refusal>
+    where
+        R: AllocGlobal + Files + Print + Clone + Drop,
+    {
+        Rows { table: AllRows }.try_rows(rt, name)
+    }
 }

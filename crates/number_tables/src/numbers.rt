@@ -3,11 +3,48 @@
 ghost use Rattle.std.specs.Prelude.{◌≡◌};
 ghost use Rattle.lv_base.specs.Integers.{is_promoted};
 
-use crate::names::{kind_in, op_in};
 use lv_base::{ErrorKind, Kind, Model, Op};
 use quick_integers::{arith, convert, greatest, in_range, least};
 use std::alloc::Global;
-use table_rows::{Fields, Flaw, other_than};
+use table_rows::{Fields, Flaw, Table, other_than};
+
+// The kind of a word.
+fn kind_in(word: &str) -> Result<Kind, Flaw> {
+    match word {
+        "bool" => Ok(Kind::Bool),
+        "char" => Ok(Kind::Char),
+        "uchar" => Ok(Kind::UChar),
+        "short" => Ok(Kind::Short),
+        "ushort" => Ok(Kind::UShort),
+        "int" => Ok(Kind::Int),
+        "uint" => Ok(Kind::UInt),
+        "long" => Ok(Kind::Long),
+        "ulong" => Ok(Kind::ULong),
+        "llong" => Ok(Kind::LongLong),
+        "ullong" => Ok(Kind::ULongLong),
+        _ => Err(Flaw::Form),
+    }
+}
+
+// The operation of a word.
+fn op_in(word: &str) -> Result<Op, Flaw> {
+    match word {
+        "+" => Ok(Op::Add),
+        "-" => Ok(Op::Sub),
+        "*" => Ok(Op::Mul),
+        "/" => Ok(Op::Div),
+        "%" => Ok(Op::Rem),
+        "<<" => Ok(Op::Shl),
+        ">>" => Ok(Op::Shr),
+        "&" => Ok(Op::And),
+        "|" => Ok(Op::Or),
+        "^" => Ok(Op::Xor),
+        "<" => Ok(Op::Less),
+        "<=" => Ok(Op::LessEqual),
+        "==" => Ok(Op::Equal),
+        _ => Err(Flaw::Form),
+    }
+}
 
 fn promoted(kind: Kind) -> bool
     ensures { result ≡ is_promoted kind }
@@ -55,8 +92,8 @@ fn both_said(
     Ok(format!(in alloc; "{quick} and {slow}")?)
 }
 
-/// What came of an operation, where it is another value or error.
-pub fn arith_other(alloc: Global, mut columns: Fields<'_>) -> Result<Option<String>, Flaw> {
+// What came of an operation, where it is another value or error.
+fn arith_other(alloc: Global, mut columns: Fields<'_>) -> Result<Option<String>, Flaw> {
     let op = op_in(columns.next()?)?;
     let kind = kind_in(columns.next()?)?;
     let model = columns.model()?;
@@ -69,8 +106,8 @@ pub fn arith_other(alloc: Global, mut columns: Fields<'_>) -> Result<Option<Stri
     Ok(other_than(wanted, came))
 }
 
-/// What came of a conversion, where it is another value.
-pub fn convert_other(alloc: Global, mut columns: Fields<'_>) -> Result<Option<String>, Flaw> {
+// What came of a conversion, where it is another value.
+fn convert_other(alloc: Global, mut columns: Fields<'_>) -> Result<Option<String>, Flaw> {
     let kind = kind_in(columns.next()?)?;
     let model = columns.model()?;
     let value = columns.number()?;
@@ -92,8 +129,8 @@ fn has(kind: Kind, model: Model, value: i128) -> (bool, bool) {
     )
 }
 
-/// What came of the least and the greatest value of a kind, where they are others, or values beside them are judged wrongly.
-pub fn range_other(alloc: Global, mut columns: Fields<'_>) -> Result<Option<String>, Flaw> {
+// What came of the least and the greatest value of a kind, where they are others, or values beside them are judged wrongly.
+fn range_other(alloc: Global, mut columns: Fields<'_>) -> Result<Option<String>, Flaw> {
     let kind = kind_in(columns.next()?)?;
     let model = columns.model()?;
     let low = columns.number()?;
@@ -107,4 +144,20 @@ pub fn range_other(alloc: Global, mut columns: Fields<'_>) -> Result<Option<Stri
         return Ok(None);
     }
     Ok(Some(format!(in alloc; "{from} to {to}")?))
+}
+
+/// Rows of operations, of conversions and of the ends of kinds.
+#[derive(Clone, Copy)]
+pub(crate) struct IntegerRows;
+
+impl Table for IntegerRows {
+    fn other(&mut self, alloc: Global, row: &str) -> Result<Option<String>, Flaw> {
+        let mut columns = Fields::columns(row);
+        match columns.next()? {
+            "arith" => arith_other(alloc, columns),
+            "convert" => convert_other(alloc, columns),
+            "range" => range_other(alloc, columns),
+            _ => Err(Flaw::Form),
+        }
+    }
 }

@@ -5,7 +5,7 @@ ghost use Rattle.stored_text.specs.RunText.{AreShort};
 
 use std::alloc::Global;
 use stored_text::{StoredFail, read_run, write_run};
-use table_rows::{Fields, Flaw, list_of, other_than, text_of};
+use table_rows::{Fields, Flaw, Table, list_of, other_than, text_of};
 
 const BEYOND: u128 = 100_000_000_000_000_000_000;
 
@@ -57,8 +57,8 @@ fn written_other(alloc: Global, bytes: &[u8], values: &[i128]) -> Result<Option<
     }
 }
 
-/// What came of a run file that is read and written back, where it is something else.
-pub fn file_other(alloc: Global, mut columns: Fields<'_>) -> Result<Option<String>, Flaw> {
+// What came of a run file that is read and written back, where it is something else.
+fn file_other(alloc: Global, mut columns: Fields<'_>) -> Result<Option<String>, Flaw> {
     let bytes = text_of(alloc, columns.next()?)?;
     let values = next_values(alloc, &mut columns)?;
     columns.end()?;
@@ -68,8 +68,8 @@ pub fn file_other(alloc: Global, mut columns: Fields<'_>) -> Result<Option<Strin
     }
 }
 
-/// What came of a file that is no run file, where it is refused in another way.
-pub fn refused_other(alloc: Global, mut columns: Fields<'_>) -> Result<Option<String>, Flaw> {
+// What came of a file that is no run file, where it is refused in another way.
+fn refused_other(alloc: Global, mut columns: Fields<'_>) -> Result<Option<String>, Flaw> {
     let bytes = text_of(alloc, columns.next()?)?;
     let wanted = columns.next()?;
     columns.end()?;
@@ -79,8 +79,8 @@ pub fn refused_other(alloc: Global, mut columns: Fields<'_>) -> Result<Option<St
     }
 }
 
-/// What came of values that have no run file, where they are refused in another way.
-pub fn unwritten_other(alloc: Global, mut columns: Fields<'_>) -> Result<Option<String>, Flaw> {
+// What came of values that have no run file, where they are refused in another way.
+fn unwritten_other(alloc: Global, mut columns: Fields<'_>) -> Result<Option<String>, Flaw> {
     let values = next_values(alloc, &mut columns)?;
     let wanted = columns.next()?;
     columns.end()?;
@@ -88,5 +88,21 @@ pub fn unwritten_other(alloc: Global, mut columns: Fields<'_>) -> Result<Option<
     match write_run(alloc, &values) {
         Ok(_) => Ok(Some(String::from_str(alloc, "it is written")?)),
         Err(fail) => Ok(other_than(wanted, failed(alloc, fail)?)),
+    }
+}
+
+/// Rows of run files.
+#[derive(Clone, Copy)]
+pub(crate) struct RunFileRows;
+
+impl Table for RunFileRows {
+    fn other(&mut self, alloc: Global, row: &str) -> Result<Option<String>, Flaw> {
+        let mut columns = Fields::columns(row);
+        match columns.next()? {
+            "file" => file_other(alloc, columns),
+            "refused" => refused_other(alloc, columns),
+            "unwritten" => unwritten_other(alloc, columns),
+            _ => Err(Flaw::Form),
+        }
     }
 }

@@ -1,7 +1,7 @@
 //! The sources of seeds.
 
 use std::alloc::Global;
-use table_rows::{Fields, Flaw, text_of};
+use table_rows::{Fields, Flaw, Table, text_of};
 use task_gen::generate;
 
 fn next_seed(columns: &mut Fields<'_>) -> Result<u32, Flaw> {
@@ -11,14 +11,21 @@ fn next_seed(columns: &mut Fields<'_>) -> Result<u32, Flaw> {
     }
 }
 
-/// That another source came of a seed, where it is so.
-pub fn source_other(alloc: Global, mut columns: Fields<'_>) -> Result<Option<String>, Flaw> {
-    let seed = next_seed(&mut columns)?;
-    let wanted = text_of(alloc, columns.next()?)?;
-    columns.end()?;
-    let source = generate(alloc, seed)?;
-    if source.as_slice() == wanted.as_slice() {
-        return Ok(None);
+/// Rows of seeds.
+#[derive(Clone, Copy)]
+pub(crate) struct SeedRows;
+
+impl Table for SeedRows {
+    fn other(&mut self, alloc: Global, row: &str) -> Result<Option<String>, Flaw> {
+        let mut columns = Fields::columns(row);
+        columns.next()?;
+        let seed = next_seed(&mut columns)?;
+        let wanted = text_of(alloc, columns.next()?)?;
+        columns.end()?;
+        let source = generate(alloc, seed)?;
+        if source.as_slice() == wanted.as_slice() {
+            return Ok(None);
+        }
+        Ok(Some(String::from_str(alloc, "another source")?))
     }
-    Ok(Some(String::from_str(alloc, "another source")?))
 }

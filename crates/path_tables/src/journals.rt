@@ -1,10 +1,11 @@
 //! What the journal of an exploration tells of pairs of vertices.
 
+use crate::graph_of;
 use c_graph::Graph;
 use cover_engine::UnitDone;
 use explore::{Explored, explore};
 use reach_tree::VertexId;
-use row_text::RowFail;
+use row_text::{RowFail, Table, fields, number};
 use std::alloc::Global;
 
 // The most clauses that one question to the solver learns.
@@ -55,9 +56,9 @@ fn some_is_covered_again(journal: &[UnitDone]) -> bool {
     false
 }
 
-/// Whether an exploration by at most so many units is complete, and in its journal a pair is covered, later a path is strengthened, and
-/// later the same pair is covered again. Since a pair that stands is not covered again, the strengthening has removed it.
-pub(crate) fn covers_again(alloc: Global, graph: &Graph, units: u64) -> Result<bool, RowFail> {
+// Whether an exploration by at most so many units is complete, and in its journal a pair is covered, later a path is strengthened, and
+// later the same pair is covered again. Since a pair that stands is not covered again, the strengthening has removed it.
+fn covers_again(alloc: Global, graph: &Graph, units: u64) -> Result<bool, RowFail> {
     if units == 0 {
         return Err(RowFail::Bad);
     }
@@ -65,5 +66,27 @@ pub(crate) fn covers_again(alloc: Global, graph: &Graph, units: u64) -> Result<b
         Ok(Explored::Complete(unwinding)) => Ok(some_is_covered_again(unwinding.journal())),
         Ok(_) => Ok(false),
         Err(_) => Err(RowFail::Memory),
+    }
+}
+
+// Tries the row of a pair that is covered, removed, and covered again.
+fn is_again(alloc: Global, source: &str, rest: &str) -> Result<bool, RowFail> {
+    let graph = graph_of(alloc, source)?;
+    covers_again(alloc, &graph, u64::from(number(Some(rest))?))
+}
+
+/// Rows of explorations of the graph of this source's blocks.
+#[derive(Drop)]
+pub(crate) struct JournalRows<'a> {
+    pub(crate) source: &'a str,
+}
+
+impl Table for JournalRows<'_> {
+    fn is_so(&mut self, alloc: Global, row: &str) -> Result<bool, RowFail> {
+        let (kind, rest) = fields(row);
+        match kind {
+            "again" => is_again(alloc, self.source, rest),
+            _ => Err(RowFail::Bad),
+        }
     }
 }

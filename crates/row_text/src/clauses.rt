@@ -1,10 +1,16 @@
+ghost use Rattle.std.specs.Prelude.{IfOk};
+ghost use Rattle.row_text.specs.Words.{SpellsLiteral};
+
 use crate::fails::RowFail;
 use crate::words::number;
 use prop::{Clauses, Lit};
 use std::alloc::Global;
 
 /// The literal of a word: the number of its variable, behind a minus where it is the negation.
-pub fn lit_in(word: &str) -> Result<Lit, RowFail> {
+#[tactic(auto, using(std::proofs::lemmas::Str::Pattern::strip_prefix_char))]
+pub fn lit_in(word: &str) -> Result<Lit, RowFail>
+    ensures { IfOk result (λ l. SpellsLiteral word.now l.positive l.var) }
+{
     match word.strip_prefix('-') {
         Some(rest) => Ok(Lit {
             var: number(Some(rest))?,

@@ -9,7 +9,7 @@ mod words;
 
 pub use clauses::{clauses_in, lit_in, literal_rows, lits_in};
 pub use fails::RowFail;
-pub use table_rows::Refusal;
-pub use tables::{Table, try_table};
+pub use table_rows::{Library, Refusal, Rows};
+pub use tables::{Stated, Table};
 pub use terms::{one_term, terms_in};
 pub use words::{fields, half, halves, number, numbers, wide, wides};

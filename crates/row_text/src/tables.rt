@@ -2,8 +2,7 @@
 
 use crate::fails::RowFail;
 use std::alloc::Global;
-use std::rt::Files;
-use table_rows::{Flaw, Refusal};
+use table_rows::Flaw;
 
 /// What tries a row.
 pub trait Table {
@@ -13,13 +12,13 @@ pub trait Table {
     fn is_so(&mut self, alloc: Global, row: &str) -> Result<bool, RowFail>;
 }
 
-// A table of statements as one of which is told what came: the row itself, where it is not so.
+/// A table of statements as one of which is told what came: the row itself, where it is not so.
 #[derive(Drop)]
-struct Stated<'a, T> {
-    table: &'a mut T,
+pub struct Stated<T> {
+    pub table: T,
 }
 
-impl<T: Table> table_rows::Table for Stated<'_, T> {
+impl<T: Table> table_rows::Table for Stated<T> {
     fn other(&mut self, alloc: Global, row: &str) -> Result<Option<String>, Flaw> {
         match self.table.is_so(alloc, row) {
             Ok(true) => Ok(None),
@@ -28,14 +27,4 @@ impl<T: Table> table_rows::Table for Stated<'_, T> {
             Err(RowFail::Memory) => Err(Flaw::Memory),
         }
     }
-}
-
-/// Tries the rows of the table in the file of this name. It prints each row that is not so, and how many rows there are; how many are
-/// not so.
-pub fn try_table<R, T>(rt: &R, table: &mut T, name: &str) -> Result<u64, Refusal>
-where
-    R: AllocGlobal + Files + Print + Clone + Drop,
-    T: Table,
-{
-    table_rows::try_table(rt, &mut Stated { table }, name)
 }

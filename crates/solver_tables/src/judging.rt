@@ -5,10 +5,11 @@
 //! was taken once is put back, and then taken again.
 ghost use Rattle.std.specs.Prelude.{◌≡◌, length, IfOk};
 
-use crate::trails::{is_set, push};
+use crate::push;
+use crate::trails::is_set;
 use dense_trail::{Trail, negation};
 use resolution_log::Rows;
-use row_text::{RowFail, fields, half, halves, number, numbers};
+use row_text::{RowFail, Table, fields, half, halves, number, numbers};
 use std::alloc::Global;
 use watched_clauses::{Finding, Watch, WatchLists, judge};
 
@@ -58,8 +59,8 @@ fn found_at(alloc: Global, trues: &[u32], falsified: u32, number: u32) -> Result
     Ok(judge(&clauses, &watches, &trail, falsified, number))
 }
 
-/// Tries the row of what a clause asks for.
-pub(crate) fn finds(alloc: Global, rest: &str) -> Result<bool, RowFail> {
+// Tries the row of what a clause asks for.
+fn finds(alloc: Global, rest: &str) -> Result<bool, RowFail> {
     let (inputs, wanted) = halves(rest)?;
     let mut parts = inputs.split(';');
     let clause = number(Some(half(parts.next())?))?;
@@ -99,8 +100,8 @@ fn is_list(lists: &mut WatchLists, code: u32, wanted: &[u32]) -> bool
     is_taken
 }
 
-/// Tries the row of lists.
-pub(crate) fn has_lists(alloc: Global, rest: &str) -> Result<bool, RowFail> {
+// Tries the row of lists.
+fn has_lists(alloc: Global, rest: &str) -> Result<bool, RowFail> {
     let Some((puts, cases)) = rest.split_once(';') else {
         return Err(RowFail::Bad);
     };
@@ -113,4 +114,19 @@ pub(crate) fn has_lists(alloc: Global, rest: &str) -> Result<bool, RowFail> {
         }
     }
     Ok(true)
+}
+
+/// Rows of watched clauses, and of lists of them.
+#[derive(Drop)]
+pub(crate) struct WatchRows;
+
+impl Table for WatchRows {
+    fn is_so(&mut self, alloc: Global, row: &str) -> Result<bool, RowFail> {
+        let (kind, rest) = fields(row);
+        match kind {
+            "judge" => finds(alloc, rest),
+            "lists" => has_lists(alloc, rest),
+            _ => Err(RowFail::Bad),
+        }
+    }
 }

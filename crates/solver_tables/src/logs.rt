@@ -7,7 +7,7 @@ ghost use Rattle.std.specs.Prelude.{◌≤◌, length};
 ghost use Rattle.std.specs.List.Sorted.{IsStrictlyIncreasing};
 
 use resolution_log::{Chain, Log, LogFail, Pairs, check_log, coded, number_of, variables};
-use row_text::{RowFail, clauses_in, fields, half, number, numbers};
+use row_text::{RowFail, Table, clauses_in, fields, half, number, numbers};
 use std::alloc::Global;
 
 // The chain of a part of a row.
@@ -38,8 +38,8 @@ fn is_verdict(found: &Result<(), LogFail>, verdict: &str) -> Result<bool, RowFai
     }
 }
 
-/// Tries the row of a log.
-pub(crate) fn has_verdict(alloc: Global, rest: &str) -> Result<bool, RowFail> {
+// Tries the row of a log.
+fn has_verdict(alloc: Global, rest: &str) -> Result<bool, RowFail> {
     let mut parts = rest.split(';');
     let verdict = half(parts.next())?;
     let clauses = clauses_in(alloc, half(parts.next())?)?;
@@ -65,8 +65,8 @@ fn are_numbered(vars: &[u32]) -> bool
     true
 }
 
-/// Tries the row of codes.
-pub(crate) fn has_codes(alloc: Global, rest: &str) -> Result<bool, RowFail> {
+// Tries the row of codes.
+fn has_codes(alloc: Global, rest: &str) -> Result<bool, RowFail> {
     let mut parts = rest.split(';');
     let clauses = clauses_in(alloc, half(parts.next())?)?;
     let wanted = numbers(alloc, half(parts.next())?)?;
@@ -88,4 +88,19 @@ pub(crate) fn has_codes(alloc: Global, rest: &str) -> Result<bool, RowFail> {
         count += 1;
     }
     Ok(count == rows.len() && rows.is_empty() == (count == 0))
+}
+
+/// Rows of logs, and of the codes of clauses.
+#[derive(Drop)]
+pub(crate) struct LogRows;
+
+impl Table for LogRows {
+    fn is_so(&mut self, alloc: Global, row: &str) -> Result<bool, RowFail> {
+        let (kind, rest) = fields(row);
+        match kind {
+            "log" => has_verdict(alloc, rest),
+            "codes" => has_codes(alloc, rest),
+            _ => Err(RowFail::Bad),
+        }
+    }
 }

@@ -4,10 +4,10 @@
 ghost use Rattle.std.specs.Prelude.{IsTrue};
 ghost use Rattle.resolution_log.specs.Codes.{AllBelow};
 
-use crate::trails::push;
+use crate::push;
 use conflict_analysis::Notes;
 use dense_trail::Trail;
-use row_text::{RowFail, fields, number, numbers};
+use row_text::{RowFail, Table, fields, number, numbers};
 use std::alloc::Global;
 
 // The trail.
@@ -58,8 +58,8 @@ fn step(alloc: Global, trail: &Trail, notes: &mut Notes, part: &str) -> Result<b
     }
 }
 
-/// Tries the row.
-pub(crate) fn goes(alloc: Global, rest: &str) -> Result<bool, RowFail> {
+// Tries the row.
+fn goes(alloc: Global, rest: &str) -> Result<bool, RowFail> {
     let trail = trail_of_four(alloc)?;
     let mut notes = Notes::new(alloc, 4)?;
     notes.clear()?;
@@ -69,4 +69,18 @@ pub(crate) fn goes(alloc: Global, rest: &str) -> Result<bool, RowFail> {
         }
     }
     Ok(true)
+}
+
+/// Rows of the notes of a conflict.
+#[derive(Drop)]
+pub(crate) struct NoteRows;
+
+impl Table for NoteRows {
+    fn is_so(&mut self, alloc: Global, row: &str) -> Result<bool, RowFail> {
+        let (kind, rest) = fields(row);
+        match kind {
+            "notes" => goes(alloc, rest),
+            _ => Err(RowFail::Bad),
+        }
+    }
 }

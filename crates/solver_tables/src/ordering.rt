@@ -4,7 +4,7 @@
 //! or `false`: it comes back, and was that last; `true VARIABLES` and `false VARIABLES`: what they were last.
 
 use activity_heap::Order;
-use row_text::{RowFail, fields, half, number, numbers};
+use row_text::{RowFail, Table, fields, half, number, numbers};
 use std::alloc::Global;
 
 fn bump_one(order: &mut Order, number: u32) -> Result<(), RowFail> {
@@ -93,8 +93,8 @@ fn step(alloc: Global, order: &mut Order, part: &str) -> Result<bool, RowFail> {
     }
 }
 
-/// Tries the row.
-pub(crate) fn goes(alloc: Global, rest: &str) -> Result<bool, RowFail> {
+// Tries the row.
+fn goes(alloc: Global, rest: &str) -> Result<bool, RowFail> {
     let mut parts = rest.split(';');
     let mut order = Order::new(alloc, number(Some(half(parts.next())?))?)?;
     for part in parts {
@@ -103,4 +103,18 @@ pub(crate) fn goes(alloc: Global, rest: &str) -> Result<bool, RowFail> {
         }
     }
     Ok(true)
+}
+
+/// Rows of the order of the variables.
+#[derive(Drop)]
+pub(crate) struct OrderRows;
+
+impl Table for OrderRows {
+    fn is_so(&mut self, alloc: Global, row: &str) -> Result<bool, RowFail> {
+        let (kind, rest) = fields(row);
+        match kind {
+            "order" => goes(alloc, rest),
+            _ => Err(RowFail::Bad),
+        }
+    }
 }

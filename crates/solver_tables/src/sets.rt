@@ -7,7 +7,7 @@
 use clause_learning::{Answer, MOST_PAIRS, SolveFail};
 use prop::Clauses;
 use resolution_log::{Log, LogFail, check_log};
-use row_text::{RowFail, clauses_in, fields, halves, number, numbers};
+use row_text::{RowFail, Table, clauses_in, fields, halves, number, numbers};
 use std::alloc::Global;
 
 #[derive(Clone, Copy, Debug, PartialEq)]
@@ -156,8 +156,8 @@ fn has_answer(
     }
 }
 
-/// Tries the row.
-pub(crate) fn has_answers(alloc: Global, rest: &str) -> Result<bool, RowFail> {
+// Tries the row.
+fn has_answers(alloc: Global, rest: &str) -> Result<bool, RowFail> {
     let Some((set, questions)) = rest.split_once(';') else {
         return Err(RowFail::Bad);
     };
@@ -169,4 +169,18 @@ pub(crate) fn has_answers(alloc: Global, rest: &str) -> Result<bool, RowFail> {
         }
     }
     Ok(true)
+}
+
+/// Rows of sets of clauses.
+#[derive(Drop)]
+pub(crate) struct SetRows;
+
+impl Table for SetRows {
+    fn is_so(&mut self, alloc: Global, row: &str) -> Result<bool, RowFail> {
+        let (kind, rest) = fields(row);
+        match kind {
+            "set" => has_answers(alloc, rest),
+            _ => Err(RowFail::Bad),
+        }
+    }
 }

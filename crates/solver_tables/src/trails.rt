@@ -4,8 +4,9 @@
 ghost use Rattle.std.specs.Prelude.{◌≡◌};
 ghost use Rattle.dense_trail.specs.Dense.{is_true};
 
+use crate::push;
 use dense_trail::{Trail, negation};
-use row_text::{RowFail, fields, half, halves, number, numbers};
+use row_text::{RowFail, Table, fields, half, halves, number, numbers};
 use std::alloc::Global;
 
 // Whether a literal is true; those past the end are not.
@@ -26,23 +27,6 @@ fn option_in(word: &str) -> Result<Option<u32>, RowFail> {
     } else {
         Ok(Some(number(Some(word))?))
     }
-}
-
-/// Makes a literal true, which has to have no value.
-pub(crate) fn push(
-    trail: &mut Trail,
-    code: u32,
-    level: u32,
-    reason: Option<u32>,
-) -> Result<(), RowFail> {
-    if code as usize >= trail.truth.len()
-        || is_set(&trail.truth, code)
-        || is_set(&trail.truth, negation(code))
-    {
-        return Err(RowFail::Bad);
-    }
-    trail.push(code, level, reason)?;
-    Ok(())
 }
 
 fn push_in(trail: &mut Trail, rest: &str) -> Result<bool, RowFail> {
@@ -96,8 +80,8 @@ fn step(alloc: Global, trail: &mut Trail, part: &str) -> Result<bool, RowFail> {
     }
 }
 
-/// Tries the row.
-pub(crate) fn goes(alloc: Global, rest: &str) -> Result<bool, RowFail> {
+// Tries the row.
+fn goes(alloc: Global, rest: &str) -> Result<bool, RowFail> {
     let mut parts = rest.split(';');
     let vars = number(Some(half(parts.next())?))? as usize;
     if vars > 1000 {
@@ -110,4 +94,18 @@ pub(crate) fn goes(alloc: Global, rest: &str) -> Result<bool, RowFail> {
         }
     }
     Ok(true)
+}
+
+/// Rows of trails.
+#[derive(Drop)]
+pub(crate) struct TrailRows;
+
+impl Table for TrailRows {
+    fn is_so(&mut self, alloc: Global, row: &str) -> Result<bool, RowFail> {
+        let (kind, rest) = fields(row);
+        match kind {
+            "trail" => goes(alloc, rest),
+            _ => Err(RowFail::Bad),
+        }
+    }
 }

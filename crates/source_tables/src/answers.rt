@@ -1,9 +1,8 @@
-//! What is asked of a source, and what is answered.
+//! What is asked of a source, and what is answered, row by row.
 
-use crate::page::Page;
-use crate::rows::{Question, row_of};
-use crate::tokens::show_tokens;
-use crate::trees::{show_examined, show_functions, show_last_body, show_objects};
+use crate::tokens::Tokens;
+use crate::trees::{Functions, Known, LastBody, Objects};
+use crate::{Page, Question, Row, Shown, row_of, source_of};
 use c_lexer::Token;
 use c_parser::parse;
 use c_rules::Examined;
@@ -15,13 +14,15 @@ use high_tree_laws::the_only;
 use lv_base::{Model, SourceFail};
 use source_checks::{accepted, elaborate};
 use std::alloc::Global;
+use std::rt::Files;
 use std::str;
+use table_rows::{Library, Refusal, load};
 
-/// What is answered of a source, from its bytes on: what was asked, or the number of the first rule that it breaks with its
-/// offset, or that of a limit behind 100 with the count that passed it.
-///
-/// Fails with `Memory`, and never with another one.
-pub fn answer(
+// What is answered of a source, from its bytes on: what was asked, or the number of the first rule that it breaks with its
+// offset, or that of a limit behind 100 with the count that passed it.
+//
+// Fails with `Memory`, and never with another one.
+fn answer(
     alloc: Global,
     question: Question,
     model: Model,
@@ -74,7 +75,7 @@ fn put_answer(
 
 fn put_tokens(alloc: Global, page: &mut Page, source: &[u8]) -> Result<(), SourceFail> {
     let tokens = tokens_of(alloc, source)?;
-    show_tokens(page, &tokens);
+    Tokens { all: &tokens }.show(page);
     Ok(())
 }
 
@@ -151,13 +152,19 @@ fn put_objects(
     source: &[u8],
 ) -> Result<(), SourceFail> {
     let typed = typed_of(alloc, source, model)?;
-    show_objects(page, typed.objects());
+    Objects {
+        all: typed.objects(),
+    }
+    .show(page);
     Ok(())
 }
 
 fn put_body(alloc: Global, page: &mut Page, model: Model, source: &[u8]) -> Result<(), SourceFail> {
     let typed = typed_of(alloc, source, model)?;
-    show_last_body(page, typed.functions());
+    LastBody {
+        all: typed.functions(),
+    }
+    .show(page);
     Ok(())
 }
 
@@ -168,9 +175,15 @@ fn put_typed(
     source: &[u8],
 ) -> Result<(), SourceFail> {
     let typed = typed_of(alloc, source, model)?;
-    show_objects(page, typed.objects());
+    Objects {
+        all: typed.objects(),
+    }
+    .show(page);
     page.put("/ ");
-    show_functions(page, typed.functions());
+    Functions {
+        all: typed.functions(),
+    }
+    .show(page);
     Ok(())
 }
 
@@ -183,6 +196,99 @@ fn put_examined(
     let examined = examined_of(alloc, source, model)?;
     page.put(examined.typed().model().name());
     page.put(" ");
-    show_examined(page, &examined);
+    Known { program: &examined }.show(page);
     Ok(())
+}
+
+// How many answers there were, and how many of them were others.
+#[derive(Clone, Copy, Debug, PartialEq)]
+struct Tried {
+    runs: u64,
+    others: u64,
+}
+
+// Asks what a row asks under one data model, and prints an answer that is another one.
+fn try_one<R: Print>(
+    alloc: Global,
+    rt: &R,
+    line: u32,
+    row: &Row<'_>,
+    model: Model,
+    source: &[u8],
+    tried: &mut Tried,
+) -> Result<(), Refusal> {
+    let Ok(page) = answer(alloc, row.question, model, source) else {
+        return Err(Refusal::Memory);
+    };
+    tried.runs = tried.runs.saturating_add(1);
+    if page.text() == row.answer {
+        return Ok(());
+    }
+    tried.others = tried.others.saturating_add(1);
+    let (name, text) = (model.name(), page.text());
+    match println!(rt; "line {line}, {name}: {text}") {
+        Ok(()) => Ok(()),
+        Err(_) => Err(Refusal::Output),
+    }
+}
+
+// Tries a row under its data models.
+fn try_row<R: Print>(
+    alloc: Global,
+    rt: &R,
+    line: u32,
+    row: &Row<'_>,
+    source: &[u8],
+    tried: &mut Tried,
+) -> Result<(), Refusal> {
+    for model in [Model::Ilp32, Model::Lp64] {
+        if row.models.has(model) {
+            try_one(alloc, rt, line, row, model, source, tried)?;
+        }
+    }
+    Ok(())
+}
+
+// Tries the rows of a table.
+fn try_all<R: Print>(alloc: Global, rt: &R, table: &str) -> Result<Tried, Refusal> {
+    let mut tried = Tried { runs: 0, others: 0 };
+    let mut shared = Vec::new(alloc);
+    let mut line = 0u32;
+    for words in table.lines() {
+        line = line.saturating_add(1);
+        if words.is_empty() || words.starts_with("#") {
+            continue;
+        }
+        if let Some(text) = words.strip_prefix("shared\t") {
+            shared = source_of(alloc, &[], text)?;
+            continue;
+        }
+        let row = row_of(line, words)?;
+        let source = source_of(alloc, &shared, row.source)?;
+        try_row(alloc, rt, line, &row, &source, &mut tried)?;
+    }
+    Ok(tried)
+}
+
+/// Tables of sources.
+#[derive(Clone, Copy)]
+pub struct SourceTables;
+
+impl Library for SourceTables {
+    fn try_rows<R>(&mut self, rt: &R, name: &str) -> Result<u64, Refusal>
+    where
+        R: AllocGlobal + Files + Print + Clone + Drop,
+    {
+        let alloc = rt.alloc();
+        let table = load(alloc, rt, name)?;
+        let Ok(text) = str::from_utf8(&table) else {
+            return Err(Refusal::Text);
+        };
+        let tried = try_all(alloc, rt, text)?;
+        let runs = tried.runs;
+        if println!(rt; "{name}: {runs} runs").is_err() {
+            return Err(Refusal::Output);
+        }
+        Ok(tried.others)
+    }
 }

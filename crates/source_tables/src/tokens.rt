@@ -1,16 +1,22 @@
 //! Tokens as text: what each is, and between which offsets it stands.
 
-use crate::page::Page;
-use crate::words::name_word;
+use crate::{Page, Shown, name_word};
 use c_lexer::{NumberForm, Token, TokenKind};
 
-/// Writes tokens with a blank between them.
-pub fn show_tokens(page: &mut Page, tokens: &[Token]) {
-    for (i, token) in tokens.iter().enumerate() {
-        if i > 0 {
-            page.put(" ");
+/// Tokens, with a blank between them.
+#[derive(Clone, Copy)]
+pub(crate) struct Tokens<'a> {
+    pub(crate) all: &'a [Token],
+}
+
+impl Shown for Tokens<'_> {
+    fn show(&self, page: &mut Page) {
+        for (i, token) in self.all.iter().enumerate() {
+            if i > 0 {
+                page.put(" ");
+            }
+            show_token(page, token);
         }
-        show_token(page, token);
     }
 }
 

@@ -1,3 +1,10 @@
+ghost use Rattle.std.specs.Prelude.{◌≡◌, ◌==◌, ◌∷◌, [], if◌then◌else◌, length, is_ok, is_none, Some, None, IsErr, IsSomeAnd, IfOk, MatchOption};
+ghost use Rattle.std.specs.Result.{result_ok};
+ghost use Rattle.std.specs.Int.{w128};
+ghost use Rattle.std.specs.Str.Parse.{ParsesSigned, ParsesUnsigned};
+ghost use Rattle.lv_base.specs.Names.{model_name};
+ghost use Rattle.table_rows.specs.Fields.{IsTaken, IsTakenSo};
+
 use crate::Flaw;
 use lv_base::Model;
 use std::alloc::Global;
@@ -12,7 +19,10 @@ pub struct Fields<'a> {
 
 impl<'a> Fields<'a> {
     /// The columns of a row.
-    pub fn columns(row: &'a str) -> Fields<'a> {
+    pub fn columns(row: &'a str) -> Fields<'a>
+        ensures mark { result.mark.now ≡ 9 ∷ [] }
+        ensures rest { result.rest ≡ Some row.entry }
+    {
         Fields {
             mark: "\t",
             rest: Some(row),
@@ -20,7 +30,10 @@ impl<'a> Fields<'a> {
     }
 
     /// What stands in a text with this mark between; nothing in an empty text.
-    pub fn parts(text: &'a str, mark: &'static str) -> Fields<'a> {
+    pub fn parts(text: &'a str, mark: &'static str) -> Fields<'a>
+        ensures mark { result.mark ≡ mark.entry }
+        ensures rest { result.rest ≡ (if length text.now == 0 then None else Some text.entry) }
+    {
         Fields {
             mark,
             rest: if text.is_empty() { None } else { Some(text) },
@@ -28,7 +41,11 @@ impl<'a> Fields<'a> {
     }
 
     /// The next one; none behind the last.
-    pub fn take(&mut self) -> Option<&'a str> {
+    #[tactic(auto, using(std::proofs::lemmas::Str::Pattern::split_text_parts))]
+    pub fn take(&mut self) -> Option<&'a str>
+        ensures mark { self.new.mark ≡ self.old.mark }
+        ensures taken { IsTaken self.old.mark.now self.old.rest result self.new.rest }
+    {
         let rest = self.rest?;
         match rest.split_once(self.mark) {
             Some((first, behind)) => {
@@ -43,24 +60,35 @@ impl<'a> Fields<'a> {
     }
 
     /// What is left, with the marks in it.
-    pub fn left(&self) -> Option<&'a str> {
+    pub fn left(&self) -> Option<&'a str>
+        ensures { result ≡ self.now.rest }
+    {
         self.rest
     }
 
     /// The next one.
     ///
     /// Fails with `Form` behind the last.
-    pub fn next(&mut self) -> Result<&'a str, Flaw> {
+    pub fn next(&mut self) -> Result<&'a str, Flaw>
+        ensures mark { self.new.mark ≡ self.old.mark }
+        ensures taken { IsTaken self.old.mark.now self.old.rest (result_ok result) self.new.rest }
+    {
         self.take().ok_or(Flaw::Form)
     }
 
     /// The next one, as a number.
-    pub fn number(&mut self) -> Result<i128, Flaw> {
+    pub fn number(&mut self) -> Result<i128, Flaw>
+        ensures mark { self.new.mark ≡ self.old.mark }
+        ensures spelled { IsTakenSo (λ first. MatchOption first (IsErr result) (λ word. ParsesSigned w128 10 word.now result)) self.old.mark.now self.old.rest self.new.rest }
+    {
         number_of(self.next()?)
     }
 
     /// The next one, as a count.
-    pub fn count(&mut self) -> Result<u64, Flaw> {
+    pub fn count(&mut self) -> Result<u64, Flaw>
+        ensures mark { self.new.mark ≡ self.old.mark }
+        ensures spelled { IsTakenSo (λ first. MatchOption first (IsErr result) (λ word. ParsesUnsigned 64 10 word.now result)) self.old.mark.now self.old.rest self.new.rest }
+    {
         match self.next()?.parse::<u64>() {
             Ok(count) => Ok(count),
             Err(_) => Err(Flaw::Form),
@@ -68,7 +96,10 @@ impl<'a> Fields<'a> {
     }
 
     /// The next one, as a data model.
-    pub fn model(&mut self) -> Result<Model, Flaw> {
+    pub fn model(&mut self) -> Result<Model, Flaw>
+        ensures mark { self.new.mark ≡ self.old.mark }
+        ensures named { IfOk result (λ model. IsTakenSo (λ first. IsSomeAnd first (λ word. word.now ≡ model_name model)) self.old.mark.now self.old.rest self.new.rest) }
+    {
         match self.next()? {
             "ilp32" => Ok(Model::Ilp32),
             "lp64" => Ok(Model::Lp64),
@@ -79,7 +110,9 @@ impl<'a> Fields<'a> {
     /// That nothing is left.
     ///
     /// Fails with `Form` where there is.
-    pub fn end(&self) -> Result<(), Flaw> {
+    pub fn end(&self) -> Result<(), Flaw>
+        ensures { is_ok result ≡ is_none self.now.rest }
+    {
         match self.rest {
             None => Ok(()),
             Some(_) => Err(Flaw::Form),
@@ -90,7 +123,9 @@ impl<'a> Fields<'a> {
 /// The number that a word spells.
 ///
 /// Fails with `Form` where it spells none.
-pub fn number_of(word: &str) -> Result<i128, Flaw> {
+pub fn number_of(word: &str) -> Result<i128, Flaw>
+    ensures { ParsesSigned w128 10 word.now result }
+{
     match word.parse::<i128>() {
         Ok(number) => Ok(number),
         Err(_) => Err(Flaw::Form),

@@ -15,5 +15,5 @@ pub use fields::{Fields, list_of, number_of};
 pub use files::load;
 pub use naming::{status_for, try_named};
 pub use refusal::{Flaw, Refusal};
-pub use table::{Table, other_than, try_table};
+pub use table::{Library, Rows, Table, other_than};
 pub use text::text_of;

@@ -1,5 +1,7 @@
 //! Tables are files of rows, one a line. Lines that begin with `#`, and empty ones, are left out.
 
+ghost use Rattle.std.specs.Prelude.{◌≡◌, ◌≢◌, MatchOption, string_bytes};
+
 use crate::{Flaw, Refusal, load};
 use std::alloc::Global;
 use std::rt::Files;
@@ -13,8 +15,19 @@ pub trait Table {
     fn other(&mut self, alloc: Global, row: &str) -> Result<Option<String>, Flaw>;
 }
 
+/// What tries the rows of files.
+pub trait Library {
+    /// Tries the rows of the table in the file of this name. It prints what came of each row that is not so, and how many rows there
+    /// are; how many are not so.
+    fn try_rows<R>(&mut self, rt: &R, name: &str) -> Result<u64, Refusal>
+    where
+        R: AllocGlobal + Files + Print + Clone + Drop;
+}
+
 /// What came, where it is another text than is wanted.
-pub fn other_than(wanted: &str, came: String) -> Option<String> {
+pub fn other_than(wanted: &str, came: String) -> Option<String>
+    ensures { MatchOption result (string_bytes came ≡ wanted.now) (λ other. (other ≡ came) × (string_bytes came ≢ wanted.now)) }
+{
     if came.as_str() == wanted {
         None
     } else {
@@ -74,18 +87,23 @@ fn try_all<R: Print, T: Table>(
     Ok(tried)
 }
 
-/// Tries the rows of the table in the file of this name. It prints what came of each row that is not so, and how many rows there
-/// are; how many are not so.
-pub fn try_table<R, T>(rt: &R, table: &mut T, name: &str) -> Result<u64, Refusal>
-where
-    R: AllocGlobal + Files + Print + Clone + Drop,
-    T: Table,
-{
-    let alloc = rt.alloc();
-    let bytes = load(alloc, rt, name)?;
-    let Tried { rows, others } = try_all(alloc, rt, table, &bytes)?;
-    match println!(rt; "{name}: {rows} rows") {
-        Ok(()) => Ok(others),
-        Err(_) => Err(Refusal::Output),
+/// The rows that a table tries.
+#[derive(Drop)]
+pub struct Rows<T> {
+    pub table: T,
+}
+
+impl<T: Table> Library for Rows<T> {
+    fn try_rows<R>(&mut self, rt: &R, name: &str) -> Result<u64, Refusal>
+    where
+        R: AllocGlobal + Files + Print + Clone + Drop,
+    {
+        let alloc = rt.alloc();
+        let bytes = load(alloc, rt, name)?;
+        let Tried { rows, others } = try_all(alloc, rt, &mut self.table, &bytes)?;
+        match println!(rt; "{name}: {rows} rows") {
+            Ok(()) => Ok(others),
+            Err(_) => Err(Refusal::Output),
+        }
     }
 }

@@ -2,9 +2,6 @@
 //! `lazic replay` prints.
 #![tactic(auto)]
 
-mod answer;
-mod telling;
 mod top;
-mod words;
 
 pub use top::trace_words;

@@ -11,7 +11,7 @@ use std::alloc::Global;
 use std::process::ExitCode;
 use std::rt::Files;
 use std::str;
-use table_rows::{Fields, Flaw, Table, other_than, status_for, text_of, try_named, try_table};
+use table_rows::{Fields, Flaw, Library, Rows, Table, other_than, status_for, text_of, try_named};
 use trace_answers::trace_words;
 
 // The most bytes of a text that is put.
@@ -69,7 +69,7 @@ fn try_file<R>(rt: &R, name: &str) -> u8
 where
     R: AllocGlobal + Files + Print + Eprint + Clone + Drop,
 {
-    status_for(rt, name, try_table(rt, &mut TraceRows, name))
+    status_for(rt, name, Rows { table: TraceRows }.try_rows(rt, name))
 }
 
 fn main(rt: HostRuntime) -> ExitCode {

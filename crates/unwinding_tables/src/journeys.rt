@@ -4,9 +4,9 @@
 //! long as at most so many edges that ask for it are passed; `cover VERTEX VERTEX`; `part VERTEX VERTEX VALUE`, by a store with
 //! this x: each answers whether it is legal. Other words ask. Behind `not` the answer is to be no.
 
-use crate::asking::ask;
+use crate::ask;
 use loop_journey::Journey;
-use row_text::{RowFail, fields, half, number, numbers, wide};
+use row_text::{RowFail, Table, fields, half, number, numbers, wide};
 use std::alloc::Global;
 
 // Keeps two vertices apart by a value of x.
@@ -55,8 +55,8 @@ fn step(alloc: Global, journey: &mut Journey, part: &str) -> Result<bool, RowFai
     act(alloc, journey, word, rest)
 }
 
-/// Tries the row.
-pub(crate) fn goes(alloc: Global, rest: &str) -> Result<bool, RowFail> {
+// Tries the row.
+fn goes(alloc: Global, rest: &str) -> Result<bool, RowFail> {
     let mut parts = rest.split(';');
     let last = number(Some(half(parts.next())?))?;
     let Some(mut journey) = Journey::new(alloc, last)? else {
@@ -68,4 +68,18 @@ pub(crate) fn goes(alloc: Global, rest: &str) -> Result<bool, RowFail> {
         }
     }
     Ok(true)
+}
+
+/// Rows of journeys through the graph of a loop.
+#[derive(Drop)]
+pub(crate) struct JourneyRows;
+
+impl Table for JourneyRows {
+    fn is_so(&mut self, alloc: Global, row: &str) -> Result<bool, RowFail> {
+        let (kind, rest) = fields(row);
+        match kind {
+            "journey" => goes(alloc, rest),
+            _ => Err(RowFail::Bad),
+        }
+    }
 }

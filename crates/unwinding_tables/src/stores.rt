@@ -4,7 +4,7 @@
 
 use bv_term::{TermId, Terms, are_widths};
 use c_graph::{Map, Named, Store};
-use row_text::{RowFail, half, halves, number, numbers, one_term, wides};
+use row_text::{RowFail, Table, fields, half, halves, number, numbers, one_term, wides};
 use std::alloc::Global;
 
 // The named values: a cell and its value each.
@@ -35,8 +35,8 @@ fn has_each(store: &Store, values: &[u128]) -> bool {
     cell == store.cells()
 }
 
-/// Tries the row of a store.
-pub(crate) fn has_values(alloc: Global, rest: &str) -> Result<bool, RowFail> {
+// Tries the row of a store.
+fn has_values(alloc: Global, rest: &str) -> Result<bool, RowFail> {
     let (inputs, wanted) = halves(rest)?;
     let mut parts = inputs.split(';');
     let cells = number(Some(half(parts.next())?))?;
@@ -52,8 +52,8 @@ pub(crate) fn has_values(alloc: Global, rest: &str) -> Result<bool, RowFail> {
     )
 }
 
-/// Tries the row of a map.
-pub(crate) fn maps(alloc: Global, rest: &str) -> Result<bool, RowFail> {
+// Tries the row of a map.
+fn maps(alloc: Global, rest: &str) -> Result<bool, RowFail> {
     let (inputs, wanted) = halves(rest)?;
     let mut parts = inputs.split(';');
     let widths = numbers(alloc, half(parts.next())?)?;
@@ -72,4 +72,19 @@ pub(crate) fn maps(alloc: Global, rest: &str) -> Result<bool, RowFail> {
         return Ok(false);
     }
     Ok(map.terms().count() == wanted[0] && map.at()[0].0 == wanted[1])
+}
+
+/// Rows of stores and maps.
+#[derive(Drop)]
+pub(crate) struct StoreRows;
+
+impl Table for StoreRows {
+    fn is_so(&mut self, alloc: Global, row: &str) -> Result<bool, RowFail> {
+        let (kind, rest) = fields(row);
+        match kind {
+            "store" => has_values(alloc, rest),
+            "map" => maps(alloc, rest),
+            _ => Err(RowFail::Bad),
+        }
+    }
 }

@@ -10,7 +10,7 @@ use bv_term::{TermId, Terms};
 use c_graph::Graph;
 use graph_rows::whole_graph;
 use reach_tree::{Label, NewLabel, Tree, VertexId};
-use row_text::{RowFail, fields, halves, number, numbers, one_term};
+use row_text::{RowFail, Table, fields, halves, number, numbers, one_term};
 use std::alloc::Global;
 
 // Expands a vertex, where it may be expanded.
@@ -209,8 +209,8 @@ fn step(alloc: Global, graph: &Graph, tree: &mut Tree, part: &str) -> Result<boo
     }
 }
 
-/// Tries the row.
-pub(crate) fn goes(alloc: Global, text: &str, rest: &str) -> Result<bool, RowFail> {
+// Tries the row.
+fn goes(alloc: Global, text: &str, rest: &str) -> Result<bool, RowFail> {
     let graph = whole_graph(alloc, text)?;
     let mut tree = Tree::new(alloc, &graph)?;
     for part in rest.split(';') {
@@ -219,4 +219,20 @@ pub(crate) fn goes(alloc: Global, text: &str, rest: &str) -> Result<bool, RowFai
         }
     }
     Ok(true)
+}
+
+/// Rows of trees of paths in a graph of these parts.
+#[derive(Drop)]
+pub(crate) struct TreeRows<'a> {
+    pub(crate) parts: &'a str,
+}
+
+impl Table for TreeRows<'_> {
+    fn is_so(&mut self, alloc: Global, row: &str) -> Result<bool, RowFail> {
+        let (kind, rest) = fields(row);
+        match kind {
+            "tree" => goes(alloc, self.parts, rest),
+            _ => Err(RowFail::Bad),
+        }
+    }
 }

@@ -5,12 +5,12 @@ ghost use Rattle.c_graph.specs.declared.graph.Node.TheVariants.{Plain};
 ghost use Rattle.reach_tree.specs.Trees.{vertex_at};
 ghost use Rattle.cover_engine.specs.Units.{Legal};
 
-use crate::asking::ask;
+use crate::ask;
 use c_graph::{Graph, Node};
 use cover_engine::Unwinding;
 use graph_rows::whole_graph;
 use reach_tree::{Vertex, VertexId};
-use row_text::{RowFail, fields, number};
+use row_text::{RowFail, Table, fields, number};
 use std::alloc::Global;
 
 // Whether the vertex is at a plain node of the graph.
@@ -119,8 +119,8 @@ fn step(
     act(alloc, graph, unwinding, word, rest)
 }
 
-/// Tries the row.
-pub(crate) fn go(alloc: Global, text: &str, rest: &str) -> Result<bool, RowFail> {
+// Tries the row.
+fn go(alloc: Global, text: &str, rest: &str) -> Result<bool, RowFail> {
     let graph = whole_graph(alloc, text)?;
     let unwinding = Unwinding::new(alloc, &graph)?;
     go_on(alloc, &graph, unwinding, rest)
@@ -137,4 +137,20 @@ fn go_on(alloc: Global, graph: &Graph, unwinding: Unwinding, rest: &str) -> Resu
         }
     }
     Ok(true)
+}
+
+/// Rows of units over an unwinding of a graph of these parts.
+#[derive(Drop)]
+pub(crate) struct UnitRows<'a> {
+    pub(crate) parts: &'a str,
+}
+
+impl Table for UnitRows<'_> {
+    fn is_so(&mut self, alloc: Global, row: &str) -> Result<bool, RowFail> {
+        let (kind, rest) = fields(row);
+        match kind {
+            "units" => go(alloc, self.parts, rest),
+            _ => Err(RowFail::Bad),
+        }
+    }
 }

@@ -8,39 +8,57 @@
 //!   as certificates have them with `;` between, the number of a formula, and its expression. All cells have 32 bits.
 #![tactic(auto)]
 
-mod cells;
 mod expressions;
-mod terms;
 mod texts;
 
-use crate::expressions::expression_other;
-use crate::texts::{correctness_other, time_other, violation_other};
+use crate::expressions::ExpressionRows;
+use crate::texts::TextRows;
+use lv_base::Text;
 use std::alloc::Global;
 use std::rt::Files;
-use table_rows::{Fields, Flaw, Refusal, Table, try_table};
+use std::str;
+use table_rows::{Fields, Flaw, Library, Refusal, Rows, Table, text_of};
 
-/// Tables of witnesses.
+// What came, where it is another text than the next column's.
+fn other_text(
+    alloc: Global,
+    columns: &mut Fields<'_>,
+    came: &Text,
+) -> Result<Option<String>, Flaw> {
+    let wanted = text_of(alloc, columns.next()?)?;
+    columns.end()?;
+    if came.is(&wanted) {
+        return Ok(None);
+    }
+    match str::from_utf8(came.as_bytes()) {
+        Ok(text) => Ok(Some(String::from_str(alloc, text)?)),
+        Err(_) => Err(Flaw::Form),
+    }
+}
+
+// All kinds of rows.
 #[derive(Clone, Copy)]
-struct WitnessRows;
+struct AllRows;
 
-impl Table for WitnessRows {
+impl Table for AllRows {
     fn other(&mut self, alloc: Global, row: &str) -> Result<Option<String>, Flaw> {
-        let mut columns = Fields::columns(row);
-        match columns.next()? {
-            "time" => time_other(alloc, columns),
-            "violation" => violation_other(alloc, columns),
-            "correctness" => correctness_other(alloc, columns),
-            "expression" => expression_other(alloc, columns),
+        match Fields::columns(row).next()? {
+            "time" | "violation" | "correctness" => TextRows.other(alloc, row),
+            "expression" => ExpressionRows.other(alloc, row),
             _ => Err(Flaw::Form),
         }
     }
 }
 
-/// Tries the rows of the table in the file of this name. It prints what came of each row that is not so, and how many rows there
-/// are; how many are not so.
-pub fn try_rows<R>(rt: &R, name: &str) -> Result<u64, Refusal>
-where
-    R: AllocGlobal + Files + Print + Clone + Drop,
-{
-    try_table(rt, &mut WitnessRows, name)
+/// Tables of witnesses.
+#[derive(Clone, Copy)]
+pub struct WitnessTables;
+
+impl Library for WitnessTables {
+    fn try_rows<R>(&mut self, rt: &R, name: &str) -> Result<u64, Refusal>
+    where
+        R: AllocGlobal + Files + Print + Clone + Drop,
+    {
+        Rows { table: AllRows }.try_rows(rt, name)
+    }
 }

@@ -3,12 +3,12 @@
 ghost use Rattle.std.specs.Prelude.{IfOk};
 ghost use Rattle.moment_text.specs.Moments.{IsMoment};
 
+use crate::other_text;
 use hex::FromHex;
 use lv_base::{Place, Text};
 use moment_text::moment_text;
 use std::alloc::Global;
-use std::str;
-use table_rows::{Fields, Flaw, other_than, text_of};
+use table_rows::{Fields, Flaw, Table, other_than, text_of};
 use witness_yaml::{Invariant, Metadata, correctness, violation};
 
 const LAST: i128 = 253_370_764_799;
@@ -23,8 +23,8 @@ fn moment(columns: &mut Fields<'_>) -> Result<i64, Flaw>
     Ok(number as i64)
 }
 
-/// What came of a moment's text, where it is another.
-pub(crate) fn time_other(alloc: Global, mut columns: Fields<'_>) -> Result<Option<String>, Flaw> {
+// What came of a moment's text, where it is another.
+fn time_other(alloc: Global, mut columns: Fields<'_>) -> Result<Option<String>, Flaw> {
     let moment = moment(&mut columns)?;
     let wanted = columns.next()?;
     columns.end()?;
@@ -59,28 +59,8 @@ fn place_of(line: &str, column: &str) -> Result<Place, Flaw> {
     }
 }
 
-/// What came, where it is another text than the next column's.
-pub(crate) fn other_text(
-    alloc: Global,
-    columns: &mut Fields<'_>,
-    came: &Text,
-) -> Result<Option<String>, Flaw> {
-    let wanted = text_of(alloc, columns.next()?)?;
-    columns.end()?;
-    if came.is(&wanted) {
-        return Ok(None);
-    }
-    match str::from_utf8(came.as_bytes()) {
-        Ok(text) => Ok(Some(String::from_str(alloc, text)?)),
-        Err(_) => Err(Flaw::Form),
-    }
-}
-
-/// What came of the witness of a violation, where it is another.
-pub(crate) fn violation_other(
-    alloc: Global,
-    mut columns: Fields<'_>,
-) -> Result<Option<String>, Flaw> {
+// What came of the witness of a violation, where it is another.
+fn violation_other(alloc: Global, mut columns: Fields<'_>) -> Result<Option<String>, Flaw> {
     let metadata = metadata(alloc, &mut columns)?;
     let line = columns.next()?;
     let place = place_of(line, columns.next()?)?;
@@ -109,13 +89,26 @@ fn invariants_of(alloc: Global, written: &str) -> Result<Vec<Invariant>, Flaw> {
     Ok(invariants)
 }
 
-/// What came of the witness of correctness, where it is another.
-pub(crate) fn correctness_other(
-    alloc: Global,
-    mut columns: Fields<'_>,
-) -> Result<Option<String>, Flaw> {
+// What came of the witness of correctness, where it is another.
+fn correctness_other(alloc: Global, mut columns: Fields<'_>) -> Result<Option<String>, Flaw> {
     let metadata = metadata(alloc, &mut columns)?;
     let invariants = invariants_of(alloc, columns.next()?)?;
     let came = correctness(alloc, &metadata, &invariants)?;
     other_text(alloc, &mut columns, &came)
+}
+
+/// Rows of moments and of whole witnesses.
+#[derive(Clone, Copy)]
+pub(crate) struct TextRows;
+
+impl Table for TextRows {
+    fn other(&mut self, alloc: Global, row: &str) -> Result<Option<String>, Flaw> {
+        let mut columns = Fields::columns(row);
+        match columns.next()? {
+            "time" => time_other(alloc, columns),
+            "violation" => violation_other(alloc, columns),
+            "correctness" => correctness_other(alloc, columns),
+            _ => Err(Flaw::Form),
+        }
+    }
 }
