@@ -30,7 +30,7 @@ use Rattle.stored_text.specs.declared.StoredFail.{StoredFail}
 use Rattle.stored_text.specs.Reading.{read_run_of}
 use Rattle.stored_text.proofs.Whole.{run_text_read}
 use Rattle.lazic.specs.Words.{Wanted, request_of}
-use Rattle.source_reading.specs.Reading.{parsed_of, tokens_read, unless, checked, source_read}
+use Rattle.source_reading.specs.Reading.{parsed_of, tokens_read, unless, checked, source_read, IsSourceTree}
 use Rattle.lazic.specs.Answer.{values_outcome, tree_outcome, source_outcome, wanted_outcome, outcome_of, IsCaused}
 use Rattle.lazic.specs.Meaning.{HasTokens, HasTree, IsTreeOf, IsAccepted, IsUnread, IsAnswer, Means}
 use Rattle.lazic.specs.Meaning.IsUnread.{stopped, too_high}
@@ -100,28 +100,11 @@ tree_is tokens tree read spelled = let w = the_only tokens tree read in record {
 
 -- ---- a source that is read has a tree, which breaks no rule
 
-checked_free : (model : Model) (read tree : Items) → checked model (Ok read) ≡ Ok tree → (read ≡ tree) × (source_refusal tree model ≡ None)
-checked_free model read tree is = by_refusal (source_refusal read model) refl is
-  where
-    by_refusal : (o : Option SourceFail) → source_refusal read model ≡ o → unless o read ≡ Ok tree → (read ≡ tree) × (source_refusal tree model ≡ None)
-    by_refusal None free e = let same : read ≡ tree = cc in (same, subst (λ (t : Items). source_refusal t model ≡ None) same free)
-    by_refusal (Some f) refused e = absurd (cc)
-
-pub read_tree : (model : Model) (source : List ℕ) (tree : Items) → source_read model source ≡ Ok tree → HasTree source tree × Good tree model
-read_tree model source tree read = by_tokens (lexed source) refl read
-  where
-    by_parsed : (tokens : List Token) → HasTokens source tokens → (r : ma.Result) → ma.parse_of (signs_of tokens) ≡ r → checked model (parsed_of r) ≡ Ok tree → HasTree source tree × Good tree model
-    by_parsed tokens has (ma.Tree found) is e =
-        let free = checked_free model found tree e in
-        let same : ma.parse_of (signs_of tokens) ≡ ma.Tree tree = is ∙ ap (λ (t : Items). ma.Tree t) free.0 in
-        (record { tokens = tokens; has = has; tree_of = tree_is (signs_of tokens) tree same (reading (signs_of tokens) (ma.Tree tree) same).0 }, good_of tree model free.1)
-    by_parsed tokens has (ma.Syntax at) is e = absurd (cc)
-    by_parsed tokens has (ma.Unsupported at) is e = absurd (cc)
-    by_parsed tokens has ma.TooHigh is e = absurd (cc)
-
-    by_tokens : (r : Result (List Token) SourceFail) → lexed source ≡ r → checked model (tokens_read r) ≡ Ok tree → HasTree source tree × Good tree model
-    by_tokens (Err f) is e = absurd (cc)
-    by_tokens (Ok tokens) is e = by_parsed tokens ((is_lexed_of source (Ok tokens)).0 is) (ma.parse_of (signs_of tokens)) refl e
+pub read_tree : (model : Model) (source : List ℕ) (tree : Items) → IsSourceTree model source tree → HasTree source tree × Good tree model
+read_tree model source tree s =
+    let signs = signs_of s.tokens in
+    let read : ma.parse_of signs ≡ ma.Tree tree = sym (ap ma.parse_of s.spelled.spelled) ∙ complete tree s.spelled.shaped s.low s.spelled.end in
+    (record { tokens = s.tokens; has = s.has; tree_of = tree_is signs tree read s.spelled }, good_of tree model s.free)
 
 -- the machine answers it
 tree_read_of : (tokens : List SymbolAt) (tree : Items) → IsTreeOf tokens tree → ma.parse_of tokens ≡ ma.Tree tree
