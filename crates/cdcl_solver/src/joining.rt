@@ -1,6 +1,6 @@
 //! The clause that a conflict taught joins the board, and makes its literal true.
 
-ghost use Rattle.std.specs.Prelude.{◌≡◌, ℕ, ◌+◌, ◌*◌, ◌<◌, ◌≤◌, ◌∷◌, ◌++◌, [], List, length, IfOk, Some, true};
+ghost use Rattle.std.specs.Prelude.{◌≡◌, ℕ, ◌+◌, ◌*◌, ◌<◌, ◌≤◌, ◌∷◌, ◌++◌, [], List, length, IfOk, OnErr, Some, true};
 ghost use Rattle.prop.specs.declared.Lit.{Lit};
 ghost use Rattle.prop.specs.Trues.{listed};
 ghost use Rattle.resolution_log.specs.Codes.{AllBelow};
@@ -24,6 +24,7 @@ const MOST_CLAUSES: usize = 0xffff_ffff;
 fn next_number(rows: &Rows) -> Result<u32, AllocError>
     ensures value { IfOk result (λ n. n ≡ length rows.now) }
     ensures few { IfOk result (λ n. n < 4294967295) }
+    ensures cause { OnErr result (4294967295 ≤ length rows.now) }
 {
     let number = rows.len();
     if number >= MOST_CLAUSES {

@@ -1,6 +1,6 @@
 //! The clause so far, and how the literals of another one join it.
 
-ghost use Rattle.std.specs.Prelude.{◌≡◌, ℕ, ◌+◌, ◌*◌, ◌/◌, ◌<◌, ◌≤◌, ◌||◌, length, IfOk, List, [], nat_eq};
+ghost use Rattle.std.specs.Prelude.{◌≡◌, ℕ, ◌+◌, ◌*◌, ◌/◌, ◌<◌, ◌≤◌, ◌||◌, length, IfOk, OnErr, List, [], nat_eq};
 ghost use Rattle.resolution_log.specs.Codes.{AllBelow};
 ghost use Rattle.resolution_log.specs.Marks.{is_marked, AtMost};
 ghost use Rattle.conflict_analysis.specs.Notes.{note_stamps, note_learnt, note_here, is_noted};
@@ -51,6 +51,7 @@ impl Notes {
         ensures stamps { IfOk result (λ _. self.new.stamps.items ≡ self.old.stamps.items) }
         ensures learnt { IfOk result (λ _. self.new.learnt.items ≡ []) }
         ensures here { IfOk result (λ _. self.new.here ≡ 0) }
+        ensures cause { OnErr result (4294967295 ≤ self.old.epoch) }
     {
         if self.epoch >= 0xffff_ffff {
             return Err(AllocError);

@@ -1,8 +1,8 @@
 -- The answer that the program computes is the one that is meant.
-use Rattle.std.proofs.Common.{inl, inr, ◌⊎◌, ◌≡◌, ◌≢◌, ℕ, ◌<◌, ◌≤◌, List, [], ◌∷◌, ◌++◌, length, refl, sym, ◌∙◌, ap, subst, arith, Bool, true, false, ℤ}
+use Rattle.std.proofs.Common.{inl, inr, ◌⊎◌, ◌≡◌, ℕ, ◌<◌, ◌≤◌, List, [], ◌∷◌, ◌++◌, length, refl, sym, ◌∙◌, ap, subst, arith, Bool, true, false, ℤ}
 use Rattle.std.specs.Prelude.{Option, Some, None, Result, Ok, Err, nat_lt, if◌then◌else◌}
 use Rattle.std.proofs.lemmas.Bool.Decides.{nat_tests}
-use Rattle.std.proofs.lemmas.List.{append_assoc}
+use Rattle.std.proofs.lemmas.List.{append-nil}
 use Rattle.lv_base.specs.Place.{place_at}
 use Rattle.lv_base.specs.declared.kind.Model.{Model}
 use Rattle.lv_base.specs.declared.fail.SourceFail.{SourceFail}
@@ -16,11 +16,12 @@ use Rattle.c_tree.specs.Symbols.{sign_of, signs_of}
 use Rattle.c_tree.specs.Tree.{Items}
 use Rattle.parse_machine.specs.Tokens.{is_unsupported}
 use Rattle.parse_machine.specs.Machine as ma
-use Rattle.c_tree.specs.Denotes.{IsSpelled}
+use Rattle.c_tree.specs.Denotes.{IsSpelled, Begins, BeginsWithin}
 use Rattle.parse_laws.proofs.CompleteFile.{complete}
 use Rattle.high_tree_laws.proofs.HighFile.{the_only}
-use Rattle.first_token_laws.specs.Laws.{IsFirstRefused}
-use Rattle.first_token_laws.proofs.FirstRefused.{one_first}
+use Rattle.first_token_laws.specs.Laws.{IsTooHighAt}
+use Rattle.low_beginning_laws.specs.Laws.{IsFirstStop}
+use Rattle.low_beginning_laws.proofs.Low.{high_not_low, low_up_to, one_stop, refused_not_low, unread}
 use Rattle.c_parser.specs.Reading.{IsEnded, IsReading, IsStopped}
 use Rattle.c_parser.proofs.ReadingLaws.{reading}
 use Rattle.source_checks.specs.Refusals.{source_refusal}
@@ -28,7 +29,7 @@ use Rattle.stored_text.specs.declared.StoredFail.{StoredFail}
 use Rattle.stored_text.specs.Reading.{read_run_of}
 use Rattle.stored_text.proofs.Whole.{run_text_read}
 use Rattle.lazic.specs.Words.{Wanted, request_of}
-use Rattle.source_reading.specs.Reading.{parsed_of, tokens_read, unless, checked, source_read}
+use Rattle.source_reading.specs.Reading.{parsed_of, tokens_read, unless, checked, source_read, IsSourceTree}
 use Rattle.lazic.specs.Answer.{values_outcome, tree_outcome, source_outcome, wanted_outcome, outcome_of, IsCaused}
 use Rattle.lazic.specs.Meaning.{HasTokens, HasTree, IsTreeOf, IsAccepted, IsUnread, IsAnswer, Means}
 use Rattle.lazic.specs.Meaning.IsUnread.{stopped, too_high}
@@ -53,16 +54,43 @@ ended source tokens has =
     let divides = has.1 in
     record { before = signs_of (tokens_in 0 divides.pieces); at = length source; are = sym (ap signs_of divides.listed ∙ signs_append (tokens_in 0 divides.pieces) (end_token source ∷ [])) }
 
-not_the_limit : (unsupported : Bool) (at : ℕ) → (if unsupported then ma.Unsupported at else ma.Syntax at) ≡ ma.TooHigh → ⊥
-not_the_limit true at h = cc
-not_the_limit false at h = cc
+refusal_is : (a b : Bool) (x y : ℕ) → (if a then ma.Unsupported x else ma.Syntax x) ≡ (if b then ma.Unsupported y else ma.Syntax y) → (a ≡ b) × (x ≡ y)
+refusal_is true true x y h = (refl, cc)
+refusal_is true false x y h = cc
+refusal_is false true x y h = cc
+refusal_is false false x y h = (refl, cc)
 
-stopped_at : (source : List ℕ) (tokens : List SymbolAt) (at : ℕ) (unsupported : Bool) → ma.parse_of tokens ≡ (if unsupported then ma.Unsupported at else ma.Syntax at) → IsStopped tokens at unsupported → IsUnread source tokens (Faulty (if unsupported then Unsupported else Syntax) (place_at source at))
-stopped_at source tokens at unsupported read stop =
-    let token = stop.0 in
-    stopped token stop.1
-    (λ high. not_the_limit unsupported at (sym read ∙ high))
-    (ap (λ (b : Bool). Faulty (if b then Unsupported else Syntax) (place_at source at)) (sym stop.3) ∙ ap (λ (n : ℕ). Faulty (if is_unsupported token.symbol then Unsupported else Syntax) (place_at source n)) stop.2)
+fault_at : (source : List ℕ) (unsupported : Bool) (at : ℕ) (token : SymbolAt) → is_unsupported token.symbol ≡ unsupported → token.at ≡ at
+    → Faulty (if unsupported then Unsupported else Syntax) (place_at source at) ≡ Faulty (if is_unsupported token.symbol then Unsupported else Syntax) (place_at source token.at)
+fault_at source unsupported at token flag same =
+    ap (λ (b : Bool). Faulty (if b then Unsupported else Syntax) (place_at source at)) (sym flag) ∙ ap (λ (n : ℕ). Faulty (if is_unsupported token.symbol then Unsupported else Syntax) (place_at source n)) (sym same)
+
+syntax_unread : (source : List ℕ) (tokens : List SymbolAt) (at : ℕ) → ma.parse_of tokens ≡ ma.Syntax at → IsStopped tokens at false → IsUnread source tokens (Faulty Syntax (place_at source at))
+syntax_unread source tokens at read stop =
+    let u = unread tokens (ma.Syntax at) read (refused_not_low tokens stop.0 stop.1) in
+    let e = refusal_is (is_unsupported u.0.symbol) false u.0.at at u.2.0 in
+    stopped u.0 u.1 u.2.1 (fault_at source false at u.0 e.0 e.1)
+
+unsupported_unread : (source : List ℕ) (tokens : List SymbolAt) (at : ℕ) → ma.parse_of tokens ≡ ma.Unsupported at → IsStopped tokens at true → IsUnread source tokens (Faulty Unsupported (place_at source at))
+unsupported_unread source tokens at read stop =
+    let u = unread tokens (ma.Unsupported at) read (refused_not_low tokens stop.0 stop.1) in
+    let e = refusal_is (is_unsupported u.0.symbol) true u.0.at at u.2.0 in
+    stopped u.0 u.1 u.2.1 (fault_at source true at u.0 e.0 e.1)
+
+high_unread : (source : List ℕ) (tokens : List SymbolAt) (token : SymbolAt) → ma.parse_of tokens ≡ ma.TooHigh → IsTooHighAt tokens token → IsUnread source tokens (Over 3 201)
+high_unread source tokens token read high = let u = unread tokens ma.TooHigh read (high_not_low tokens token high) in too_high u.0 u.1 u.2 refl
+
+-- the tokens up to the place, of which there is one
+same_place : (tokens : List SymbolAt) (a b : SymbolAt) (w : IsFirstStop tokens a) (v : IsFirstStop tokens b) → w.before ++ a ∷ [] ≡ v.before ++ b ∷ []
+same_place tokens a b w v = let z = one_stop tokens a b w v in ap (λ (before : List SymbolAt). before ++ a ∷ []) z.0 ∙ ap (λ (t : SymbolAt). v.before ++ t ∷ []) z.1
+
+-- one thing alone is told of such tokens
+same_unread : (source : List ℕ) (tokens : List SymbolAt) (x y : Outcome) → IsUnread source tokens x → IsUnread source tokens y → x ≡ y
+same_unread source tokens x y (stopped a w none is) (stopped b v never also) =
+    is ∙ ap (λ (t : SymbolAt). Faulty (if is_unsupported t.symbol then Unsupported else Syntax) (place_at source t.at)) (one_stop tokens a b w v).1 ∙ sym also
+same_unread source tokens x y (stopped a w none is) (too_high b v some also) = absurd (none (subst Begins (sym (same_place tokens a b w v)) some))
+same_unread source tokens x y (too_high a w some is) (stopped b v none also) = absurd (none (subst Begins (same_place tokens a b w v) some))
+same_unread source tokens x y (too_high a w some is) (too_high b v also_some also) = is ∙ sym also
 
 -- ---- tokens that are a tree
 
@@ -71,28 +99,11 @@ tree_is tokens tree read spelled = let w = the_only tokens tree read in record {
 
 -- ---- a source that is read has a tree, which breaks no rule and passes no limit
 
-checked_free : (model : Model) (read tree : Items) → checked model (Ok read) ≡ Ok tree → (read ≡ tree) × (source_refusal tree model ≡ None)
-checked_free model read tree is = by_refusal (source_refusal read model) refl is
-  where
-    by_refusal : (o : Option SourceFail) → source_refusal read model ≡ o → unless o read ≡ Ok tree → (read ≡ tree) × (source_refusal tree model ≡ None)
-    by_refusal None free e = let same : read ≡ tree = cc in (same, subst (λ (t : Items). source_refusal t model ≡ None) same free)
-    by_refusal (Some f) refused e = absurd (cc)
-
-pub read_tree : (model : Model) (source : List ℕ) (tree : Items) → source_read model source ≡ Ok tree → HasTree source tree × IsAccepted tree model
-read_tree model source tree read = by_tokens (lexed source) refl read
-  where
-    by_parsed : (tokens : List Token) → HasTokens source tokens → (r : ma.Result) → ma.parse_of (signs_of tokens) ≡ r → checked model (parsed_of r) ≡ Ok tree → HasTree source tree × IsAccepted tree model
-    by_parsed tokens has (ma.Tree found) is e =
-        let free = checked_free model found tree e in
-        let same : ma.parse_of (signs_of tokens) ≡ ma.Tree tree = is ∙ ap (λ (t : Items). ma.Tree t) free.0 in
-        (record { tokens = tokens; has = has; tree_of = tree_is (signs_of tokens) tree same (reading (signs_of tokens) (ma.Tree tree) same).0 }, record { good = good_of tree model free.1; free = free.1 })
-    by_parsed tokens has (ma.Syntax at) is e = absurd (cc)
-    by_parsed tokens has (ma.Unsupported at) is e = absurd (cc)
-    by_parsed tokens has ma.TooHigh is e = absurd (cc)
-
-    by_tokens : (r : Result (List Token) SourceFail) → lexed source ≡ r → checked model (tokens_read r) ≡ Ok tree → HasTree source tree × IsAccepted tree model
-    by_tokens (Err f) is e = absurd (cc)
-    by_tokens (Ok tokens) is e = by_parsed tokens ((is_lexed_of source (Ok tokens)).0 is) (ma.parse_of (signs_of tokens)) refl e
+pub read_tree : (model : Model) (source : List ℕ) (tree : Items) → IsSourceTree model source tree → HasTree source tree × IsAccepted tree model
+read_tree model source tree s =
+    let signs = signs_of s.tokens in
+    let read : ma.parse_of signs ≡ ma.Tree tree = sym (ap ma.parse_of s.spelled.spelled) ∙ complete tree s.spelled.shaped s.low s.spelled.end in
+    (record { tokens = s.tokens; has = s.has; tree_of = tree_is signs tree read s.spelled }, record { good = good_of tree model s.free; free = s.free })
 
 -- the machine answers it
 tree_read_of : (tokens : List SymbolAt) (tree : Items) → IsTreeOf tokens tree → ma.parse_of tokens ≡ ma.Tree tree
@@ -114,9 +125,9 @@ module _ (model : Model) (turns : ℕ) (source file : List ℕ) where
   by_reading : (tokens : List Token) → HasTokens source tokens → (r : ma.Result) → ma.parse_of (signs_of tokens) ≡ r → IsReading (signs_of tokens) r → IsAnswer model turns source file (tree_outcome model turns source (checked model (parsed_of r)) file)
   by_reading tokens has (ma.Tree tree) is reads =
       by_refusal tree (record { tokens = tokens; has = has; tree_of = tree_is (signs_of tokens) tree is reads.0 }) (source_refusal tree model) refl
-  by_reading tokens has (ma.Syntax at) is reads = no_tree tokens has (stopped_at source (signs_of tokens) at false is (reads (ended source tokens has)))
-  by_reading tokens has (ma.Unsupported at) is reads = no_tree tokens has (stopped_at source (signs_of tokens) at true is reads)
-  by_reading tokens has ma.TooHigh is reads = no_tree tokens has (too_high reads.0 reads.1 is refl)
+  by_reading tokens has (ma.Syntax at) is reads = no_tree tokens has (syntax_unread source (signs_of tokens) at is (reads (ended source tokens has)))
+  by_reading tokens has (ma.Unsupported at) is reads = no_tree tokens has (unsupported_unread source (signs_of tokens) at is reads)
+  by_reading tokens has ma.TooHigh is reads = no_tree tokens has (high_unread source (signs_of tokens) reads.0 is reads.1)
 
   by_tokens : length source ≤ 1048576 → (r : Result (List Token) SourceFail) → lexed source ≡ r → IsAnswer model turns source file (tree_outcome model turns source (checked model (tokens_read r)) file)
   by_tokens short (Err fail) is = no_tokens fail short ((is_lexed_of source (Err fail)).0 is) refl
@@ -160,37 +171,27 @@ module _ (model : Model) (turns : ℕ) (source file : List ℕ) where
   pub parsed_source : (tokens : List Token) (r : ma.Result) → HasTokens source tokens → ma.parse_of (signs_of tokens) ≡ r → source_outcome model turns source file ≡ read_to (checked model (parsed_of r))
   parsed_source tokens r has read = lexed_source (Ok tokens) has.0 has ∙ ap (λ (x : ma.Result). read_to (checked model (parsed_of x))) read
 
-  -- the fault at the token that is refused first
-  same_fault : (b : Bool) (at : ℕ) (token other : SymbolAt) → token ≡ other → at ≡ other.at → is_unsupported other.symbol ≡ b
-      → Faulty (if b then Unsupported else Syntax) (place_at source at) ≡ Faulty (if is_unsupported token.symbol then Unsupported else Syntax) (place_at source token.at)
-  same_fault b at token other same at_is flag =
-      ap (λ (n : ℕ). Faulty (if b then Unsupported else Syntax) (place_at source n)) (at_is ∙ ap (λ (t : SymbolAt). t.at) (sym same))
-      ∙ ap (λ (c : Bool). Faulty (if c then Unsupported else Syntax) (place_at source token.at)) (sym flag ∙ ap (λ (t : SymbolAt). is_unsupported t.symbol) (sym same))
+  -- a tree of height at most 200 is no such tokens
+  not_unread : (tokens : List SymbolAt) (tree : Items) (answer : Outcome) → IsTreeOf tokens tree → IsUnread source tokens answer → ⊥
+  not_unread tokens tree answer is told = by_stop told
+    where
+      low : BeginsWithin 200 tokens
+      low = record { begins = record { tree = tree; shaped = is.spelled.shaped; end = is.spelled.end; more = []; spelled = is.spelled.spelled ∙ sym (append-nil tokens) }; low = is.low }
 
-  stopped_is : (tokens : List Token) (token : SymbolAt) → HasTokens source tokens → IsFirstRefused (signs_of tokens) token → ma.parse_of (signs_of tokens) ≢ ma.TooHigh
-      → (r : ma.Result) → ma.parse_of (signs_of tokens) ≡ r → IsReading (signs_of tokens) r
-      → source_outcome model turns source file ≡ Faulty (if is_unsupported token.symbol then Unsupported else Syntax) (place_at source token.at)
-  stopped_is tokens token has first low (ma.Tree tree) read reads =
-      let spelled = reads.0 in
-      absurd (first.none (record {
-        tree = tree;
-        shaped = spelled.shaped;
-        end = spelled.end;
-        more = first.behind;
-        spelled = spelled.spelled ∙ sym first.are ∙ sym (append_assoc first.before (token ∷ []) first.behind);
-      }))
-  stopped_is tokens token has first low (ma.Syntax at) read reads =
-      let stop = reads (ended source tokens has) in
-      parsed_source tokens (ma.Syntax at) has read ∙ same_fault false at token stop.0 (one_first (signs_of tokens) token stop.0 first stop.1).1 stop.2 stop.3
-  stopped_is tokens token has first low (ma.Unsupported at) read reads =
-      parsed_source tokens (ma.Unsupported at) has read ∙ same_fault true at token reads.0 (one_first (signs_of tokens) token reads.0 first reads.1).1 reads.2 reads.3
-  stopped_is tokens token has first low ma.TooHigh read reads = absurd (low read)
+      by_stop : IsUnread source tokens answer → ⊥
+      by_stop (stopped token stop none e) = stop.none (low_up_to tokens stop.before stop.behind token stop.are low)
+      by_stop (too_high token stop some e) = stop.none (low_up_to tokens stop.before stop.behind token stop.are low)
 
   unread_is : (tokens : List Token) (answer : Outcome) → HasTokens source tokens → IsUnread source (signs_of tokens) answer → source_outcome model turns source file ≡ answer
-  unread_is tokens answer has (stopped token first low is) =
-      let parsed = ma.parse_of (signs_of tokens) in
-      stopped_is tokens token has first low parsed refl (reading (signs_of tokens) parsed refl) ∙ sym is
-  unread_is tokens answer has (too_high token high read is) = parsed_source tokens ma.TooHigh has read ∙ sym is
+  unread_is tokens answer has told = by_answer (ma.parse_of (signs_of tokens)) refl (reading (signs_of tokens) (ma.parse_of (signs_of tokens)) refl)
+    where
+      by_answer : (r : ma.Result) → ma.parse_of (signs_of tokens) ≡ r → IsReading (signs_of tokens) r → source_outcome model turns source file ≡ answer
+      by_answer (ma.Tree tree) read reads = absurd (not_unread (signs_of tokens) tree answer (tree_is (signs_of tokens) tree read reads.0) told)
+      by_answer (ma.Syntax at) read reads =
+          parsed_source tokens (ma.Syntax at) has read ∙ same_unread source (signs_of tokens) (Faulty Syntax (place_at source at)) answer (syntax_unread source (signs_of tokens) at read (reads (ended source tokens has))) told
+      by_answer (ma.Unsupported at) read reads =
+          parsed_source tokens (ma.Unsupported at) has read ∙ same_unread source (signs_of tokens) (Faulty Unsupported (place_at source at)) answer (unsupported_unread source (signs_of tokens) at read reads) told
+      by_answer ma.TooHigh read reads = parsed_source tokens ma.TooHigh has read ∙ same_unread source (signs_of tokens) (Over 3 201) answer (high_unread source (signs_of tokens) reads.0 read reads.1) told
 
   pub tree_source : (tree : Items) (o : Option SourceFail) → HasTree source tree → source_refusal tree model ≡ o → source_outcome model turns source file ≡ read_to (unless o tree)
   tree_source tree o has is =

@@ -38,7 +38,7 @@ use Rattle.lazic.specs.Outcome.{status_of}
 use Rattle.lazic.specs.Report.{kept_of}
 use Rattle.lazic.proofs.AcceptedLaws.{IsOverOrNone, over_or_none}
 use Rattle.lazic.proofs.CauseLaws.{caused_is_right}
-use Rattle.lazic.proofs.MeaningLaws.{tree_is, long_source, lexed_source, parsed_source, tree_source, values_source}
+use Rattle.lazic.proofs.MeaningLaws.{computed_is_meant, tree_is, long_source, lexed_source, parsed_source, tree_source, values_source}
 
 -- ---- runs with other turns
 
@@ -140,8 +140,8 @@ pub reaches_told : (read_rose told put_rose : Type 0) (words : List (List ℕ)) 
 reaches_told read_rose told put_rose words file answer status kept caused t has put wanted tree values kind at asks = by_status has
   where
     by_answer : status ≡ status_of answer → kept ≡ kept_of answer → outcome_of words file ≡ answer → IsReachAnswer wanted (file wanted.source) tree values kind at (outcome_of words file) → IsReachTold words file read_rose put_rose status kept wanted tree values kind at
-    by_answer s k e (inl is) = reached (s ∙ ap status_of (sym e ∙ is)) (k ∙ ap kept_of (sym e ∙ is)) is
-    by_answer s k e (inr (inl is)) = out_of_turns (s ∙ ap status_of (sym e ∙ is.0)) (k ∙ ap kept_of (sym e ∙ is.0)) is.0 is.1
+    by_answer s k e (inl is) = reached (s ∙ ap status_of (sym e ∙ is)) (k ∙ ap kept_of (sym e ∙ is)) (computed_is_meant words file (Reached kind (place_at (file wanted.source) at) values) is)
+    by_answer s k e (inr (inl is)) = out_of_turns (s ∙ ap status_of (sym e ∙ is.0)) (k ∙ ap kept_of (sym e ∙ is.0)) (computed_is_meant words file (OutOfTurns wanted.turns) is.0) is.1
     by_answer s k e (inr (inr is)) = limited is.0 is.1 (s ∙ ap status_of (sym e ∙ is.2)) (k ∙ ap kept_of (sym e ∙ is.2)) is.3
 
     by_cause : status ≡ status_of answer → kept ≡ kept_of answer → ((answer ≡ ReadFault) × read_rose) ⊎ ((answer ≡ NoMemory) ⊎ (outcome_of words file ≡ answer)) → IsReachTold words file read_rose put_rose status kept wanted tree values kind at

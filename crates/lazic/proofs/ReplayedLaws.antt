@@ -85,7 +85,7 @@ module _ (there : DrawnAreThere) (words : List (List ℕ)) (file : List ℕ → 
             accepted = accepted;
             kind = k;
             at = at;
-            told = told ∙ is ∙ ap (λ (vs : List ℤ). outcome.Reached k (place_at source at) vs) (sym all);
+            told = computed_is_meant words file (outcome.Reached k (place_at source at) values) (told ∙ is ∙ ap (λ (vs : List ℤ). outcome.Reached k (place_at source at) vs) (sym all));
             reaches = subst (λ (vs : List ℤ). program.Reaches tree wanted.model vs k at) (sym all) (drawn_reach there wanted.turns tree wanted.model inputs k at drawn ends);
           }
 

@@ -1,6 +1,5 @@
--- What each answer means, on the bytes of the source and of the run file. None of it speaks of how the answer is found, save
--- that the machine of the grammar says whether the limit on the height comes before a fault behind it.
-use Rattle.std.specs.Prelude.{ℕ, ◌≡◌, ◌≢◌, ◌<◌, ◌≤◌, ◌↔◌, List, length, ℤ, Ok, Err, Some, None, if◌then◌else◌}
+-- What each answer means, on the bytes of the source and of the run file. None of it speaks of how the answer is found.
+use Rattle.std.specs.Prelude.{ℕ, ◌≡◌, ◌<◌, ◌≤◌, ◌↔◌, List, [], ◌∷◌, ◌++◌, length, ℤ, Ok, Err, Some, None, if◌then◌else◌}
 use Rattle.lv_base.specs.Place.{place_at}
 use Rattle.lv_base.specs.declared.kind.Model.{Model}
 use Rattle.lv_base.specs.declared.fail.SourceFail.{SourceFail}
@@ -11,10 +10,9 @@ use Rattle.c_tree.specs.declared.symbol.SymbolAt.{SymbolAt}
 use Rattle.c_tree.specs.Symbols.{signs_of}
 use Rattle.c_tree.specs.Tree.{Items}
 use Rattle.c_tree.specs.Height.{height_items}
-use Rattle.c_tree.specs.Denotes.{IsSpelled}
+use Rattle.c_tree.specs.Denotes.{IsSpelled, Begins}
 use Rattle.parse_machine.specs.Tokens.{is_unsupported}
-use Rattle.parse_machine.specs.Machine.{TooHigh, parse_of}
-use Rattle.first_token_laws.specs.Laws.{IsFirstRefused, IsTooHighAt}
+use Rattle.low_beginning_laws.specs.Laws.{IsFirstStop}
 use Rattle.c_meaning.specs.Good.{Good}
 use Rattle.c_meaning.specs.Program.{run}
 use Rattle.source_checks.specs.Refusals.{source_refusal}
@@ -31,11 +29,11 @@ use Rattle.lazic.specs.declared.outcome.Outcome.TheVariants.{Usage, Over, Faulty
 abbrev pub HasTokens : List ℕ → List Token → Type 0
 HasTokens source tokens = Fits source (Ok tokens)
 
--- What is told of tokens that are no tree of height at most 200: a fault at the first of them up to which no shaped tree begins, or the limit on
--- the height where some begins and each is higher.
+-- What is told of tokens that are no tree of height at most 200, at the first of them up to which no shaped tree of such a height begins: a fault where
+-- none of whatever height begins, and where one does, the limit on the height.
 pub data IsUnread (source : List ℕ) (tokens : List SymbolAt) (answer : Outcome) : Type 0 where
-  stopped : (token : SymbolAt) → IsFirstRefused tokens token → parse_of tokens ≢ TooHigh → answer ≡ Faulty (if is_unsupported token.symbol then Unsupported else Syntax) (place_at source token.at) → IsUnread source tokens answer
-  too_high : (token : SymbolAt) → IsTooHighAt tokens token → parse_of tokens ≡ TooHigh → answer ≡ Over 3 201 → IsUnread source tokens answer
+  stopped : (token : SymbolAt) → (stop : IsFirstStop tokens token) → (Begins (stop.before ++ token ∷ []) → ⊥) → answer ≡ Faulty (if is_unsupported token.symbol then Unsupported else Syntax) (place_at source token.at) → IsUnread source tokens answer
+  too_high : (token : SymbolAt) → (stop : IsFirstStop tokens token) → Begins (stop.before ++ token ∷ []) → answer ≡ Over 3 201 → IsUnread source tokens answer
 
 -- the tree of some tokens, which is not too high, and the only one, of whatever height
 pub record IsTreeOf (tokens : List SymbolAt) (tree : Items) : Type 0 where

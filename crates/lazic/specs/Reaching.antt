@@ -12,8 +12,7 @@ use Rattle.c_meaning.specs.Laws.{IsSpent}
 use Rattle.c_meaning.specs.Program.{run, Reaches}
 use Rattle.stored_text.specs.RunText.{Spells}
 use Rattle.lazic.specs.Words.{Wanted, request_of}
-use Rattle.lazic.specs.Answer.{outcome_of}
-use Rattle.lazic.specs.Meaning.{HasTree, IsAccepted}
+use Rattle.lazic.specs.Meaning.{HasTree, IsAccepted, Means}
 use Rattle.lazic.specs.declared.outcome.Outcome.TheVariants.{Reached, OutOfTurns}
 use Rattle.lazic.specs.declared.report.Kept.{Kept}
 use Rattle.lazic.specs.declared.report.Kept.TheVariants.{Nothing, Unsafe, Limited}
@@ -37,8 +36,8 @@ IsSourceLimit number = (number ≡ 1) ⊎ ((number ≡ 2) ⊎ ((number ≡ 3) �
 -- What is reported of it: the error at its place with these values, or that the turns were not enough for it, or a limit of the
 -- source, or want of memory; or a failure of the outside, where its count rose.
 pub data IsReachTold (words : List (List ℕ)) (file : List ℕ → List ℕ) (read_rose put_rose : Type 0) (status : ℕ) (kept : Kept) (wanted : Wanted) (tree : Items) (values : List ℤ) (kind : ErrorKind) (at : ℕ) : Type 0 where
-  reached : status ≡ 1 → kept ≡ Unsafe values → outcome_of words file ≡ Reached kind (place_at (file wanted.source) at) values → IsReachTold words file read_rose put_rose status kept wanted tree values kind at
-  out_of_turns : status ≡ 2 → kept ≡ Nothing → outcome_of words file ≡ OutOfTurns wanted.turns → IsSpent (run wanted.turns tree wanted.model values) → IsReachTold words file read_rose put_rose status kept wanted tree values kind at
+  reached : status ≡ 1 → kept ≡ Unsafe values → Means words file (Reached kind (place_at (file wanted.source) at) values) → IsReachTold words file read_rose put_rose status kept wanted tree values kind at
+  out_of_turns : status ≡ 2 → kept ≡ Nothing → Means words file (OutOfTurns wanted.turns) → IsSpent (run wanted.turns tree wanted.model values) → IsReachTold words file read_rose put_rose status kept wanted tree values kind at
   limited : (number count : ℕ) → status ≡ 12 → kept ≡ Limited number count → IsSourceLimit number → IsReachTold words file read_rose put_rose status kept wanted tree values kind at
   read_failed : status ≡ 13 → read_rose → IsReachTold words file read_rose put_rose status kept wanted tree values kind at
   put_failed : status ≡ 14 → put_rose → IsReachTold words file read_rose put_rose status kept wanted tree values kind at
@@ -59,7 +58,7 @@ pub record IsReplayed (words : List (List ℕ)) (file : List ℕ → List ℕ) (
   pub accepted : IsAccepted tree wanted.model
   pub kind : ErrorKind
   pub at : ℕ
-  pub told : outcome_of words file ≡ Reached kind (place_at (file wanted.source) at) values
+  pub told : Means words file (Reached kind (place_at (file wanted.source) at) values)
   pub reaches : Reaches tree wanted.model values kind at
 
 -- so it is of values that are kept

@@ -16,6 +16,7 @@ use Rattle.cert_text.specs.Content.{Content, content_of}
 use Rattle.cert_text.specs.CertText.{cert_text}
 use Rattle.cert_text.specs.Writing.{write_cert_of}
 use Rattle.source_reading.specs.Reading.{source_read, IsReplay}
+use Rattle.source_reading.proofs.TreeLaws.{read_of}
 use Rattle.source_graphs.specs.Refusals.{IsSameLimit, IsTooBig}
 use Rattle.source_graphs.proofs.Standing.{blocks_are_of_trees, limits-exact, limits_are_of_trees, limits_are_one}
 use Rattle.cert_verdicts.specs.Judged.{IsCertificate, IsJudged}
@@ -43,14 +44,14 @@ fail-same r e f a b = let both : Err e ≡ Err f = sym a ∙ b in cc
 
 module _ (model : Model) (source : List ℕ) where
   same-program : (t u : Parts) → IsReplay model source (tree_of t) → IsReplay model source (tree_of u) → tree_of t ≡ tree_of u
-  same-program t u a b = a.made ∙ ap (λ (x : Items). elaborated x model) (read-same (source_read model source) a.tree b.tree a.read b.read) ∙ sym b.made
+  same-program t u a b = a.made ∙ ap (λ (x : Items). elaborated x model) (read-same (source_read model source) a.tree b.tree (read_of model source a.tree a.read) (read_of model source b.tree b.read)) ∙ sym b.made
 
   same-graph : (t u : Parts) (g h : Flow) → HasGraph model source t g → HasGraph model source u h → g ≡ h
   same-graph t u g h a b = a.is ∙ blocks_are_of_trees t u (same-program t u a.replay b.replay) ∙ sym b.is
 
   -- a source that has a graph is refused for want of memory alone
   refused-stopped : (t : Parts) (g : Flow) (v : Verdict) → HasGraph model source t g → IsRefused model source v → v ≡ NoMemory
-  refused-stopped t g v has (was_unread e read is) = absurd (read-one (source_read model source) e has.replay.tree read has.replay.read)
+  refused-stopped t g v has (was_unread e read is) = absurd (read-one (source_read model source) e has.replay.tree read (read_of model source has.replay.tree has.replay.read))
   refused-stopped t g v has (was_over u e replay big is) =
       let wants : e ≡ lacks.Memory = limits-exact u e (limits_are_of_trees t u (same-program t u has.replay replay) has.within) big in
       is ∙ ap limit_for wants
@@ -150,9 +151,9 @@ module _ (R S : Type 0) (model : Model) (source bytes : List ℕ) (v w : Verdict
   refusals-agree (was_unread e read is) (lacked_memory js) = second-stopped js
   refusals-agree (was_unread e read is) (was_unread f other js) =
       both (refused_for source f) (is ∙ ap (refused_for source) (fail-same (source_read model source) e f read other)) js
-  refusals-agree (was_unread e read is) (was_over u f replay big js) = absurd (read-one (source_read model source) e replay.tree read replay.read)
+  refusals-agree (was_unread e read is) (was_over u f replay big js) = absurd (read-one (source_read model source) e replay.tree read (read_of model source replay.tree replay.read))
   refusals-agree (was_over t e replay big is) (lacked_memory js) = second-stopped js
-  refusals-agree (was_over t e replay big is) (was_unread f read js) = absurd (read-one (source_read model source) f replay.tree read replay.read)
+  refusals-agree (was_over t e replay big is) (was_unread f read js) = absurd (read-one (source_read model source) f replay.tree read (read_of model source replay.tree replay.read))
   refusals-agree (was_over t e replay big is) (was_over u f other huge js) =
       limits-agree e f is js (limits_are_one t u e f (same-program model source t u replay other) big huge)
 

@@ -14,7 +14,7 @@ use Rattle.cert_text.specs.Reading.{read_cert_of}
 use Rattle.cert_verdicts.specs.Judged.{HasNoErrors, IsCertificate}
 use Rattle.source_verdicts.specs.Laws.{IsAcceptedBack}
 use Rattle.source_verdicts.specs.Verified.{IsSafe}
-use Rattle.source_reading.specs.Reading.{source_read, IsReplay, RunsAs}
+use Rattle.source_reading.specs.Reading.{IsSourceTree, IsReplay, RunsAs}
 use Rattle.program_graphs.specs.Standing.{StandsFor}
 use Rattle.c_typed.specs.Parts.{Parts}
 use Rattle.c_typed.specs.Tree.{Program}
@@ -30,7 +30,7 @@ use Rattle.request_answers.specs.Answers.{HasGraph, IsAnswer, IsCheckAnswer, IsV
 abbrev pub AcceptedIsCertified : Type 0
 AcceptedIsCertified =
     (before behind : ℕ) (model : Model) (source bytes : List ℕ) → IsCheckAnswer (Rose before behind) model source bytes Accepted
-    → (tree : Items) × (source_read model source ≡ Ok tree) × Secure tree model
+    → (tree : Items) × IsSourceTree model source tree × Secure tree model
     × ((p : Program) × (g : Flow) × RunsAs p tree model × StandsFor g p × IsFlow g
     × ((c : Cert) × (read_cert_of bytes ≡ Ok (content_of c)) × IsCertificate g source model c))
 
@@ -40,7 +40,7 @@ AcceptedIsCertified =
 abbrev pub SafeIsProved : Type 0
 SafeIsProved =
     (before behind : ℕ) (model : Model) (units learn : ℕ) (source text : List ℕ) → IsVerifyAnswer (Rose before behind) model units learn source (Safe text)
-    → (tree : Items) × (source_read model source ≡ Ok tree) × Secure tree model
+    → (tree : Items) × IsSourceTree model source tree × Secure tree model
     × ((p : Program) × (g : Flow) × RunsAs p tree model × StandsFor g p × IsFlow g × IsSafe g source model units learn text
     × IsAcceptedBack g source model text)
 
@@ -70,7 +70,7 @@ abbrev pub UnsafeReaches : Type 0
 UnsafeReaches =
     (before behind : ℕ) (model : Model) (units learn : ℕ) (source : List ℕ) (kind : ErrorKind) (place : Place) (values : List ℤ) (text : List ℕ)
     → IsVerifyAnswer (Rose before behind) model units learn source (Unsafe kind place values text)
-    → (tree : Items) × (source_read model source ≡ Ok tree)
+    → (tree : Items) × IsSourceTree model source tree
     × ((at : ℕ) × (place ≡ place_at source at) × Reaches tree model values kind at)
 
 -- ---- Exact answers

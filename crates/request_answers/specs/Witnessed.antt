@@ -13,7 +13,7 @@ use Rattle.c_graph.specs.Shape.{Flow, IsFlow}
 use Rattle.c_graph.specs.Runs.{Formulas}
 use Rattle.program_graphs.specs.Standing.{StandsFor}
 use Rattle.program_visits.specs.Visiting.{IsLoopOf}
-use Rattle.source_reading.specs.Reading.{source_read, RunsAs}
+use Rattle.source_reading.specs.Reading.{IsSourceTree, RunsAs}
 use Rattle.source_verdicts.specs.declared.found.Found.{Found}
 use Rattle.source_verdicts.specs.declared.found.Found.TheVariants as found
 use Rattle.source_verdicts.specs.Verified.{HoldsMap}
@@ -98,7 +98,7 @@ has_witness NoMemory = false
 -- They are written over the cells that are marked, and each is true.
 pub record IsSafeWitness (name : List ℕ) (model : Model) (source : List ℕ) (stamp : Stamp) (text witness : List ℕ) : Type 0 where
   pub tree : Items
-  pub read : source_read model source ≡ Ok tree
+  pub read : IsSourceTree model source tree
   pub program : Program
   pub runs : RunsAs program tree model
   pub graph : Flow
@@ -113,7 +113,7 @@ pub record IsSafeWitness (name : List ℕ) (model : Model) (source : List ℕ) (
 -- The witness of a source that reaches an error has the place of the call that the values lead to, and the function around it.
 pub record IsUnsafeWitness (name : List ℕ) (model : Model) (source : List ℕ) (stamp : Stamp) (place : Place) (values : List ℤ) (witness : List ℕ) : Type 0 where
   pub tree : Items
-  pub read : source_read model source ≡ Ok tree
+  pub read : IsSourceTree model source tree
   pub at : ℕ
   pub is_at : place ≡ place_at source at
   pub reaches : Reaches tree model values Reach at

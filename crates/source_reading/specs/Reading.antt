@@ -1,5 +1,5 @@
 -- What the reading of a source gives: its tree, where nothing refuses it.
-use Rattle.std.specs.Prelude.{ℕ, ◌≡◌, List, Option, Some, None, ℤ, Result, Ok, Err}
+use Rattle.std.specs.Prelude.{ℕ, ◌≡◌, ◌≤◌, List, Option, Some, None, ℤ, Result, Ok, Err}
 use Rattle.lv_base.specs.declared.kind.Model.{Model}
 use Rattle.lv_base.specs.declared.fail.SourceFail.{SourceFail}
 use Rattle.lv_base.specs.declared.fail.SourceFail.TheVariants.{Fault, Over}
@@ -8,6 +8,9 @@ use Rattle.c_lexer.specs.Lexed.{lexed}
 use Rattle.c_lexer.specs.declared.token.Token.{Token}
 use Rattle.c_tree.specs.Symbols.{signs_of}
 use Rattle.c_tree.specs.Tree.{Items}
+use Rattle.c_tree.specs.Height.{height_items}
+use Rattle.c_tree.specs.Denotes.{IsSpelled}
+use Rattle.c_tokens.specs.Divisions.{Fits}
 use Rattle.parse_machine.specs.Machine as ma
 use Rattle.c_meaning.specs.Program.{run}
 use Rattle.c_typed.specs.Tree.{Program}
@@ -46,10 +49,18 @@ source_read model source = checked model (tree_read source)
 abbrev pub RunsAs : Program → Items → Model → Type 0
 RunsAs program tree model = (turns : ℕ) (inputs : List ℤ) → typed.run turns program inputs ≡ run turns tree model inputs
 
+-- The source's tokens are those of this tree, which is at most 200 high, breaks no rule and passes no limit.
+pub record IsSourceTree (model : Model) (source : List ℕ) (tree : Items) : Type 0 where
+  pub tokens : List Token
+  pub has : Fits source (Ok tokens)
+  pub spelled : IsSpelled (signs_of tokens) tree
+  pub low : height_items tree ≤ 200
+  pub free : source_refusal tree model ≡ None
+
 -- the typed tree that is made of the source, which runs as it does
 pub record IsReplay (model : Model) (source : List ℕ) (program : Program) : Type 0 where
   pub tree : Items
-  pub read : source_read model source ≡ Ok tree
+  pub read : IsSourceTree model source tree
   pub made : program ≡ elaborated tree model
   pub fits : SourceFits tree model
   pub runs : RunsAs program tree model

@@ -1,36 +1,35 @@
 -- What the search of a row gives.
-use Rattle.std.proofs.Common.{◌≡◌, ℕ, Bool, true, false, ◌||◌, cond, List, [], ◌∷◌, Option, Some, None, ◌⊎◌, inl, inr, refl, sym, ap, ◌∙◌, subst, nat_eq}
-use Rattle.std.proofs.lemmas.Bool.{both_ways, or_cases, or_left, or_right, or_parts, eqb-true, eq-eqb, cases_eq}
+use Rattle.std.proofs.Common.{◌≡◌, ℕ, ◌+◌, ◌<◌, ◌≤◌, Bool, true, false, ◌||◌, cond, List, Option, Some, ◌⊎◌, inl, inr, refl, sym, ◌∙◌, subst, arith, nat_eq, length, get_or}
+use Rattle.std.proofs.lemmas.Bool.{both_ways, or_cases, or_left, or_right, eqb-true, eq-eqb, cases_eq, cases_lt, false_from_ne_true}
 use Rattle.prop.specs.Trues.{listed}
+use Rattle.resolution_log.proofs.Places.{listed_at, listed_true}
 use Rattle.dense_trail.specs.Dense.{negation, is_true}
 use Rattle.watched_clauses.specs.declared.looking.Watch.{Watch}
 use Rattle.watched_clauses.specs.declared.looking.Finding.{Finding}
 use Rattle.watched_clauses.specs.declared.looking.Finding.TheVariants.{Lone, Clash}
-use Rattle.watched_clauses.specs.Judge.{first_open, last_finding, first_of, second_of, pair_of, AreWatched, IsFinding, IsPair}
+use Rattle.watched_clauses.specs.Judge.{is_closed, AllClosed, last_finding, first_of, second_of, pair_of, AreWatched, IsFinding, IsPair}
 
-pub open_none : (truth : List Bool) (other : ℕ) (r : List ℕ) → first_open truth other r ≡ None → (k : ℕ) → listed r k ≡ true → (k ≡ other → ⊥) → is_true truth (negation k) ≡ true
-open_none truth other [] h k hk n = absurd (both_ways false refl hk)
-open_none truth other (x ∷ r) h k hk n = go (nat_eq x other) (is_true truth (negation x)) refl refl h (λ rest t. open_none truth other r rest k t n)
-  where
-    here : (b : Bool) → is_true truth (negation x) ≡ b → nat_eq x other ≡ true ⊎ (b ≡ true) → (listed r k ≡ true → is_true truth (negation k) ≡ true) → is_true truth (negation k) ≡ true
-    here b q w later = elim (or_cases (nat_eq x k) (listed r k) hk) [
-      | inl e ↦ elim w [ inl a ↦ absurd (n (sym (eqb-true x k e) ∙ eqb-true x other a)) | inr c ↦ subst (λ z. is_true truth (negation z) ≡ true) (eqb-true x k e) (q ∙ c) ]
-      | inr t ↦ later t
-    ]
+-- one more place
+pub closed_more : (truth : List Bool) (other : ℕ) (r : List ℕ) (from at : ℕ) → AllClosed truth other r from at → is_closed truth other (get_or r at 0) ≡ true → AllClosed truth other r from (at + 1)
+closed_more truth other r from at h e j ge lt = elim (cases_lt j at) [
+  | inl a ↦ h j ge a
+  | inr b ↦ (let q : at ≡ j = omega (arith, b, lt) in subst (λ w. is_closed truth other (get_or r w 0) ≡ true) q e)
+]
 
-    go : (a b : Bool) → nat_eq x other ≡ a → is_true truth (negation x) ≡ b → cond (a || b) (first_open truth other r) (Some x) ≡ None → (first_open truth other r ≡ None → listed r k ≡ true → is_true truth (negation k) ≡ true) → is_true truth (negation k) ≡ true
-    go true b p q rest f = here b q (inl p) (f rest)
-    go false true p q rest f = here true q (inr refl) (f rest)
-    go false false p q rest f = absurd cc
+pub closed_both : (truth : List Bool) (other : ℕ) (r : List ℕ) (from : ℕ) → AllClosed truth other r 0 from → AllClosed truth other r from (length r) → AllClosed truth other r 0 (length r)
+closed_both truth other r from h k j ge lt = elim (cases_lt j from) [ inl a ↦ h j ge a | inr b ↦ k j b lt ]
 
-pub open_some : (truth : List Bool) (other : ℕ) (r : List ℕ) (k : ℕ) → first_open truth other r ≡ Some k → (listed r k ≡ true) × (k ≡ other → ⊥) × (is_true truth (negation k) ≡ false)
-open_some truth other [] k h = absurd cc
-open_some truth other (x ∷ r) k h = go (nat_eq x other) (is_true truth (negation x)) refl refl h (λ rest. let ih = open_some truth other r k rest in (or_right _ _ ih.0, ih.1, ih.2))
-  where
-    go : (a b : Bool) → nat_eq x other ≡ a → is_true truth (negation x) ≡ b → cond (a || b) (first_open truth other r) (Some x) ≡ Some k → (first_open truth other r ≡ Some k → (listed (x ∷ r) k ≡ true) × (k ≡ other → ⊥) × (is_true truth (negation k) ≡ false)) → (listed (x ∷ r) k ≡ true) × (k ≡ other → ⊥) × (is_true truth (negation k) ≡ false)
-    go true b p q rest later = later rest
-    go false true p q rest later = later rest
-    go false false p q rest later = let e : x ≡ k = cc in (or_left _ _ (eq-eqb x k e), (λ z. both_ways (nat_eq x other) p (eq-eqb x other (e ∙ z))), subst (λ z. is_true truth (negation z) ≡ false) e q)
+pub all_closed : (truth : List Bool) (other : ℕ) (r : List ℕ) → AllClosed truth other r 0 (length r) → (k : ℕ) → listed r k ≡ true → (k ≡ other → ⊥) → is_true truth (negation k) ≡ true
+all_closed truth other r h k hk n =
+    let (j, lt, e) = listed_true r k hk in
+    let c = subst (λ w. is_closed truth other w ≡ true) e (h j (omega arith) lt) in
+    elim (or_cases (nat_eq k other) (is_true truth (negation k)) c) [ inl a ↦ absurd (n (eqb-true k other a)) | inr b ↦ b ]
+
+pub open_there : (truth : List Bool) (other : ℕ) (r : List ℕ) (at : ℕ) → at < length r → is_closed truth other (get_or r at 0) ≡ false → (listed r (get_or r at 0) ≡ true) × (get_or r at 0 ≡ other → ⊥) × (is_true truth (negation (get_or r at 0)) ≡ false)
+open_there truth other r at lt h =
+    let k = get_or r at 0 in
+    let z = is_true truth (negation k) in
+    (listed_at r k at lt refl, (λ e. both_ways (nat_eq k other || z) h (or_left _ _ (eq-eqb k other e))), false_from_ne_true z (λ t. both_ways (nat_eq k other || z) h (or_right _ _ t)))
 
 pub some_same : {X : Type 0} (o : Option X) (a b : X) → o ≡ Some a → o ≡ Some b → a ≡ b
 some_same o a b p q = let e : Some a ≡ Some b = sym p ∙ q in cc

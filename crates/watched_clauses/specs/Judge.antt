@@ -1,5 +1,5 @@
 -- What a clause asks for when a literal that it watches has become false.
-use Rattle.std.specs.Prelude.{◌≡◌, ℕ, Bool, true, false, ◌||◌, cond, List, [], ◌∷◌, Option, Some, None, nat_eq, slice_index_or, ◌⊎◌}
+use Rattle.std.specs.Prelude.{◌≡◌, ℕ, ◌<◌, ◌≤◌, Bool, true, false, ◌||◌, cond, List, nat_eq, slice_index, slice_index_or, ◌⊎◌}
 use Rattle.prop.specs.Trues.{listed}
 use Rattle.dense_trail.specs.Dense.{negation, is_true}
 use Rattle.watched_clauses.specs.declared.looking.Watch.{Watch}
@@ -28,10 +28,13 @@ IsPair watches k r = pair_of watches k ≡ true → (z : ℕ) → listed r z ≡
 abbrev pub last_finding : List Bool → ℕ → Finding
 last_finding truth other = cond (is_true truth (negation other)) Clash (Lone other)
 
--- the first literal but one that is not false
-abbrev pub first_open : List Bool → ℕ → List ℕ → Option ℕ
-first_open truth other [] = None
-first_open truth other (k ∷ ks) = cond (nat_eq k other || is_true truth (negation k)) (first_open truth other ks) (Some k)
+-- whether a literal is no other one to watch: it is watched already, or it is false
+abbrev pub is_closed : List Bool → ℕ → ℕ → Bool
+is_closed truth other k = nat_eq k other || is_true truth (negation k)
+
+-- the literals at these places are no others to watch
+abbrev pub AllClosed : List Bool → ℕ → List ℕ → ℕ → ℕ → Type 0
+AllClosed truth other r from to = (j : ℕ) → from ≤ j → j < to → is_closed truth other (slice_index r j) ≡ true
 
 -- one of two is this, and the other that
 abbrev pub AreWatched : ℕ → ℕ → ℕ → ℕ → Type 0

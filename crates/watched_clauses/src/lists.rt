@@ -5,10 +5,12 @@ ghost use Rattle.std.specs.Prelude.{◌≡◌, ℕ, ◌+◌, ◌<◌, List, [], 
 use std::alloc::{AllocError, Global};
 use std::mem;
 
-/// A list of clauses' numbers for each literal's code. Contracts see the list of lists.
+/// A list of clauses' numbers for each literal's code, and where the last search of a clause ended. Contracts see the list of
+/// lists.
 #[derive(Drop)]
 pub struct WatchLists {
     lists: Vec<Vec<u32>>,
+    places: Vec<usize>,
 }
 
 impl std::marker::Model for WatchLists {
@@ -30,7 +32,10 @@ impl WatchLists {
         for _code in 0..count {
             lists.push(Vec::new(alloc))?;
         }
-        Ok(WatchLists { lists })
+        Ok(WatchLists {
+            lists,
+            places: Vec::new(alloc),
+        })
     }
 
     /// Takes the list of a literal away, and leaves it empty.
@@ -60,6 +65,25 @@ impl WatchLists {
         ensures { IfOk result (λ _. self.new ≡ slice_set self.old code (slice_index_or self.old code [] ++ clause ∷ [])) }
     {
         self.lists[code as usize].push(clause)?;
+        Ok(())
+    }
+
+    /// Where the last searches of clauses ended, by their numbers.
+    #[inline]
+    pub fn places(&self) -> &[usize] {
+        self.places.as_slice()
+    }
+
+    /// Writes down where the search of a clause ended.
+    #[inline]
+    pub fn keep_place(&mut self, clause: u32, place: usize) -> Result<(), AllocError>
+        ensures { IfOk result (λ _. self.new ≡ self.old) }
+    {
+        let at = clause as usize;
+        if at >= self.places.len() {
+            self.places.resize(at + 1, 0)?;
+        }
+        self.places[at] = place;
         Ok(())
     }
 }

@@ -1,9 +1,9 @@
 //! What a clause asks for when a literal that it watches has become false.
 
-ghost use Rattle.std.specs.Prelude.{true, ◌≡◌, ℕ, ◌<◌, List, length, Some, slice_get, slice_index_or, ◌||◌, nat_eq, MatchOption};
+ghost use Rattle.std.specs.Prelude.{true, false, ◌≡◌, ℕ, ◌<◌, ◌≤◌, List, length, Some, slice_get, slice_index, MatchOption};
 ghost use Rattle.resolution_log.specs.Codes.{AllBelow};
 ghost use Rattle.dense_trail.specs.Dense.{negation, is_true};
-ghost use Rattle.watched_clauses.specs.Judge.{first_open, last_finding, IsFinding, IsPair, AreWatched, first_of, second_of};
+ghost use Rattle.watched_clauses.specs.Judge.{is_closed, AllClosed, last_finding, IsFinding, IsPair, AreWatched, first_of, second_of};
 
 use dense_trail::{Trail, negation};
 use resolution_log::Rows;
@@ -38,23 +38,37 @@ pub enum Finding {
 #[inline]
 fn is_closed(trail: &Trail, other: u32, code: u32) -> bool
     requires { code < length trail.now.truth.items }
-    ensures { result ≡ (nat_eq code other || is_true trail.now.truth.items (negation code)) }
+    ensures { result ≡ is_closed trail.now.truth.items other code }
 {
     code == other || trail.truth[negation(code) as usize]
 }
 
-// The first literal but one that is not false.
+// The first place in a part of a row whose literal is another one to watch.
 #[inline]
-fn open_in(row: &[u32], trail: &Trail, other: u32) -> Option<u32>
-    requires { AllBelow (length trail.now.truth.items) row.now }
-    ensures { result ≡ first_open trail.now.truth.items other row.now }
+fn open_within(row: &[u32], trail: &Trail, other: u32, from: usize, to: usize) -> Option<usize>
+    requires below { AllBelow (length trail.now.truth.items) row.now }
+    requires to { to ≤ length row.now }
+    ensures { MatchOption result (AllClosed trail.now.truth.items other row.now from to) (λ at. (at < to) × (is_closed trail.now.truth.items other (slice_index row.now at) ≡ false)) }
 {
-    for code in row {
-        if !is_closed(trail, other, *code) {
-            return Some(*code);
+    for at in from..to {
+        if !is_closed(trail, other, row[at]) {
+            return Some(at);
         }
     }
     None
+}
+
+// A place in a row whose literal is another one to watch: from a place on, and then from the start.
+#[inline]
+fn open_from(row: &[u32], trail: &Trail, other: u32, place: usize) -> Option<usize>
+    requires { AllBelow (length trail.now.truth.items) row.now }
+    ensures { MatchOption result (AllClosed trail.now.truth.items other row.now 0 (length row.now)) (λ at. (at < length row.now) × (is_closed trail.now.truth.items other (slice_index row.now at) ≡ false)) }
+{
+    let from = if place < row.len() { place } else { 0 };
+    if let Some(at) = open_within(row, trail, other, from, row.len()) {
+        return Some(at);
+    }
+    open_within(row, trail, other, 0, from)
 }
 
 // The other watched literal of a clause that watches this one.
@@ -84,9 +98,26 @@ fn last_finding(trail: &Trail, other: u32) -> Finding
     }
 }
 
-/// Looks at the clause with this number, where the literal has become false.
+// Where the last search of a clause ended, where that is written.
 #[inline]
-pub fn judge(rows: &Rows, watches: &[Watch], trail: &Trail, falsified: u32, number: u32) -> Finding
+fn place_of(places: &[usize], number: u32) -> usize {
+    let at = number as usize;
+    if at < places.len() { places[at] } else { 0 }
+}
+
+/// Looks at the clause with this number, where the literal has become false. Another literal to watch is searched from the
+/// place on at which the last search of the clause ended; where this one ends is written to `place`. Literals before it
+/// were mostly false then, and stay so while the search goes down.
+#[inline]
+pub fn judge_from(
+    rows: &Rows,
+    watches: &[Watch],
+    trail: &Trail,
+    places: &[usize],
+    falsified: u32,
+    number: u32,
+    place: &mut usize,
+) -> Finding
     requires row { number < length rows.now }
     requires watch { number < length watches.now }
     requires first { first_of watches.now number < length trail.now.truth.items }
@@ -106,8 +137,27 @@ pub fn judge(rows: &Rows, watches: &[Watch], trail: &Trail, falsified: u32, numb
     if watch.pair {
         return last_finding(trail, other);
     }
-    match open_in(rows.row(number as usize), trail, other) {
-        Some(open) => Finding::Open(other, open),
+    let row = rows.row(number as usize);
+    match open_from(row, trail, other, place_of(places, number)) {
+        Some(at) => {
+            *place = at;
+            Finding::Open(other, row[at])
+        }
         None => last_finding(trail, other),
     }
+}
+
+/// [`judge_from`] where no place is written.
+pub fn judge(rows: &Rows, watches: &[Watch], trail: &Trail, falsified: u32, number: u32) -> Finding
+    requires row { number < length rows.now }
+    requires watch { number < length watches.now }
+    requires first { first_of watches.now number < length trail.now.truth.items }
+    requires second { second_of watches.now number < length trail.now.truth.items }
+    requires falsified { is_true trail.now.truth.items (negation falsified) ≡ true }
+    requires pair { (r : List ℕ) → slice_get rows.now number ≡ Some r → IsPair watches.now number r }
+    requires below { (r : List ℕ) → slice_get rows.now number ≡ Some r → AllBelow (length trail.now.truth.items) r }
+    ensures { (r : List ℕ) → slice_get rows.now number ≡ Some r → IsFinding trail.now.truth.items falsified (first_of watches.now number) (second_of watches.now number) r result }
+{
+    let mut place = 0;
+    judge_from(rows, watches, trail, &[], falsified, number, &mut place)
 }

@@ -4,7 +4,7 @@ ghost use Rattle.std.specs.Prelude.{◌≡◌, ℕ, ◌+◌, ◌<◌, ◌≤◌,
 ghost use Rattle.dense_trail.specs.Dense.{negation};
 ghost use Rattle.watched_clauses.specs.Kept.{KeepsWatch, IsLinked, IsFalse};
 
-use crate::{Finding, Watch, WatchLists, judge};
+use crate::{Finding, Watch, WatchLists, judge_from};
 use dense_trail::{Trail, negation};
 use resolution_log::Rows;
 use std::alloc::AllocError;
@@ -35,7 +35,9 @@ fn visit(
     'clauses: while i > 0 {
         i -= 1;
         let number = list[i];
-        match judge(rows, watches, trail, falsified, number) {
+        let mut place = 0;
+        let places = lists.places();
+        match judge_from(rows, watches, trail, places, falsified, number, &mut place) {
             Finding::Elsewhere => {
                 let _ = list.swap_remove(i);
             }
@@ -47,6 +49,7 @@ fn visit(
                     pair: false,
                 };
                 lists.push(open, number)?;
+                lists.keep_place(number, place)?;
                 let _ = list.swap_remove(i);
             }
             Finding::Lone(other) => trail.push(other, level, Some(number))?,

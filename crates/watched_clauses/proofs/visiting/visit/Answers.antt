@@ -14,26 +14,26 @@ clauses-init c = record {
   wide = refl;
 }
 
-pub judge-requires-clause-row : goal.judge-requires-clause-row
-judge-requires-clause-row c = pass_number c.args.rows.now c.clauses.watches c.clauses.lists c.clauses.trail c.args.level c.args.head c.args.falsified c.clauses.list.items c.clauses.i c.clauses.invariant.passing c.clauses-test.true c.index-number.result.now c.index-number.ensures
+pub judge_from-requires-clause-row : goal.judge_from-requires-clause-row
+judge_from-requires-clause-row c = pass_number c.args.rows.now c.clauses.watches c.clauses.lists c.clauses.trail c.args.level c.args.head c.args.falsified c.clauses.list.items c.clauses.i c.clauses.invariant.passing c.clauses-test.true c.index-number.result.now c.index-number.ensures
 
-pub judge-requires-clause-watch : goal.judge-requires-clause-watch
-judge-requires-clause-watch c = pass_watch c.args.rows.now c.clauses.watches c.clauses.lists c.clauses.trail c.args.level c.args.head c.args.falsified c.clauses.list.items c.clauses.i c.clauses.invariant.passing c.clauses-test.true c.index-number.result.now c.index-number.ensures
+pub judge_from-requires-clause-watch : goal.judge_from-requires-clause-watch
+judge_from-requires-clause-watch c = pass_watch c.args.rows.now c.clauses.watches c.clauses.lists c.clauses.trail c.args.level c.args.head c.args.falsified c.clauses.list.items c.clauses.i c.clauses.invariant.passing c.clauses-test.true c.index-number.result.now c.index-number.ensures
 
-pub judge-requires-clause-first : goal.judge-requires-clause-first
-judge-requires-clause-first c = c.clauses.invariant.passing.watching.firsts c.index-number.result.now (pass_watch c.args.rows.now c.clauses.watches c.clauses.lists c.clauses.trail c.args.level c.args.head c.args.falsified c.clauses.list.items c.clauses.i c.clauses.invariant.passing c.clauses-test.true c.index-number.result.now c.index-number.ensures)
+pub judge_from-requires-clause-first : goal.judge_from-requires-clause-first
+judge_from-requires-clause-first c = c.clauses.invariant.passing.watching.firsts c.index-number.result.now (pass_watch c.args.rows.now c.clauses.watches c.clauses.lists c.clauses.trail c.args.level c.args.head c.args.falsified c.clauses.list.items c.clauses.i c.clauses.invariant.passing c.clauses-test.true c.index-number.result.now c.index-number.ensures)
 
-pub judge-requires-clause-second : goal.judge-requires-clause-second
-judge-requires-clause-second c = c.clauses.invariant.passing.watching.seconds c.index-number.result.now (pass_watch c.args.rows.now c.clauses.watches c.clauses.lists c.clauses.trail c.args.level c.args.head c.args.falsified c.clauses.list.items c.clauses.i c.clauses.invariant.passing c.clauses-test.true c.index-number.result.now c.index-number.ensures)
+pub judge_from-requires-clause-second : goal.judge_from-requires-clause-second
+judge_from-requires-clause-second c = c.clauses.invariant.passing.watching.seconds c.index-number.result.now (pass_watch c.args.rows.now c.clauses.watches c.clauses.lists c.clauses.trail c.args.level c.args.head c.args.falsified c.clauses.list.items c.clauses.i c.clauses.invariant.passing c.clauses-test.true c.index-number.result.now c.index-number.ensures)
 
-pub judge-requires-clause-falsified : goal.judge-requires-clause-falsified
-judge-requires-clause-falsified c = c.clauses.invariant.passing.falsified
+pub judge_from-requires-clause-falsified : goal.judge_from-requires-clause-falsified
+judge_from-requires-clause-falsified c = c.clauses.invariant.passing.falsified
 
-pub judge-requires-clause-pair : goal.judge-requires-clause-pair
-judge-requires-clause-pair c = c.clauses.invariant.passing.watching.pairs c.index-number.result.now
+pub judge_from-requires-clause-pair : goal.judge_from-requires-clause-pair
+judge_from-requires-clause-pair c = c.clauses.invariant.passing.watching.pairs c.index-number.result.now
 
-pub judge-requires-clause-below : goal.judge-requires-clause-below
-judge-requires-clause-below c = pass_row c.args.rows.now c.clauses.watches c.clauses.lists c.clauses.trail c.args.level c.args.head c.args.falsified c.clauses.list.items c.clauses.i c.clauses.invariant.passing c.clauses-test.true c.index-number.result.now c.index-number.ensures
+pub judge_from-requires-clause-below : goal.judge_from-requires-clause-below
+judge_from-requires-clause-below c = pass_row c.args.rows.now c.clauses.watches c.clauses.lists c.clauses.trail c.args.level c.args.head c.args.falsified c.clauses.list.items c.clauses.i c.clauses.invariant.passing c.clauses-test.true c.index-number.result.now c.index-number.ensures
 
 pub clauses-preserved-in-Elsewhere : goal.clauses-preserved-in-Elsewhere
 clauses-preserved-in-Elsewhere c = record {
@@ -59,7 +59,7 @@ push-requires c = pass_open c.args.rows.now c.clauses.watches c.clauses.lists c.
 
 pub clauses-preserved-in-Open : goal.clauses-preserved-in-Open
 clauses-preserved-in-Open c = record {
-  passing = pass_move c.args.rows.now c.clauses.watches c.clauses.lists c.clauses.trail c.args.level c.args.head c.args.falsified c.clauses.list.items c.clauses.i c.clauses.invariant.passing c.clauses-test.true c.index-number.result.now c.index-number.ensures c.swap_remove-in-Open.result c.swap_remove-in-Open.new.self.items c.swap_remove-in-Open.ensures.items c.in-Open.other c.in-Open.open _ c.push.new.self c.in-Open.ensures refl c.in_ok-push-in-Open.ensures;
+  passing = pass_move c.args.rows.now c.clauses.watches c.clauses.lists c.clauses.trail c.args.level c.args.head c.args.falsified c.clauses.list.items c.clauses.i c.clauses.invariant.passing c.clauses-test.true c.index-number.result.now c.index-number.ensures c.swap_remove-in-Open.result c.swap_remove-in-Open.new.self.items c.swap_remove-in-Open.ensures.items c.in-Open.other c.in-Open.open _ c.keep_place.new.self c.in-Open.ensures refl (c.in_ok-keep_place-in-Open.ensures ∙ c.in_ok-push-in-Open.ensures);
   linked = c.clauses.invariant.linked;
   grown = c.clauses.invariant.grown;
   wide = c.clauses.invariant.wide;
