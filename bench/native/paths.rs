@@ -1,5 +1,6 @@
 //! `paths SOURCE EDGES..`: for each number of edges the first path of so many or more that leads from the entry to the last error of the
 //! graph of the source's blocks: how long its clauses, their solving, and the formulas of its cuts take, each apart.
+//! `paths --dimacs SOURCE EDGES` prints the clauses of that path as a DIMACS text instead.
 use c_graph::{EdgeId, Graph, Node};
 use cdcl_solver::Answer;
 use lv_base::Model;
@@ -71,8 +72,31 @@ fn measure(graph: &Graph, numbers: &[u32]) {
     );
 }
 
+// The clauses of a path as a text; variable n is number n + 1.
+fn print_dimacs(graph: &Graph, numbers: &[u32]) {
+    let mut path = rstd::Vec::new(Global);
+    for number in numbers {
+        let _ = path.push(EdgeId(*number));
+    }
+    let clauses = path_formula::path_clauses(Global, graph, &path).expect("the clauses pass the limit").clauses;
+    let rows = || (0..clauses.len()).map(|number| clauses.clause(number));
+    let most = rows().flatten().map(|it| it.var + 1).max().unwrap_or(0);
+    let mut text = format!("p cnf {most} {}\n", clauses.len());
+    for row in rows() {
+        for it in row {
+            text += &format!("{}{} ", if it.positive { "" } else { "-" }, it.var + 1);
+        }
+        text += "0\n";
+    }
+    print!("{text}");
+}
+
 fn main() {
-    let words: Vec<String> = std::env::args().collect();
+    let mut words: Vec<String> = std::env::args().collect();
+    let is_text = words[1] == "--dimacs";
+    if is_text {
+        words.remove(1);
+    }
     let source = std::fs::read(&words[1]).expect("the source can't be read");
     let examined = source_graphs::examined(Global, &source, Model::Ilp32).ok().expect("the source is refused");
     let graph = source_graphs::blocks_of(Global, &examined).ok().expect("the source has no graph");
@@ -80,6 +104,7 @@ fn main() {
         let edges: usize = word.parse().expect("a number of edges");
         let layers = layers(&graph, edges + 64);
         match (edges..edges + 64).find_map(|it| path_of(&graph, &layers, it)) {
+            Some(path) if is_text => print_dimacs(&graph, &path),
             Some(path) => measure(&graph, &path),
             None => println!("no path of {edges} to {} edges leads to an error", edges + 63),
         }
